@@ -1,10 +1,15 @@
-//! The words that every crate of the market speaks.
+//! The words that every crate of the market speaks: the numbers of arenas, controls and seats, levels, commands and
+//! replies. `specs/` says what the market is: its state, what each arena is allotted, and what each command does.
 #![tactic(auto)]
 
+mod command;
 mod level;
 mod number;
+mod reply;
 mod row;
 
+pub use command::{Call, Cmd};
 pub use level::Level;
 pub use number::{ArenaId, ControlId, SeatNo};
+pub use reply::{ArenaView, Entry, Fault, LimitView, Lists, OpenFault, Reply};
 pub use row::Row;
