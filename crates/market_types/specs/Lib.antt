@@ -6,3 +6,6 @@ pub mod Allotment
 pub mod Step
 pub mod Opening
 pub mod History
+pub mod Texts
+pub mod Reading
+pub mod Script

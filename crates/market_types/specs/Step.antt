@@ -52,14 +52,14 @@ if_claim s (Ok claim) f = f claim
 
 -- a new arena with this claim comes first
 abbrev pub opened : State → ℕ → Claim → Outcome
-opened s level claim =
-    ( Opened s.next_arena
-    , record s {
-        arenas = record { number = s.next_arena; stamp = s.next_stamp; level = level; claim = claim } ∷ s.arenas;
-        next_arena = s.next_arena + 1;
-        next_stamp = s.next_stamp + 1;
-      }
-    )
+opened s level claim = (
+  Opened s.next_arena,
+  record s {
+    arenas = record { number = s.next_arena; stamp = s.next_stamp; level = level; claim = claim } ∷ s.arenas;
+    next_arena = s.next_arena + 1;
+    next_stamp = s.next_stamp + 1;
+  },
+)
 
 abbrev pub open_step : State → ℕ → ℕ → ℕ → Outcome
 open_step s slots reserved level =
@@ -78,13 +78,13 @@ close_step s a =
 
 -- the arena comes first, in this level
 abbrev pub moved : State → ℕ → Arena → Outcome
-moved s level arena =
-    ( Moved
-    , record s {
-        arenas = record arena { stamp = s.next_stamp; level = level } ∷ without arena.number s.arenas;
-        next_stamp = s.next_stamp + 1;
-      }
-    )
+moved s level arena = (
+  Moved,
+  record s {
+    arenas = record arena { stamp = s.next_stamp; level = level } ∷ without arena.number s.arenas;
+    next_stamp = s.next_stamp + 1;
+  },
+)
 
 abbrev pub priority_step : State → ℕ → ℕ → Outcome
 priority_step s a level =
@@ -97,9 +97,9 @@ priority_step s a level =
 abbrev pub resize_step : State → ℕ → ℕ → ℕ → Outcome
 resize_step s a slots reserved =
     if_claim s (new_claim slots reserved) (λ _.
-    if_arena s (arena_at a s.arenas) (λ arena.
-    ( Resized (request_of (with_slots arena.claim slots reserved))
-    , record s { arenas = with_claim a (with_slots arena.claim slots reserved) s.arenas }
+    if_arena s (arena_at a s.arenas) (λ arena. (
+      Resized (request_of (with_slots arena.claim slots reserved)),
+      record s { arenas = with_claim a (with_slots arena.claim slots reserved) s.arenas },
     )))
 
 abbrev pub request_step : State → ℕ → ℤ → ℤ → Outcome
