@@ -9,3 +9,5 @@ pub mod History
 pub mod Texts
 pub mod Reading
 pub mod Script
+pub mod Devices
+pub mod TestDevices

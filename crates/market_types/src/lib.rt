@@ -3,13 +3,19 @@
 #![tactic(auto)]
 
 mod command;
+mod device;
 mod level;
 mod number;
 mod reply;
 mod row;
+mod std_device;
+mod test_device;
 
 pub use command::{Call, Cmd};
+pub use device::{DeviceFault, Sink, Source, WriteFault, put_all};
 pub use level::Level;
 pub use number::{ArenaId, ControlId, SeatNo};
 pub use reply::{ArenaView, Entry, Fault, LimitView, Lists, OpenFault, Reply};
 pub use row::Row;
+pub use std_device::{ReadSource, WriteSink};
+pub use test_device::{Refusal, TestSink, TestSource};
