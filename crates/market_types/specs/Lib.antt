@@ -8,4 +8,5 @@ pub mod Opening
 pub mod History
 pub mod Texts
 pub mod Reading
+pub mod Fields
 pub mod Script

@@ -5,11 +5,13 @@
 mod command;
 mod level;
 mod number;
+mod reading;
 mod reply;
 mod row;
 
 pub use command::{Call, Cmd};
 pub use level::Level;
 pub use number::{ArenaId, ControlId, SeatNo};
+pub use reading::{read_cmd, read_line};
 pub use reply::{ArenaView, Entry, Fault, LimitView, Lists, OpenFault, Reply};
 pub use row::Row;
