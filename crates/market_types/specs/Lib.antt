@@ -8,6 +8,7 @@ pub mod Opening
 pub mod History
 pub mod Texts
 pub mod Reading
+pub mod Fields
 pub mod Script
 pub mod Devices
 pub mod TestDevices

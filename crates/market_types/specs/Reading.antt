@@ -1,6 +1,6 @@
 -- How commands are spelled, and what a line reads as. Fields are separated by exactly one space.
 use Rattle.std.specs.Prelude.{ℕ, ◌+◌, ◌/◌, ◌^◌, ◌&&◌, ◌||◌, not, ℤ, pos, neg_ℤ, List, [], ◌∷◌, ◌++◌, map, length, drop, slice_index, ◌==◌, nat_lt, nat_le, Bool, true, false, if◌then◌else◌, Option, Some, None, option_map, option_and_then, codes, decimal}
-use Rattle.std.specs.Prelude.{Contains, ◌<◌, ◌≤◌, FitsSigned}
+use Rattle.std.specs.Prelude.{◌<◌, ◌≤◌, FitsSigned}
 use Rattle.std.specs.Fmt.{signed_decimal}
 use Rattle.std.specs.Int.{w32}
 use Rattle.std.specs.Str.{bytes_eq, all_ascii_digits}
@@ -61,10 +61,12 @@ Fits _ = Unit {0}
 abbrev pub is_space : ℕ → Bool
 is_space b = b == 32
 
--- digits, the first of which is 0 only where it is alone
+-- not empty, and a first 0 (48) stands alone
+abbrev pub is_plain : List ℕ → Bool
+is_plain field = nat_lt 0 (length field) && ((length field == 1) || not (slice_index field 0 == 48))
+
 abbrev pub is_number : List ℕ → Bool
-is_number field =
-    all_ascii_digits field && (nat_lt 0 (length field) && ((length field == 1) || not (slice_index field 0 == 48)))
+is_number field = all_ascii_digits field && is_plain field
 
 -- a number of 32 bits
 unfoldable pub number : List ℕ → Option ℕ
@@ -106,11 +108,11 @@ of_number cmd [] = None
 of_number cmd (field ∷ more) = option_and_then (λ n. alone (cmd n) more) (number field)
 
 abbrev pub open_level : ℕ → ℕ → ℕ → List (List ℕ) → Option Cmd
-open_level levels slots reserved [] = Some (Open slots reserved (middle_level levels))
+open_level levels slots reserved [] = option_map (λ l. Open slots reserved l) (in_levels (middle_level levels))
 open_level levels slots reserved (field ∷ more) = option_and_then (λ l. alone (Open slots reserved l) more) (level levels field)
 
 abbrev pub open_reserved : ℕ → ℕ → List (List ℕ) → Option Cmd
-open_reserved levels slots [] = Some (Open slots 1 (middle_level levels))
+open_reserved levels slots [] = option_map (λ l. Open slots 1 l) (in_levels (middle_level levels))
 open_reserved levels slots (field ∷ more) = option_and_then (λ reserved. open_level levels slots reserved more) (number field)
 
 abbrev pub open_of : ℕ → List (List ℕ) → Option Cmd
