@@ -9,4 +9,5 @@ pub mod History
 pub mod Texts
 pub mod Reading
 pub mod Fields
+pub mod Written
 pub mod Script

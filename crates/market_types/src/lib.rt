@@ -8,6 +8,7 @@ mod number;
 mod reading;
 mod reply;
 mod row;
+mod writing;
 
 pub use command::{Call, Cmd};
 pub use level::Level;
@@ -15,3 +16,4 @@ pub use number::{ArenaId, ControlId, SeatNo};
 pub use reading::{read_cmd, read_line};
 pub use reply::{ArenaView, Entry, Fault, LimitView, Lists, OpenFault, Reply};
 pub use row::Row;
+pub use writing::{cmd_text, open_fault_text, push_reply, reply_text};
