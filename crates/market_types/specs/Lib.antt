@@ -9,6 +9,7 @@ pub mod History
 pub mod Texts
 pub mod Reading
 pub mod Fields
+pub mod Written
 pub mod Script
 pub mod Devices
 pub mod TestDevices

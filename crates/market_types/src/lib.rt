@@ -11,6 +11,7 @@ mod reply;
 mod row;
 mod std_device;
 mod test_device;
+mod writing;
 
 pub use command::{Call, Cmd};
 pub use device::{DeviceFault, Sink, Source, WriteFault, put_all};
@@ -21,3 +22,4 @@ pub use reply::{ArenaView, Entry, Fault, LimitView, Lists, OpenFault, Reply};
 pub use row::Row;
 pub use std_device::{ReadSource, WriteSink};
 pub use test_device::{Refusal, TestSink, TestSource};
+pub use writing::{cmd_text, open_fault_text, push_reply, reply_text};

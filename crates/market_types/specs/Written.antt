@@ -1,0 +1,19 @@
+-- What the writer's inner functions answer.
+use Rattle.std.specs.Prelude.{◌≡◌, ℕ, List, [], ◌∷◌, ◌++◌, codes, decimal}
+use Rattle.market_types.specs.declared.reply.ArenaView.{ArenaView}
+use Rattle.market_types.specs.Texts.{count_text}
+
+-- what stood still stands, and something may follow it
+pub record Extends (before after : List ℕ) : Type 0 where
+  pub more : List ℕ
+  pub is : after ≡ before ++ more
+
+-- the part of an arena's view that counts seats
+abbrev pub seats_text : ArenaView → List ℕ
+seats_text v =
+    codes " active " ++ (decimal v.active ++ (codes " recall " ++ (decimal v.recall ++ (codes " hire " ++ decimal v.hire))))
+
+-- arenas and their counts, each behind a comma
+abbrev pub more_counts_text : List (ℕ × ℕ) → List ℕ
+more_counts_text [] = []
+more_counts_text (e ∷ es) = codes "," ++ (count_text e ++ more_counts_text es)

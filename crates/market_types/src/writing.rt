@@ -1,0 +1,249 @@
+//! Commands and replies written as texts.
+ghost use Rattle.std.specs.Prelude.{◌≡◌, ◌++◌, IfOk, OnErr, OnOk, codes, decimal, string_bytes};
+ghost use Rattle.market_types.specs.Texts.{cmd_text, count_text, counts_text, fault_text, level_text, limit_text, open_fault_text, reply_text, view_text, yes_no};
+ghost use Rattle.market_types.specs.Written.{Extends, more_counts_text, seats_text};
+
+use crate::command::Cmd;
+use crate::level::Level;
+use crate::number::ArenaId;
+use crate::reply::{ArenaView, Fault, LimitView, Lists, OpenFault, Reply};
+
+use itoa::Buffer;
+use std::alloc::{AllocError, Global};
+
+/// The canonical text of a command in a market of so many levels, as `open 8 1 normal`: every field is written, and a
+/// level by its name where it has one. Err is want of memory.
+pub fn cmd_text(alloc: Global, cmd: &Cmd, levels: u32) -> Result<String, AllocError>
+    ensures exact { IfOk result (λ text. string_bytes text ≡ cmd_text levels cmd.now) }
+{
+    match cmd {
+        Cmd::Open(slots, reserved, level) => format!(in alloc; "open {} {} {}", slots, reserved, level_text(*level, levels)),
+        Cmd::Close(arena) => format!(in alloc; "close {}", arena.get()),
+        Cmd::Priority(arena, level) => format!(in alloc; "priority {} {}", arena.get(), level_text(*level, levels)),
+        Cmd::Resize(arena, slots, reserved) => format!(in alloc; "resize {} {} {}", arena.get(), slots, reserved),
+        Cmd::Request(arena, workers, mandatory) => format!(in alloc; "request {} {} {}", arena.get(), workers, mandatory),
+        Cmd::Control(value) => format!(in alloc; "control {}", value),
+        Cmd::Uncontrol(control) => format!(in alloc; "uncontrol {}", control.get()),
+        Cmd::Join => String::from_str(alloc, "join"),
+        Cmd::Stay => String::from_str(alloc, "stay"),
+        Cmd::Leave => String::from_str(alloc, "leave"),
+        Cmd::Show(arena) => format!(in alloc; "show {}", arena.get()),
+        Cmd::Lists => String::from_str(alloc, "lists"),
+        Cmd::Limit => String::from_str(alloc, "limit"),
+    }
+}
+
+/// A level's name where it has one, else its number.
+fn level_text(level: Level, levels: u32) -> &'static str
+    ensures { result.now ≡ level_text levels level }
+{
+    if levels == 3 { named_level(level) } else { numbered_level(level) }
+}
+
+fn named_level(level: Level) -> &'static str
+    ensures { result.now ≡ level_text 3 level }
+{
+    match level.get() {
+        1 => "high",
+        2 => "normal",
+        3 => "low",
+        _ => numbered_level(level),
+    }
+}
+
+#[tactic(auto, using(std::proofs::lemmas::Fmt::decimal_digit))]
+fn numbered_level(level: Level) -> &'static str
+    ensures { result.now ≡ decimal level }
+{
+    match level.get() {
+        1 => "1",
+        2 => "2",
+        3 => "3",
+        4 => "4",
+        5 => "5",
+        6 => "6",
+        7 => "7",
+        _ => "8",
+    }
+}
+
+/// Why a market is not opened, as `O1 bad base`.
+pub fn open_fault_text(fault: OpenFault) -> &'static str
+    ensures exact { result.now ≡ open_fault_text fault }
+{
+    match fault {
+        OpenFault::BadBase => "O1 bad base",
+        OpenFault::BadHard => "O2 bad hard",
+        OpenFault::BadSeats => "O3 bad seats",
+        OpenFault::BadPlaces => "O4 bad places",
+        OpenFault::BadLevels => "O5 bad levels",
+        OpenFault::Memory => "memory",
+    }
+}
+
+/// A reply's text, as `arena 1`. Err is want of memory.
+pub fn reply_text(alloc: Global, reply: &Reply) -> Result<String, AllocError>
+    ensures exact { IfOk result (λ text. string_bytes text ≡ reply_text reply.now) }
+{
+    let mut text = Vec::new(alloc);
+    push_reply(&mut text, reply)?;
+    let Ok(text) = String::from_utf8(text) else {
+        unreachable!()
+    };
+    Ok(text)
+}
+
+/// Writes a reply's text, without an end of line, behind what `out` holds. Err is want of memory, and leaves `out` as
+/// it was.
+pub fn push_reply(out: &mut Vec<u8>, reply: &Reply) -> Result<(), AllocError>
+    ensures ok { OnOk result (out.new.items ≡ out.old.items ++ reply_text reply.now) }
+    ensures err { OnErr result (out.new.items ≡ out.old.items) }
+{
+    let before = out.len();
+    let pushed = push_reply_text(out, reply);
+    if pushed.is_err() {
+        out.truncate(before);
+    }
+    pushed
+}
+
+fn push_reply_text(out: &mut Vec<u8>, reply: &Reply) -> Result<(), AllocError>
+    ensures ok { OnOk result (out.new.items ≡ out.old.items ++ reply_text reply.now) }
+    ensures err { OnErr result (Extends out.old.items out.new.items) }
+{
+    match reply {
+        Reply::Opened(arena) => push_part(out, b"arena ", arena.get()),
+        Reply::Closed | Reply::Moved | Reply::Uncontrolled => out.extend_from_slice(b"ok"),
+        Reply::Resized(request) => push_part(out, b"resized ", *request),
+        Reply::Requested(request) => push_part(out, b"request ", *request),
+        Reply::Controlled(control) => push_part(out, b"control ", control.get()),
+        Reply::Placed(arena) => push_part(out, b"placed ", arena.get()),
+        Reply::Idle => out.extend_from_slice(b"idle"),
+        Reply::Stays(arena) => push_part(out, b"stays ", arena.get()),
+        Reply::Recalled(arena) => push_part(out, b"recalled ", arena.get()),
+        Reply::Left(arena) => push_part(out, b"left ", arena.get()),
+        Reply::Shown(view) => push_view(out, view),
+        Reply::Listed(lists) => push_lists(out, lists),
+        Reply::Limits(view) => push_limits(out, view),
+        Reply::Refused(fault) => push_fault(out, *fault),
+    }
+}
+
+fn push_view(out: &mut Vec<u8>, view: &ArenaView) -> Result<(), AllocError>
+    ensures ok { OnOk result (out.new.items ≡ out.old.items ++ view_text view.now) }
+    ensures err { OnErr result (Extends out.old.items out.new.items) }
+{
+    push_part(out, b"arena ", view.arena.get())?;
+    push_part(out, b" request ", view.request)?;
+    push_part(out, b" allot ", view.allot)?;
+    out.extend_from_slice(b" top ")?;
+    out.extend_from_slice(yes_no(view.top))?;
+    push_seats(out, view)
+}
+
+/// The part of an arena's view that counts seats.
+fn push_seats(out: &mut Vec<u8>, view: &ArenaView) -> Result<(), AllocError>
+    ensures ok { OnOk result (out.new.items ≡ out.old.items ++ seats_text view.now) }
+    ensures err { OnErr result (Extends out.old.items out.new.items) }
+{
+    push_part(out, b" active ", view.active)?;
+    push_part(out, b" recall ", view.recall)?;
+    push_part(out, b" hire ", view.hire)
+}
+
+fn yes_no(answer: bool) -> &'static [u8]
+    ensures { result.now ≡ yes_no answer }
+{
+    if answer { b"yes" } else { b"no" }
+}
+
+fn push_limits(out: &mut Vec<u8>, view: &LimitView) -> Result<(), AllocError>
+    ensures ok { OnOk result (out.new.items ≡ out.old.items ++ limit_text view.now) }
+    ensures err { OnErr result (Extends out.old.items out.new.items) }
+{
+    push_part(out, b"value ", view.value)?;
+    push_part(out, b" limit ", view.limit)?;
+    push_part(out, b" effective ", view.effective)
+}
+
+fn push_lists(out: &mut Vec<u8>, lists: &Lists) -> Result<(), AllocError>
+    ensures ok { OnOk result (out.new.items ≡ out.old.items ++ reply_text (Reply.Listed lists.now)) }
+    ensures err { OnErr result (Extends out.old.items out.new.items) }
+{
+    out.extend_from_slice(b"recall ")?;
+    push_counts(out, &lists.recalls)?;
+    out.extend_from_slice(b" hire ")?;
+    push_counts(out, &lists.hires)
+}
+
+/// Arenas and their counts, joined by commas; of none a dash.
+fn push_counts(out: &mut Vec<u8>, counts: &[(ArenaId, u32)]) -> Result<(), AllocError>
+    ensures ok { OnOk result (out.new.items ≡ out.old.items ++ counts_text counts.now) }
+    ensures err { OnErr result (Extends out.old.items out.new.items) }
+{
+    let Some((first, rest)) = counts.split_first() else {
+        return out.extend_from_slice(b"-");
+    };
+    push_count(out, *first)?;
+    push_more_counts(out, rest)
+}
+
+/// Arenas and their counts, each behind a comma.
+fn push_more_counts(out: &mut Vec<u8>, counts: &[(ArenaId, u32)]) -> Result<(), AllocError>
+    ensures ok { OnOk result (out.new.items ≡ out.old.items ++ more_counts_text counts.now) }
+    ensures err { OnErr result (Extends out.old.items out.new.items) }
+{
+    for count in counts {
+        out.extend_from_slice(b",")?;
+        push_count(out, *count)?;
+    }
+    Ok(())
+}
+
+fn push_count(out: &mut Vec<u8>, count: (ArenaId, u32)) -> Result<(), AllocError>
+    ensures ok { OnOk result (out.new.items ≡ out.old.items ++ count_text count) }
+    ensures err { OnErr result (Extends out.old.items out.new.items) }
+{
+    push_number(out, count.0.get())?;
+    push_part(out, b":", count.1)
+}
+
+fn push_fault(out: &mut Vec<u8>, fault: Fault) -> Result<(), AllocError>
+    ensures ok { OnOk result (out.new.items ≡ out.old.items ++ fault_text fault) }
+    ensures err { OnErr result (Extends out.old.items out.new.items) }
+{
+    match fault {
+        Fault::BadSlots => out.extend_from_slice(b"F01 bad slots"),
+        Fault::BadReserve => out.extend_from_slice(b"F02 bad reserve"),
+        Fault::TooManyArenas => out.extend_from_slice(b"F03 too many arenas"),
+        Fault::OutOfNumbers => out.extend_from_slice(b"F04 out of numbers"),
+        Fault::NoArena => out.extend_from_slice(b"F05 no arena"),
+        Fault::Busy(seats) => push_part(out, b"F06 busy ", seats),
+        Fault::WantedRange => out.extend_from_slice(b"F07 wanted range"),
+        Fault::MandatoryRange => out.extend_from_slice(b"F08 mandatory range"),
+        Fault::BadValue => out.extend_from_slice(b"F09 bad value"),
+        Fault::TooManyControls => out.extend_from_slice(b"F10 too many controls"),
+        Fault::NoControl => out.extend_from_slice(b"F11 no control"),
+        Fault::AlreadyPlaced(arena) => push_part(out, b"F12 already placed ", arena.get()),
+        Fault::NotPlaced => out.extend_from_slice(b"F13 not placed"),
+        Fault::BadLevel => out.extend_from_slice(b"F14 bad level"),
+    }
+}
+
+/// A label, and a number in decimal.
+fn push_part(out: &mut Vec<u8>, label: &[u8], number: u32) -> Result<(), AllocError>
+    ensures ok { OnOk result (out.new.items ≡ out.old.items ++ (label.now ++ decimal number)) }
+    ensures err { OnErr result (Extends out.old.items out.new.items) }
+{
+    out.extend_from_slice(label)?;
+    push_number(out, number)
+}
+
+/// A number in decimal.
+fn push_number(out: &mut Vec<u8>, number: u32) -> Result<(), AllocError>
+    ensures ok { OnOk result (out.new.items ≡ out.old.items ++ decimal number) }
+    ensures err { OnErr result (Extends out.old.items out.new.items) }
+{
+    let mut digits = Buffer::new();
+    out.extend_from_slice(digits.format(number).as_bytes())
+}
