@@ -1,0 +1,5 @@
+pub mod Rows
+pub mod Walked
+pub mod Entered
+pub mod Numbers
+pub mod Commands

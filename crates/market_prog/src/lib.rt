@@ -1,0 +1,6 @@
+//! What the program `market` does: it reads the words of its command line.
+#![tactic(auto)]
+
+mod words;
+
+pub use words::{Choice, RunOptions, read_words};
