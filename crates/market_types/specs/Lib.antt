@@ -1,0 +1,14 @@
+pub mod Commands
+pub mod Counts
+pub mod State
+pub mod Claims
+pub mod Allotment
+pub mod Step
+pub mod Opening
+pub mod History
+pub mod Texts
+pub mod Reading
+pub mod Fields
+pub mod Script
+pub mod Devices
+pub mod TestDevices

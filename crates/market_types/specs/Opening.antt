@@ -1,0 +1,18 @@
+-- What opening a market answers.
+use Rattle.std.specs.Prelude.{◌≡◌, ◌⊎◌, ℕ, ◌||◌, nat_lt, ◌==◌, if◌then◌else◌, Result, Ok, Err, IsOk}
+use Rattle.market_types.specs.declared.reply.OpenFault.{OpenFault}
+use Rattle.market_types.specs.declared.reply.OpenFault.TheVariants.{BadBase, BadHard, BadSeats, BadLevels, Memory}
+use Rattle.market_types.specs.State.{State, opening}
+
+-- a new market, or the first of its numbers that is out of range (own)
+abbrev pub opened_market : ℕ → ℕ → ℕ → ℕ → Result State OpenFault
+opened_market base hard seats levels =
+    if base == 0 || nat_lt 65536 base then Err BadBase
+    else if hard == 0 || nat_lt 65535 hard then Err BadHard
+    else if seats == 0 || nat_lt 64 seats then Err BadSeats
+    else if levels == 0 || nat_lt 8 levels then Err BadLevels
+    else Ok (opening base hard seats levels)
+
+-- the answer is the one that is due, or want of memory where a market is due
+abbrev pub MemoryAside : Result State OpenFault → Result State OpenFault → Type 0
+MemoryAside due answer = (answer ≡ due) ⊎ (IsOk due × (answer ≡ Err Memory))

@@ -1,0 +1,192 @@
+-- How commands are spelled, and what a line reads as. Fields are separated by exactly one space.
+use Rattle.std.specs.Prelude.{ℕ, ◌+◌, ◌/◌, ◌^◌, ◌&&◌, ◌||◌, not, ℤ, pos, neg_ℤ, List, [], ◌∷◌, ◌++◌, map, length, drop, slice_index, ◌==◌, nat_lt, nat_le, Bool, true, false, if◌then◌else◌, Option, Some, None, option_map, option_and_then, codes, decimal}
+use Rattle.std.specs.Prelude.{◌<◌, ◌≤◌, FitsSigned}
+use Rattle.std.specs.Fmt.{signed_decimal}
+use Rattle.std.specs.Int.{w32}
+use Rattle.std.specs.Str.{bytes_eq, all_ascii_digits}
+use Rattle.std.specs.Str.Parse.{digits_value}
+use Rattle.std.specs.List.{slice_split}
+use Rattle.market_types.specs.declared.command.Cmd.{Cmd}
+use Rattle.market_types.specs.declared.command.Cmd.TheVariants.{Open, Close, Priority, Resize, Request, Control as ControlBy, Uncontrol, Join, Stay, Leave, Show, Lists, Limit}
+use Rattle.market_types.specs.Commands.{is_served, is_zero}
+use Rattle.market_types.specs.Texts.{has_name, level_name, cmd_text}
+
+-- ---- spellings
+
+-- the level of an arena whose line names none: the middle one
+abbrev pub middle_level : ℕ → ℕ
+middle_level levels = (levels + 1) / 2
+
+-- the texts that spell a level: its number, and its name where it has one
+abbrev pub level_spellings : ℕ → ℕ → List (List ℕ)
+level_spellings levels level =
+    if has_name levels level then level_name level ∷ decimal level ∷ [] else decimal level ∷ []
+
+-- a text, where it is allowed
+abbrev pub if_allowed : Bool → List ℕ → List (List ℕ)
+if_allowed true text = text ∷ []
+if_allowed false text = []
+
+-- the texts that spell a command in a market of so many levels: its canonical text, and what leaves out a default or
+-- writes a level by its number
+abbrev pub spellings : ℕ → Cmd → List (List ℕ)
+spellings levels (Open slots reserved level) =
+    map (λ text. codes "open " ++ (decimal slots ++ (codes " " ++ (decimal reserved ++ (codes " " ++ text))))) (level_spellings levels level)
+    ++ (if_allowed (level == middle_level levels) (codes "open " ++ (decimal slots ++ (codes " " ++ decimal reserved)))
+    ++ if_allowed (level == middle_level levels && reserved == 1) (codes "open " ++ decimal slots))
+spellings levels (Priority arena level) =
+    map (λ text. codes "priority " ++ (decimal arena ++ (codes " " ++ text))) (level_spellings levels level)
+spellings levels (Request arena workers mandatory) =
+    cmd_text levels (Request arena workers mandatory)
+    ∷ if_allowed (is_zero mandatory) (codes "request " ++ (decimal arena ++ (codes " " ++ signed_decimal workers)))
+spellings levels cmd = cmd_text levels cmd ∷ []
+
+-- the numbers of a command that can be written
+abbrev pub FitsLevel : ℕ → Type 0
+FitsLevel level = (1 ≤ level) × (level ≤ 8)
+
+abbrev pub Fits : Cmd → Type 0
+Fits (Open slots reserved level) = (slots < 2 ^ 32) × (reserved < 2 ^ 32) × FitsLevel level
+Fits (Close arena) = arena < 2 ^ 32
+Fits (Priority arena level) = (arena < 2 ^ 32) × FitsLevel level
+Fits (Resize arena slots reserved) = (arena < 2 ^ 32) × (slots < 2 ^ 32) × (reserved < 2 ^ 32)
+Fits (Request arena workers mandatory) = (arena < 2 ^ 32) × FitsSigned w32 workers × FitsSigned w32 mandatory
+Fits (ControlBy value) = value < 2 ^ 32
+Fits (Uncontrol control) = control < 2 ^ 32
+Fits (Show arena) = arena < 2 ^ 32
+Fits _ = Unit {0}
+
+-- ---- fields
+
+abbrev pub is_space : ℕ → Bool
+is_space b = b == 32
+
+-- not empty, and a first 0 (48) stands alone
+abbrev pub is_plain : List ℕ → Bool
+is_plain field = nat_lt 0 (length field) && ((length field == 1) || not (slice_index field 0 == 48))
+
+abbrev pub is_number : List ℕ → Bool
+is_number field = all_ascii_digits field && is_plain field
+
+-- a number of 32 bits
+unfoldable pub number : List ℕ → Option ℕ
+number field = if is_number field && nat_lt (digits_value 10 field) (2 ^ 32) then Some (digits_value 10 field) else None
+
+abbrev pub positive : ℕ → Option ℤ
+positive n = if nat_lt n (2 ^ 31) then Some (pos n) else None
+
+abbrev pub negative : ℕ → Option ℤ
+negative n = if nat_lt 0 n && nat_le n (2 ^ 31) then Some (neg_ℤ (pos n)) else None
+
+-- a number, or `-` and a number above 0; 32 bits with the sign
+unfoldable pub signed : List ℕ → Option ℤ
+signed field =
+    if slice_index field 0 == 45 then option_and_then negative (number (drop 1 field))
+    else option_and_then positive (number field)
+
+abbrev pub in_levels : ℕ → Option ℕ
+in_levels n = if nat_lt 0 n && nat_le n 8 then Some n else None
+
+-- a level by its number, or one of three by its name
+unfoldable pub level : ℕ → List ℕ → Option ℕ
+level levels field =
+    if levels == 3 && bytes_eq field (codes "high") then Some 1
+    else if levels == 3 && bytes_eq field (codes "normal") then Some 2
+    else if levels == 3 && bytes_eq field (codes "low") then Some 3
+    else option_and_then in_levels (number field)
+
+-- ---- commands, field by field
+
+-- a command after which no field follows
+abbrev pub alone : Cmd → List (List ℕ) → Option Cmd
+alone cmd [] = Some cmd
+alone cmd (field ∷ more) = None
+
+-- a command of one number
+abbrev pub of_number : (ℕ → Cmd) → List (List ℕ) → Option Cmd
+of_number cmd [] = None
+of_number cmd (field ∷ more) = option_and_then (λ n. alone (cmd n) more) (number field)
+
+abbrev pub open_level : ℕ → ℕ → ℕ → List (List ℕ) → Option Cmd
+open_level levels slots reserved [] = option_map (λ l. Open slots reserved l) (in_levels (middle_level levels))
+open_level levels slots reserved (field ∷ more) = option_and_then (λ l. alone (Open slots reserved l) more) (level levels field)
+
+abbrev pub open_reserved : ℕ → ℕ → List (List ℕ) → Option Cmd
+open_reserved levels slots [] = option_map (λ l. Open slots 1 l) (in_levels (middle_level levels))
+open_reserved levels slots (field ∷ more) = option_and_then (λ reserved. open_level levels slots reserved more) (number field)
+
+abbrev pub open_of : ℕ → List (List ℕ) → Option Cmd
+open_of levels [] = None
+open_of levels (field ∷ more) = option_and_then (λ slots. open_reserved levels slots more) (number field)
+
+abbrev pub priority_level : ℕ → ℕ → List (List ℕ) → Option Cmd
+priority_level levels arena [] = None
+priority_level levels arena (field ∷ more) = option_and_then (λ l. alone (Priority arena l) more) (level levels field)
+
+abbrev pub priority_of : ℕ → List (List ℕ) → Option Cmd
+priority_of levels [] = None
+priority_of levels (field ∷ more) = option_and_then (λ arena. priority_level levels arena more) (number field)
+
+abbrev pub resize_slots : ℕ → List (List ℕ) → Option Cmd
+resize_slots arena [] = None
+resize_slots arena (field ∷ more) = option_and_then (λ slots. of_number (Resize arena slots) more) (number field)
+
+abbrev pub resize_of : List (List ℕ) → Option Cmd
+resize_of [] = None
+resize_of (field ∷ more) = option_and_then (λ arena. resize_slots arena more) (number field)
+
+abbrev pub request_mandatory : ℕ → ℤ → List (List ℕ) → Option Cmd
+request_mandatory arena workers [] = Some (Request arena workers (pos 0))
+request_mandatory arena workers (field ∷ more) =
+    option_and_then (λ mandatory. alone (Request arena workers mandatory) more) (signed field)
+
+abbrev pub request_workers : ℕ → List (List ℕ) → Option Cmd
+request_workers arena [] = None
+request_workers arena (field ∷ more) = option_and_then (λ workers. request_mandatory arena workers more) (signed field)
+
+abbrev pub request_of : List (List ℕ) → Option Cmd
+request_of [] = None
+request_of (field ∷ more) = option_and_then (λ arena. request_workers arena more) (number field)
+
+-- a command by its word and the fields after it
+unfoldable pub command_of : ℕ → List (List ℕ) → Option Cmd
+command_of levels [] = None
+command_of levels (word ∷ more) =
+    if bytes_eq word (codes "open") then open_of levels more
+    else if bytes_eq word (codes "close") then of_number Close more
+    else if bytes_eq word (codes "priority") then priority_of levels more
+    else if bytes_eq word (codes "resize") then resize_of more
+    else if bytes_eq word (codes "request") then request_of more
+    else if bytes_eq word (codes "control") then of_number ControlBy more
+    else if bytes_eq word (codes "uncontrol") then of_number Uncontrol more
+    else if bytes_eq word (codes "join") then alone Join more
+    else if bytes_eq word (codes "stay") then alone Stay more
+    else if bytes_eq word (codes "leave") then alone Leave more
+    else if bytes_eq word (codes "show") then of_number Show more
+    else if bytes_eq word (codes "lists") then alone Lists more
+    else if bytes_eq word (codes "limit") then alone Limit more
+    else None
+
+-- the command, where the market serves it today
+abbrev pub if_served : Cmd → Option Cmd
+if_served cmd = if is_served cmd then Some cmd else None
+
+-- ---- whole lines
+
+-- the command that a text spells
+unfoldable pub reading : ℕ → List ℕ → Option Cmd
+reading levels text = option_and_then if_served (command_of levels (slice_split is_space text))
+
+-- a seat below the number of seats
+abbrev pub in_seats : ℕ → ℕ → Option ℕ
+in_seats seats n = if nat_lt n seats then Some n else None
+
+abbrev pub call_of : ℕ → ℕ → List (List ℕ) → Option (ℕ × Cmd)
+call_of seats levels [] = None
+call_of seats levels (word ∷ more) =
+    option_and_then (λ seat. option_map (λ (cmd : Cmd). (seat, cmd)) (option_and_then if_served (command_of levels more)))
+    (option_and_then (in_seats seats) (number word))
+
+-- the seat and the command that a line of a script spells
+unfoldable pub line_reading : ℕ → ℕ → List ℕ → Option (ℕ × Cmd)
+line_reading seats levels line = call_of seats levels (slice_split is_space line)
