@@ -1,3 +1,4 @@
+mod Examples
 pub mod Rows
 pub mod Walked
 pub mod Entered

@@ -5,6 +5,7 @@ ghost use Rattle.market_prog.specs.Words.{Chooses, IsChoiceOf, IsNumberOf, IsRun
 ghost use Rattle.market_prog.specs.Command.{IsCommandOf};
 ghost use Rattle.market_prog.specs.Passed.{HasNumber, HasRunNumbers, NamesRun};
 
+use crate::help;
 use clap::{Arg, ArgAction, ArgMatches, Command, Error};
 use std::alloc::{AllocError, Global};
 
@@ -18,11 +19,11 @@ pub enum Choice {
 /// The market that `market run` opens.
 #[derive(Clone, Copy, Debug, PartialEq, Eq)]
 pub struct RunOptions {
-    /// The control value that counts where no control lives, 1 to 65,536.
+    /// Parallelism while no control lives, 1 to 65,536: fewer workers than this are active.
     pub base: u32,
     /// How many workers there are at most, 1 to 65,535.
     pub hard: u32,
-    /// How many seats may join and leave, 1 to 64.
+    /// How many seats give commands, 1 to 64.
     pub seats: u8,
     /// How many priority levels there are, 1 to 8.
     pub levels: u32,
@@ -41,28 +42,28 @@ const BASE: NumberOption = NumberOption {
     name: "base",
     default: "8",
     high: 65_536,
-    help: "The base",
+    help: "Parallelism while no control lives, 1 to 65536: fewer than N workers are active",
 };
 
 const HARD: NumberOption = NumberOption {
     name: "hard",
     default: "64",
     high: 65_535,
-    help: "The hard",
+    help: "How many workers there are at most, 1 to 65535",
 };
 
 const SEATS: NumberOption = NumberOption {
     name: "seats",
     default: "4",
     high: 64,
-    help: "The seats",
+    help: "How many seats give commands, 1 to 64; they are numbered from 0",
 };
 
 const LEVELS: NumberOption = NumberOption {
     name: "levels",
     default: "3",
     high: 8,
-    help: "The levels",
+    help: "How many priority levels there are, 1 to 8",
 };
 
 impl NumberOption {
@@ -101,8 +102,8 @@ fn run_command<'a>(alloc: Global) -> Result<Command<'a>, AllocError>
     ensures { IfOk result (λ c. IsCommandOf c run_app) }
 {
     Command::new(alloc, "run")
-        .about("Answers a script")
-        .after_help("Exit status")
+        .about("Answers a script of commands, line by line")
+        .after_help(help::OF_RUN)
         .arg(BASE.arg(alloc))?
         .arg(HARD.arg(alloc))?
         .arg(SEATS.arg(alloc))?
@@ -114,8 +115,10 @@ fn market_command<'a>(alloc: Global) -> Result<Command<'a>, AllocError>
     ensures { IfOk result (λ c. app_of c ≡ market_app) }
 {
     Command::new(alloc, "market")
-        .about("A market")
-        .after_help("Exit status")
+        .about(
+            "The worker market of a task runtime: who gets how many workers, by priority and demand",
+        )
+        .after_help(help::OF_MARKET)
         .arg_required_else_help(true)
         .subcommand_required(true)
         .subcommand(run_command(alloc)?)
@@ -145,7 +148,10 @@ fn choice_of(name: &str, matches: &ArgMatches<'_>) -> Choice
     }
 }
 
-/// What the words of a command line choose, of which the first is the program's name.
+/// What the words of a command line choose. The first word is the program's name.
+///
+/// An error is clap's: help that was asked for, the first mistake in the words, or want of memory. Its `print` writes
+/// the text, and its `exit_code` is 0 for help and else 2.
 pub fn read_words<'a>(alloc: Global, words: &'a [&'a str]) -> Result<Choice, Error>
     ensures choice { IfOk result (Chooses (map (λ s. s.now) words.entry.now)) }
     ensures fault { FailsBy (fault_of market_app (map (λ s. s.now) words.entry.now)) result }
@@ -156,3 +162,6 @@ pub fn read_words<'a>(alloc: Global, words: &'a [&'a str]) -> Result<Choice, Err
     };
     Ok(choice_of(name, found))
 }
+
+#[cfg(test)]
+mod tests;
