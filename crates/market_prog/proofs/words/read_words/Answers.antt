@@ -1,0 +1,38 @@
+use Rattle.std.proofs.Common.{◌≡◌, ◌∙◌, sym, ap, subst, map, Some}
+use Rattle.clap.specs.Words.{found_of, is_simple, rows_of, subcommand_of, subcommand_rows_of}
+use Rattle.clap.specs.Faults.{fault_of, is_simple_and_free}
+use Rattle.market_prog.specs.Passed.{NamesRun}
+use Rattle.market_prog.proofs.Commands.{market_is_free, market_is_simple, subcommand_found}
+use Rattle.market_prog.proofs.Entered.{run_entered}
+use Rattle.market_prog.proofs.words.read_words.Goals as goal
+
+pub returns : goal.returns
+returns c =
+    let is = c.in_ok-market_command.ensures in
+    let words = map (λ s. s.now) c.args.words.now in
+    let rows = c.in_ok-matches.ensures.matches (ap is_simple is ∙ market_is_simple) in
+    let fault = c.in_ok-matches.ensures.kinds (ap is_simple_and_free is ∙ market_is_free) in
+    let met : subcommand_rows_of c.in_ok-matches.matches ≡ Some (c.in-Some.name.now, rows_of (found_of c.in-Some.found.now)) =
+    subcommand_found _ _ _ _ _ c.in-Some.ensures.name c.in-Some.ensures.rows in
+    record {
+      choice = record {
+        subcommand = (c.in-Some.name.now, rows_of (found_of c.in-Some.found.now));
+        found = ap (λ a. subcommand_of a words) (sym is) ∙ sym rows.1 ∙ met;
+        chosen = c.choice_of.ensures;
+      };
+      fault = ap (λ a. fault_of a words) (sym is) ∙ fault;
+    }
+
+pub choice_of-requires : goal.choice_of-requires
+choice_of-requires c =
+    let is = c.in_ok-market_command.ensures in
+    let words = map (λ s. s.now) c.args.words.now in
+    let rows = c.in_ok-matches.ensures.matches (ap is_simple is ∙ market_is_simple) in
+    let fault = c.in_ok-matches.ensures.kinds (ap is_simple_and_free is ∙ market_is_free) in
+    let met : subcommand_rows_of c.in_ok-matches.matches ≡ Some (c.in-Some.name.now, rows_of (found_of c.in-Some.found.now)) =
+    subcommand_found _ _ _ _ _ c.in-Some.ensures.name c.in-Some.ensures.rows in
+    let run = run_entered words (ap (λ a. fault_of a words) (sym is) ∙ fault) in
+    let both : Some run.0 ≡ Some (c.in-Some.name.now, rows_of (found_of c.in-Some.found.now)) =
+    sym run.1 ∙ (ap (λ a. subcommand_of a words) (sym is) ∙ sym rows.1 ∙ met) in
+    let same : run.0 ≡ (c.in-Some.name.now, rows_of (found_of c.in-Some.found.now)) = cc in
+    subst NamesRun same run.2

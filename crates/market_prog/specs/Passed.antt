@@ -1,0 +1,21 @@
+-- What holds of matches that clap has passed.
+use Rattle.std.specs.Prelude.{◌≡◌, ℕ, List, Some, codes, pos}
+use Rattle.clap.specs.Words.{IsSignedIn, Row, Text, first_of}
+
+-- the option has a word in these matches, which spells a number from 1 to high
+pub record HasNumber (name : Text) (high : ℕ) (rows : List Row) : Type 0 where
+  pub word : Text
+  pub found : first_of name rows ≡ Some word
+  pub within : IsSignedIn (pos 1) (pos high) word
+
+-- each option of `run` has its number
+pub record HasRunNumbers (rows : List Row) : Type 0 where
+  pub base : HasNumber (codes "base") 65536 rows
+  pub hard : HasNumber (codes "hard") 65535 rows
+  pub seats : HasNumber (codes "seats") 64 rows
+  pub levels : HasNumber (codes "levels") 8 rows
+
+-- clap's subcommand is `run`, with the numbers of its options
+pub record NamesRun (found : Text × List Row) : Type 0 where
+  pub name : found.0 ≡ codes "run"
+  pub numbers : HasRunNumbers found.1

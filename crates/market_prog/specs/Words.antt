@@ -1,0 +1,61 @@
+-- What the words of the command line choose.
+use Rattle.std.specs.Prelude.{◌≡◌, ℕ, ◌≤◌, List, [], ◌∷◌, true, Some, Ok, codes, pos}
+use Rattle.std.specs.Str.Parse.{ParsesUnsigned}
+use Rattle.clap.specs.Words.{App, Row, Rule, Text, first_of, new_app, new_rule, with_rule, with_subcommand, subcommand_of}
+use Rattle.clap.specs.declared.builder.ArgAction.TheVariants.{Set}
+use Rattle.clap.specs.declared.builder.value_parser.ValueParser.TheVariants.{Signed}
+use Rattle.market_prog.specs.declared.words.Choice.{Choice}
+use Rattle.market_prog.specs.declared.words.Choice.TheVariants.{Run}
+use Rattle.market_prog.specs.declared.words.RunOptions.{RunOptions}
+
+-- the option `--name` with a number from 1 to high
+abbrev pub number_rule : Text → Text → ℕ → Rule
+number_rule name default high = record (new_rule name) {
+  long = Some name;
+  value_names = 1;
+  action = Some Set;
+  defaults = default ∷ [];
+  parser = Some (Signed (pos 1) (pos high));
+}
+
+-- the subcommand `run` with its options
+abbrev pub run_app : App
+run_app = with_rule (with_rule (with_rule (with_rule (new_app (codes "run"))
+    (number_rule (codes "base") (codes "8") 65536))
+    (number_rule (codes "hard") (codes "64") 65535))
+    (number_rule (codes "seats") (codes "4") 64))
+    (number_rule (codes "levels") (codes "3") 8)
+
+-- a command that is nothing without a subcommand
+abbrev pub with_choice_asked : App → App
+with_choice_asked a =
+    record a { top = record a.top { arg_required_else_help = true; subcommand_required = true } }
+
+-- the program's command
+abbrev pub market_app : App
+market_app = with_subcommand (with_choice_asked (new_app (codes "market"))) run_app.top
+
+-- n, from 1 to high, is the number that the option's word spells in these matches
+pub record IsNumberOf (name : Text) (high : ℕ) (rows : List Row) (n : ℕ) : Type 0 where
+  pub word : Text
+  pub found : first_of name rows ≡ Some word
+  pub number : ParsesUnsigned {E = ℕ} 32 10 word (Ok n)
+  pub least : 1 ≤ n
+  pub most : n ≤ high
+
+-- the options of `run` are those of these matches
+pub record IsRunOf (rows : List Row) (options : RunOptions) : Type 0 where
+  pub base : IsNumberOf (codes "base") 65536 rows options.base
+  pub hard : IsNumberOf (codes "hard") 65535 rows options.hard
+  pub seats : IsNumberOf (codes "seats") 64 rows options.seats
+  pub levels : IsNumberOf (codes "levels") 8 rows options.levels
+
+-- the choice is the named subcommand with these matches
+abbrev pub IsChoiceOf : Text × List Row → Choice → Type 0
+IsChoiceOf found (Run options) = (found.0 ≡ codes "run") × IsRunOf found.1 options
+
+-- the choice is that of clap's subcommand for the words, with its matches
+pub record Chooses (words : List Text) (choice : Choice) : Type 0 where
+  pub subcommand : Text × List Row
+  pub found : subcommand_of market_app words ≡ Some subcommand
+  pub chosen : IsChoiceOf subcommand choice

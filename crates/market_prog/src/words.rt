@@ -1,0 +1,167 @@
+//! The words of the command line.
+ghost use Rattle.std.specs.Prelude.{◌≡◌, ◌≤◌, ◌<◌, ◌^◌, IfOk, codes, false, map};
+ghost use Rattle.clap.specs.Words.{FailsBy, app_of, fault_of, found_of, rows_of, rule_of};
+ghost use Rattle.market_prog.specs.Words.{Chooses, IsChoiceOf, IsNumberOf, IsRunOf, market_app, number_rule, run_app};
+ghost use Rattle.market_prog.specs.Command.{IsCommandOf};
+ghost use Rattle.market_prog.specs.Passed.{HasNumber, HasRunNumbers, NamesRun};
+
+use crate::help;
+use clap::{Arg, ArgAction, ArgMatches, Command, Error};
+use std::alloc::{AllocError, Global};
+
+/// A subcommand with its options.
+#[derive(Clone, Copy, Debug, PartialEq, Eq)]
+pub enum Choice {
+    /// `market run`: answers a script's lines.
+    Run(RunOptions),
+}
+
+/// The market that `market run` opens.
+#[derive(Clone, Copy, Debug, PartialEq, Eq)]
+pub struct RunOptions {
+    /// Parallelism while no control lives, 1 to 65,536: fewer workers than this are active.
+    pub base: u32,
+    /// How many workers there are at most, 1 to 65,535.
+    pub hard: u32,
+    /// How many seats give commands, 1 to 64.
+    pub seats: u8,
+    /// How many priority levels there are, 1 to 8.
+    pub levels: u32,
+}
+
+/// An option with a number from 1 to `high`.
+#[derive(Clone, Copy)]
+struct NumberOption {
+    name: &'static str,
+    default: &'static str,
+    high: u32,
+    help: &'static str,
+}
+
+const BASE: NumberOption = NumberOption {
+    name: "base",
+    default: "8",
+    high: 65_536,
+    help: "Parallelism while no control lives, 1 to 65536: fewer than N workers are active",
+};
+
+const HARD: NumberOption = NumberOption {
+    name: "hard",
+    default: "64",
+    high: 65_535,
+    help: "How many workers there are at most, 1 to 65535",
+};
+
+const SEATS: NumberOption = NumberOption {
+    name: "seats",
+    default: "4",
+    high: 64,
+    help: "How many seats give commands, 1 to 64; they are numbered from 0",
+};
+
+const LEVELS: NumberOption = NumberOption {
+    name: "levels",
+    default: "3",
+    high: 8,
+    help: "How many priority levels there are, 1 to 8",
+};
+
+impl NumberOption {
+    /// The option as clap's.
+    fn arg<'a>(self, alloc: Global) -> Arg<'a>
+        requires { 1 ≤ self.high }
+        ensures rule { rule_of result ≡ number_rule self.name.now self.default.now self.high }
+        ensures global { result.global ≡ false }
+    {
+        Arg::new(alloc, self.name)
+            .long(self.name)
+            .value_name("N")
+            .action(ArgAction::Set)
+            .default_value(self.default)
+            .value_parser(clap::value_parser!(u32).range(1..=i64::from(self.high)))
+            .help(self.help)
+    }
+
+    /// The option's number in matches that clap has passed.
+    fn number(self, matches: &ArgMatches<'_>) -> u32
+        requires { HasNumber self.name.now self.high (rows_of (found_of matches.now)) }
+        ensures { IsNumberOf self.name.now self.high (rows_of (found_of matches.now)) result }
+    {
+        let Some(word) = matches.get_str(self.name) else {
+            unreachable!()
+        };
+        let Ok(number) = word.parse::<u32>() else {
+            unreachable!()
+        };
+        number
+    }
+}
+
+/// The subcommand `run`.
+fn run_command<'a>(alloc: Global) -> Result<Command<'a>, AllocError>
+    ensures { IfOk result (λ c. IsCommandOf c run_app) }
+{
+    Command::new(alloc, "run")
+        .about("Answers a script of commands, line by line")
+        .after_help(help::OF_RUN)
+        .arg(BASE.arg(alloc))?
+        .arg(HARD.arg(alloc))?
+        .arg(SEATS.arg(alloc))?
+        .arg(LEVELS.arg(alloc))
+}
+
+/// The program's command.
+fn market_command<'a>(alloc: Global) -> Result<Command<'a>, AllocError>
+    ensures { IfOk result (λ c. app_of c ≡ market_app) }
+{
+    Command::new(alloc, "market")
+        .about(
+            "The worker market of a task runtime: who gets how many workers, by priority and demand",
+        )
+        .after_help(help::OF_MARKET)
+        .arg_required_else_help(true)
+        .subcommand_required(true)
+        .subcommand(run_command(alloc)?)
+}
+
+/// The options of `run` in matches that clap has passed.
+fn run_options(matches: &ArgMatches<'_>) -> RunOptions
+    requires { HasRunNumbers (rows_of (found_of matches.now)) }
+    ensures { IsRunOf (rows_of (found_of matches.now)) result }
+{
+    RunOptions {
+        base: BASE.number(matches),
+        hard: HARD.number(matches),
+        seats: SEATS.number(matches) as u8,
+        levels: LEVELS.number(matches),
+    }
+}
+
+/// The choice of a subcommand that clap has passed.
+fn choice_of(name: &str, matches: &ArgMatches<'_>) -> Choice
+    requires { NamesRun (name.now, rows_of (found_of matches.now)) }
+    ensures { IsChoiceOf (name.now, rows_of (found_of matches.now)) result }
+{
+    match name {
+        "run" => Choice::Run(run_options(matches)),
+        _ => unreachable!(),
+    }
+}
+
+/// What the words of a command line choose. The first word is the program's name.
+///
+/// An error is clap's: help that was asked for, the first mistake in the words, or want of memory. Its `print` writes
+/// the text, and its `exit_code` is 0 for help and else 2.
+pub fn read_words<'a>(alloc: Global, words: &'a [&'a str]) -> Result<Choice, Error>
+    ensures choice { IfOk result (Chooses (map (λ s. s.now) words.entry.now)) }
+    ensures fault { FailsBy (fault_of market_app (map (λ s. s.now) words.entry.now)) result }
+{
+    let matches = market_command(alloc)?.try_get_matches_from(words)?;
+    let Some((name, found)) = matches.subcommand() else {
+        unreachable!()
+    };
+    Ok(choice_of(name, found))
+}
+
+#[cfg(test)]
+mod tests;

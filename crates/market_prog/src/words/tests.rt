@@ -1,0 +1,63 @@
+//! Command lines, and what is said of them.
+use super::{Choice, RunOptions, read_words};
+
+#[test]
+fn options_are_read_or_default(rt: HostRuntime) {
+    let Ok(choice) = read_words(rt.alloc(), &["market", "run"]) else {
+        panic!(&rt; "refused");
+    };
+    let plain = RunOptions {
+        base: 8,
+        hard: 64,
+        seats: 4,
+        levels: 3,
+    };
+    assert_eq!(&rt; choice, Choice::Run(plain));
+    let words = [
+        "market",
+        "run",
+        "--base",
+        "65536",
+        "--hard=65535",
+        "--seats",
+        "64",
+        "--levels=8",
+    ];
+    let Ok(choice) = read_words(rt.alloc(), &words) else {
+        panic!(&rt; "refused");
+    };
+    let most = RunOptions {
+        base: 65_536,
+        hard: 65_535,
+        seats: 64,
+        levels: 8,
+    };
+    assert_eq!(&rt; choice, Choice::Run(most));
+}
+
+#[test]
+fn help_is_no_mistake(rt: HostRuntime) {
+    let lines: [(&[&str], i32, &str); 5] = [
+        (&["market"], 2, "Usage: market <COMMAND>"),
+        (
+            &["market", "fly"],
+            2,
+            "error: unrecognized subcommand 'fly'",
+        ),
+        (&["market", "run", "--seats=65"], 2, "65 is not in 1..=64"),
+        (&["market", "--help"], 0, "Exit status:"),
+        (
+            &["market", "run", "--help"],
+            0,
+            "before it waits for the next",
+        ),
+    ];
+    for (words, status, text) in lines {
+        let Err(error) = read_words(rt.alloc(), words) else {
+            panic!(&rt; "taken");
+        };
+        assert_eq!(&rt; error.exit_code(), status);
+        let said = format!(in rt.alloc(); "{error}").expect(&rt, "memory");
+        assert!(&rt; said.as_str().contains(text), "{said}");
+    }
+}
