@@ -1,0 +1,5 @@
+mod Rows
+mod Steps
+mod Shares
+mod Views
+mod Runs

@@ -1,0 +1,22 @@
+use Rattle.std.specs.Prelude.{◌≤◌, [], None, replicate}
+use Rattle.market_types.specs.State.{State}
+use Rattle.market_core.specs.declared.market.Market.TheInside.{Inside}
+use Rattle.market_core.specs.Sound.{IsSound}
+
+-- the market as callers see it
+abbrev pub shown : Inside → State
+shown m =
+    record {
+      base = m.base;
+      hard = m.hard;
+      levels = m.levels;
+      arenas = m.rows.items;
+      controls = [];
+      seats = replicate m.seats None;
+      next_arena = m.next_arena;
+      next_control = 1;
+      next_stamp = m.next_stamp;
+    }
+
+abbrev pub IsSoundInside : Inside → Type 0
+IsSoundInside m = IsSound (shown m)

@@ -1,0 +1,13 @@
+//! The market: arenas that share workers, and what each command of a seat does to them.
+//!
+//! A market answers every command at once and never fails but for want of memory; then it is as it was. What it answers
+//! is what its arenas, controls and seats give as they stand, and depends on nothing that went before.
+#![tactic(auto)]
+
+mod calls;
+mod demand;
+mod market;
+mod row;
+
+pub use calls::apply_all;
+pub use market::Market;
