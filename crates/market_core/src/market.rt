@@ -1,5 +1,6 @@
 //! The market, and what can be read of it.
-ghost use Rattle.std.specs.Prelude.{◌≡◌, ◌≤◌, length};
+ghost use Rattle.std.specs.Prelude.{◌≡◌, ◌≤◌, length, IfOk};
+ghost use Rattle.market_types.specs.State.{opening};
 ghost use Rattle.market_types.specs.Opening.{opened_market, MemoryAside};
 ghost use Rattle.market_types.specs.Step.{limits_of};
 
@@ -48,6 +49,7 @@ impl Market {
         levels: u32,
     ) -> Result<Self, OpenFault>
         ensures exact { MemoryAside (opened_market base hard seats levels) result }
+        ensures opened { IfOk result (λ market. market ≡ opening base hard seats levels) }
     {
         if base == 0 || base > 65536 {
             return Err(OpenFault::BadBase);

@@ -1,8 +1,8 @@
-use Rattle.std.proofs.Common.{length-take-le, arith, refl, sym, ap, subst, ◌≡◌, ◌∙◌, ◌+◌, ◌-◌, ◌*◌, ◌/◌, ◌%◌, ◌<◌, ◌≤◌, ℕ, Some, List, length, take, min}
-use Rattle.std.specs.Prelude.{slice_get, slice_index, sum}
+use Rattle.std.proofs.Common.{length-take-le, arith, sym, ap, subst, ◌≡◌, ◌∙◌, ◌+◌, ◌-◌, ◌<◌, ◌≤◌, take}
+use Rattle.std.specs.Prelude.{slice_index}
 use Rattle.std.proofs.lemmas.Option.{slice_get_within}
 use Rattle.market_types.specs.declared.reply.LimitView.{LimitView}
-use Rattle.market_types.specs.State.{Arena, State}
+use Rattle.market_types.specs.State.{State}
 use Rattle.market_types.specs.Claims.{request_of}
 use Rattle.market_types.specs.Allotment.{total_request, at_level, demand, assigned, limit_of, bound_of}
 use Rattle.market_core.specs.Sound.{IsSound}

@@ -1,4 +1,4 @@
-use Rattle.std.proofs.Common.{arith, refl}
+use Rattle.std.proofs.Common.{refl}
 use Rattle.market_core.specs.Shown.{shown}
 use Rattle.market_core.proofs.Steps.{effective-unmandated}
 use Rattle.market_core.proofs.market.Market.limits.Goals as goal
