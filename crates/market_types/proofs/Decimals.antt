@@ -1,19 +1,19 @@
 -- A number has one spelling, and no space in it.
-use Rattle.std.proofs.Common.{zero, suc, ◌≡◌, ◌≢◌, ℕ, ◌<◌, ◌≤◌, ◌^◌, ◌++◌, ◌⊎◌, inl, inr, Bool, true, false, not, ◌&&◌, ◌||◌, eqb, ltb, leb, cond, List, [], ◌∷◌, length, slice_index, Option, Some, None, option_and_then, sym, ap, ◌∙◌, refl, subst, arith, codes, decimal, drop}
-use Rattle.std.specs.Prelude.{ℤ, pos, negsuc, neg_ℤ, FitsSigned}
+use Rattle.std.proofs.Common.{zero, suc, ◌≡◌, ℕ, ◌<◌, ◌≤◌, ◌^◌, ◌++◌, ◌⊎◌, inl, inr, Bool, true, false, not, ◌&&◌, ◌||◌, eqb, ltb, leb, cond, List, [], ◌∷◌, length, slice_index, Some, option_and_then, sym, ap, ◌∙◌, refl, subst, arith, codes, decimal}
+use Rattle.std.specs.Prelude.{ℤ, pos, negsuc, FitsSigned}
 use Rattle.std.specs.Int.{w32}
 use Rattle.std.specs.Fmt.{signed_decimal}
 use Rattle.std.specs.Str.{all_ascii_digits}
 use Rattle.std.specs.Str.Parse.{AllDigits, digits_value}
 use Rattle.std.specs.List.{All, slice_split}
-use Rattle.std.proofs.lemmas.Bool.{lt-ltb, ltb-true, le-leb, leb-true, eqb-true, cases_eq, ne_eqb, and_parts, cases_Bool}
+use Rattle.std.proofs.lemmas.Bool.{lt-ltb, ltb-true, le-leb, leb-true, eqb-true, cases_eq, ne_eqb, and_parts}
 use Rattle.std.proofs.lemmas.Bool.Decides.{nat_tests}
 use Rattle.std.proofs.lemmas.Option.{cond_some, option_and_then_some}
 use Rattle.std.proofs.lemmas.List.Elements.{All-nil, All-cons}
 use Rattle.std.proofs.lemmas.List.Splits.{slice_split_at, slice_split_none}
 use Rattle.std.proofs.lemmas.Str.Parse.{IsNumeralModel, numerals_by_value, tells_all_ascii_digits, digit_from_value, digit_at}
 use Rattle.std.proofs.lemmas.Fmt.{digits_decimal, digits_value-decimal, decimal_nonempty, first_decimal, decimal_digit, decimal-digits_value}
-use Rattle.market_types.specs.Reading.{is_number, is_plain, number, is_space, positive, negative, signed}
+use Rattle.market_types.specs.Reading.{is_plain, number, is_space, positive, negative, signed}
 
 pub own : IsNumeralModel (λ ds. all_ascii_digits ds ≡ true) (digits_value 10)
 own = numerals_by_value _ tells_all_ascii_digits
@@ -43,9 +43,9 @@ split-decimal_more n more h = slice_split_at is_space (decimal n) 32 more (decim
 
 plain_first : (n : ℕ) → n < 2 ^ 32 → (length (decimal n) ≡ 1) ⊎ (48 < slice_index (decimal n) 0)
 plain_first n h = elim (cases_eq n 0) [
-      | inl e ↦ inl (ap length (ap decimal e ∙ decimal_digit 0 (omega arith)))
-      | inr e ↦ inr (first_decimal n (omega arith) (omega arith))
-    ]
+  | inl e ↦ inl (ap length (ap decimal e ∙ decimal_digit 0 (omega arith)))
+  | inr e ↦ inr (first_decimal n (omega arith) (omega arith))
+]
 
 plain_by : (field : List ℕ) → 0 < length field → ((length field ≡ 1) ⊎ (48 < slice_index field 0)) → is_plain field ≡ true
 plain_by field some (inl one) = grind (arith, nat_tests)
@@ -115,8 +115,8 @@ unsigned_only field z h =
 negative_only : (n : ℕ) (z : ℤ) → negative n ≡ Some z → (45 ∷ decimal n ≡ signed_decimal z) × FitsSigned w32 z
 negative_only zero z h = absurd (cc)
 negative_only (suc n) z h =
-    let c = cond_some _ _ _ h in
-    let small : suc n ≤ 2 ^ 31 = leb-true _ _ (and_parts _ _ c.0).1 in
+    let c = cond_some (ltb 0 (suc n) && leb (suc n) (2 ^ 31)) (negsuc n) z h in
+    let small : suc n ≤ 2 ^ 31 = leb-true (suc n) (2 ^ 31) (and_parts (ltb 0 (suc n)) (leb (suc n) (2 ^ 31)) c.0).1 in
     subst (λ z. (45 ∷ decimal (suc n) ≡ signed_decimal z) × FitsSigned w32 z) c.1 (refl, record { sfits = omega arith })
 
 minus_only : (field : List ℕ) (z : ℤ) → option_and_then negative (number field) ≡ Some z → IsSigned (45 ∷ field) z

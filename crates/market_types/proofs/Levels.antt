@@ -1,11 +1,12 @@
 -- A level is read where it is spelled.
-use Rattle.std.proofs.Common.{zero, suc, ◌≡◌, ℕ, ◌+◌, ◌<◌, ◌≤◌, ◌^◌, ◌++◌, ◌⊎◌, inl, inr, Bool, true, false, ◌&&◌, eqb, ltb, leb, cond, List, [], ◌∷◌, map, length, Option, Some, None, option_and_then, sym, ap, ◌∙◌, refl, subst, arith, codes, decimal}
+use Rattle.std.proofs.Common.{zero, suc, ◌≡◌, ℕ, ◌+◌, ◌≤◌, Bool, true, false, ◌&&◌, eqb, ltb, leb, cond, List, [], ◌∷◌, Option, Some, option_and_then, sym, ap, ◌∙◌, refl, subst, arith, decimal}
 use Rattle.std.specs.Str.{bytes_eq}
 use Rattle.std.specs.List.{All, Contains, slice_split}
-use Rattle.std.proofs.lemmas.Bool.{lt-ltb, ltb-true, le-leb, leb-true, eqb-true, eq-eqb, and_parts, cases_Bool}
-use Rattle.std.proofs.lemmas.Option.{cond_some, option_and_then_some}
+use Rattle.std.proofs.lemmas.Bool.{lt-ltb, ltb-true, le-leb, leb-true, eqb-true, and_parts}
+use Rattle.std.proofs.lemmas.Option.{cond_some, option_and_then_some, same_Some}
 use Rattle.std.proofs.lemmas.List.Elements.{All-nil, All-cons, Contains-append_right}
 use Rattle.std.proofs.lemmas.Fmt.{decimal_digit}
+use Rattle.std.proofs.lemmas.Slice.Eq.{bytes_eq-Decides}
 use Rattle.std.proofs.Math.Bool.{and-false}
 use Rattle.market_types.specs.Texts.{has_name, level_name}
 use Rattle.market_types.specs.Reading.{number, level, in_levels, is_space, level_spellings, FitsLevel}
@@ -70,7 +71,7 @@ number_spells : (levels l : ℕ) (b : Bool) → Contains (cond b (level_name l �
 number_spells levels l true = Contains-append_right (level_name l ∷ []) (decimal l ∷ []) (decimal l) (contains_first (decimal l) [])
 number_spells levels l false = contains_first (decimal l) []
 
-in_levels_only : (n l : ℕ) → in_levels n ≡ Some l → (n ≡ l) × FitsLevel n
+pub in_levels_only : (n l : ℕ) → in_levels n ≡ Some l → (n ≡ l) × FitsLevel n
 in_levels_only n l h =
     let c = cond_some _ _ _ h in
     let both = and_parts (ltb 0 n) (leb n 8) c.0 in
@@ -83,3 +84,29 @@ numbered levels l field h =
     let f = number_only field n e in
     subst (λ l. SpellsLevel levels l field) m.0 (m.1, subst (λ t. Contains (level_spellings levels n) t) (sym f.0) (number_spells levels n (has_name levels n))))
 
+-- a test that chooses
+pub chosen : {A P : Type 0} (b : Bool) (x y z : A) → cond b x y ≡ z → (b ≡ true → x ≡ z → P) → (b ≡ false → y ≡ z → P) → P
+chosen true x y z h f g = f refl h
+chosen false x y z h f g = g refl h
+
+-- the bytes are those of the word
+pub text_is : (field word : List ℕ) → bytes_eq field word ≡ true → field ≡ word
+text_is field word e = (bytes_eq-Decides field word).0 e
+
+-- the name of a level of three
+named : (levels n l : ℕ) (field : List ℕ) → FitsLevel n → Contains (level_spellings 3 n) (level_name n) → (eqb levels 3 && bytes_eq field (level_name n)) ≡ true → Some n ≡ Some l → SpellsLevel levels l field
+named levels n l field fits spelled test e =
+    let both = and_parts (eqb levels 3) (bytes_eq field (level_name n)) test in
+    subst (λ l. SpellsLevel levels l field) (same_Some n l e)
+    (fits, subst (λ m. Contains (level_spellings m n) field) (sym (eqb-true levels 3 both.0)) (subst (λ t. Contains (level_spellings 3 n) t) (sym (text_is field (level_name n) both.1)) spelled))
+
+pub level_only : (levels l : ℕ) (field : List ℕ) → level levels field ≡ Some l → SpellsLevel levels l field
+unfolding level
+level_only levels l field h =
+    chosen (eqb levels 3 && bytes_eq field (level_name 1)) _ _ (Some l) h
+    (λ test e. named levels 1 l field (omega arith, omega arith) (contains_first (level_name 1) (decimal 1 ∷ [])) test e)
+    (λ _ h. chosen (eqb levels 3 && bytes_eq field (level_name 2)) _ _ (Some l) h
+    (λ test e. named levels 2 l field (omega arith, omega arith) (contains_first (level_name 2) (decimal 2 ∷ [])) test e)
+    (λ _ h. chosen (eqb levels 3 && bytes_eq field (level_name 3)) _ _ (Some l) h
+    (λ test e. named levels 3 l field (omega arith, omega arith) (contains_first (level_name 3) (decimal 3 ∷ [])) test e)
+    (λ _ h. numbered levels l field h)))

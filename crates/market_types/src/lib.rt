@@ -8,6 +8,7 @@ mod number;
 mod reading;
 mod reply;
 mod row;
+mod spelling;
 mod writing;
 
 pub use command::{Call, Cmd};
@@ -16,4 +17,5 @@ pub use number::{ArenaId, ControlId, SeatNo};
 pub use reading::{read_cmd, read_line};
 pub use reply::{ArenaView, Entry, Fault, LimitView, Lists, OpenFault, Reply};
 pub use row::Row;
+pub use spelling::{lines_spell_calls, texts_spell_commands};
 pub use writing::{cmd_text, open_fault_text, push_reply, reply_text};
