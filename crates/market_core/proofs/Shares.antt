@@ -136,7 +136,7 @@ request-within arenas i row e =
 
 -- ---- what the market allots
 
-cond-yes : (b : Bool) (x y : ℕ) → b ≡ true → cond b x y ≡ x
+pub cond-yes : (b : Bool) (x y : ℕ) → b ≡ true → cond b x y ≡ x
 cond-yes true x y e = refl
 cond-yes false x y e = cc
 

@@ -1,13 +1,16 @@
 //! The market, and what can be read of it.
-ghost use Rattle.std.specs.Prelude.{◌≡◌, ◌≤◌, length, IfOk};
+ghost use Rattle.std.specs.Prelude.{◌≡◌, ◌≤◌, ◌<◌, length, IfOk};
 ghost use Rattle.market_types.specs.State.{opening};
 ghost use Rattle.market_types.specs.Opening.{opened_market, MemoryAside};
+ghost use Rattle.market_types.specs.Allotment.{limit_of, bound_of};
 ghost use Rattle.market_types.specs.Step.{limits_of};
+ghost use Rattle.market_core.specs.Allotted.{total_alloc};
 
 mod apply;
 mod view;
 
 use crate::row::ArenaRow;
+use allotment::bound_is_given_out;
 use market_types::{LimitView, OpenFault};
 use std::alloc::Global;
 use std::marker::Model;
@@ -110,15 +113,26 @@ impl Market {
         self.levels
     }
 
-    /// How many workers may be active, and why.
+    /// How many workers may be active, and why. Where some may be, all arenas together are allotted what they ask for and
+    /// may have; where none may be, one at most.
     pub fn limits(&self) -> LimitView
         ensures exact { result ≡ limits_of self.now }
+        ensures given_out { 0 < limit_of self.now → total_alloc self.now ≡ bound_of self.now }
+        ensures one_at_most { limit_of self.now ≡ 0 → total_alloc self.now ≤ 1 }
     {
-        let limit = (self.base - 1).min(self.hard);
+        bound_is_given_out();
+        let limit = self.limit();
         LimitView {
             value: self.base,
             limit,
             effective: limit,
         }
+    }
+
+    /// How many workers may be active.
+    fn limit(&self) -> u32
+        ensures exact { result ≡ limit_of self.now }
+    {
+        (self.base - 1).min(self.hard)
     }
 }

@@ -4,7 +4,7 @@ ghost use Rattle.market_types.specs.Claims.{request_of};
 ghost use Rattle.market_types.specs.Allotment.{alloc, is_top};
 ghost use Rattle.market_types.specs.Step.{arena_at, view_of};
 ghost use Rattle.allotment.specs.Levels.{AreDemandsOf};
-ghost use Rattle.market_core.specs.Within.{IsWithin};
+ghost use Rattle.market_core.specs.Allotted.{IsWithin};
 
 use super::Market;
 use crate::demand::{demand_of, demands_of, sum_of};
@@ -51,7 +51,7 @@ impl Market {
         ensures no_more_than_asked { result ≤ request_of row.now.claim }
     {
         let rows = &self.rows;
-        let limit = self.limits().limit;
+        let limit = self.limit();
         if limit == 0 {
             return 0;
         }
