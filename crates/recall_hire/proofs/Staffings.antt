@@ -1,11 +1,11 @@
-use Rattle.std.proofs.Common.{◌≡◌, ℕ, zero, suc, ◌+◌, ◌-◌, ◌<◌, ◌≤◌, Bool, true, false, cond, ltb, List, [], ◌∷◌, ◌++◌, take, length, get_or, map, Option, Some, None, refl, sym, ap, ◌∙◌, arith, add-one, inl, inr}
+use Rattle.std.proofs.Common.{◌≡◌, ℕ, zero, suc, ◌+◌, ◌<◌, ◌≤◌, ltb, List, [], ◌∷◌, ◌++◌, take, length, get_or, map, Some, None, refl, sym, ap, ◌∙◌, arith, add-one, inl, inr}
 use Rattle.std.specs.Prelude.{slice_get}
-use Rattle.std.specs.List.{find, filter}
+use Rattle.std.specs.List.{find}
 use Rattle.std.specs.Option.{option_map}
 use Rattle.std.proofs.lemmas.Bool.{cases_lt, cases_Bool, lt-ltb}
 use Rattle.market_types.specs.State.{State, Arena}
 use Rattle.market_types.specs.Counts.{Counts}
-use Rattle.market_types.specs.Allotment.{in_order, hire, recall, need}
+use Rattle.market_types.specs.Allotment.{in_order, hire, recall}
 use Rattle.market_types.specs.Step.{above_zero, counts_of}
 use Rattle.recall_hire.specs.declared.rows.Staffing.{Staffing}
 use Rattle.recall_hire.specs.Staffed.{recall_in, hire_in, listed, allotted_at, NoneAllotted, first_in_need, counts_in, above_zero_in, row_of, rows_of, need_of}
@@ -115,6 +115,12 @@ above_zero-suc count (x ∷ xs) (suc place) r e =
       | inr f ↦ rw f rest
     ]
 
-pub above_zero-more : (count : Staffing → ℕ) (rows : List Staffing) (place : ℕ) (r : Staffing) → slice_get rows place ≡ Some r
+above_zero-more : (count : Staffing → ℕ) (rows : List Staffing) (place : ℕ) (r : Staffing) → slice_get rows place ≡ Some r
     → above_zero_in count (take (place + 1) rows) ≡ above_zero_in count (take place rows) ++ listed r.arena (count r)
 above_zero-more count rows place r e = rw add-one (above_zero-suc count rows place r e)
+
+-- a list of counts, after one row more
+pub listed-more : (count : Staffing → ℕ) (rows : List Staffing) (place n : ℕ) (r : Staffing) (before after : List (ℕ × ℕ))
+    → after ≡ before ++ listed r.arena n → before ≡ above_zero_in count (take place rows) → n ≡ count r → slice_get rows place ≡ Some r
+    → after ≡ above_zero_in count (take (place + 1) rows)
+listed-more count rows place n r before after added so_far counted e = rw (added, so_far, counted) (sym (above_zero-more count rows place r e))

@@ -10,3 +10,6 @@ mod rows;
 pub use needs::{first_in_need, lists};
 pub use roster::Roster;
 pub use rows::{Rows, Staffing, hire, recall};
+
+#[cfg(test)]
+mod tests;

@@ -62,7 +62,8 @@ impl Roster {
         requires unplaced { slice_get self.old seat ≡ Some None }
         ensures placed { self.new ≡ slice_set self.old seat (Some arena) }
     {
-        self.seats[usize::from(seat.get())] = Some(arena);
+        let place = usize::from(seat.get());
+        self.seats[place] = Some(arena);
         grow(&mut self.crowds, arena);
     }
 

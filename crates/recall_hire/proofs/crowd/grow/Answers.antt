@@ -1,7 +1,5 @@
-use Rattle.std.proofs.Common.{◌≡◌, ◌+◌, ◌≤◌, ◌<◌, List, length, subst, sym, ap, ◌∙◌, arith}
-use Rattle.std.specs.Prelude.{Some}
-use Rattle.recall_hire.specs.declared.crowd.Crowd.{Crowd}
-use Rattle.recall_hire.specs.Crowds.{IsTable, arena_at, size_at, total_size}
+use Rattle.std.proofs.Common.{subst, sym, ap, ◌∙◌, arith}
+use Rattle.recall_hire.specs.Crowds.{IsTable, arena_at, size_at}
 use Rattle.recall_hire.proofs.Tables.{size-few, crowds-few, table-resized, table-push, sizes-up, total-up}
 use Rattle.recall_hire.proofs.crowd.grow.Goals as goal
 
@@ -11,7 +9,7 @@ overflow_add-index_mut c =
     omega arith
 
 pub push_reserved-requires : goal.push_reserved-requires
-push_reserved-requires c = 
+push_reserved-requires c =
     let few = crowds-few c.args.crowds.now.items c.requires.kept.filled in
     omega arith
 

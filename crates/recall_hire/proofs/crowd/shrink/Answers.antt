@@ -1,7 +1,4 @@
-use Rattle.std.proofs.Common.{◌≡◌, ◌+◌, ◌-◌, ◌≤◌, ◌<◌, List, subst, sym, ap, ◌∙◌, arith, eqb}
-use Rattle.std.specs.List.{swap_remove, All}
-use Rattle.std.proofs.lemmas.List.Elements.{All-get_or}
-use Rattle.recall_hire.specs.declared.crowd.Crowd.{Crowd}
+use Rattle.std.proofs.Common.{◌+◌, subst, sym, ap, ◌∙◌, arith, eqb}
 use Rattle.recall_hire.specs.Crowds.{IsTable, arena_at, size_at, total_size, one_if}
 use Rattle.recall_hire.proofs.Tables.{filled-at, same-size, table-resized, sizes-down, total-down, table-swap_remove, sizes-swap_remove, total-swap_remove}
 use Rattle.recall_hire.proofs.crowd.shrink.Goals as goal

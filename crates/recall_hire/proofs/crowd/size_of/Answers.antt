@@ -1,4 +1,4 @@
-use Rattle.std.proofs.Common.{◌≡◌, ap, sym, ◌∙◌}
+use Rattle.std.proofs.Common.{ap, sym, ◌∙◌}
 use Rattle.recall_hire.specs.declared.crowd.Crowd.{Crowd}
 use Rattle.recall_hire.proofs.Tables.{size-here}
 use Rattle.recall_hire.proofs.crowd.size_of.Goals as goal

@@ -1,5 +1,4 @@
-use Rattle.std.proofs.Common.{◌≡◌, ◌+◌, ◌-◌, ◌≤◌, ◌<◌, ℕ, None, Some, length, sym, subst, ◌∙◌, arith, rules}
-use Rattle.recall_hire.specs.Staffed.{first_in_need, hire_in}
+use Rattle.std.proofs.Common.{◌≡◌, None, length, sym, ◌∙◌, arith, rules}
 use Rattle.recall_hire.proofs.Staffings.{NoneNeeds, needs-to, needs-more, need-found, need-none, need-in_market}
 use Rattle.recall_hire.proofs.needs.first_in_need.Goals as goal
 

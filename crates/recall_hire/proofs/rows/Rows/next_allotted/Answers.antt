@@ -1,4 +1,4 @@
-use Rattle.std.proofs.Common.{◌≡◌, ◌+◌, ◌≤◌, ◌<◌, arith, ap, ◌∙◌, inl, inr}
+use Rattle.std.proofs.Common.{◌≡◌, arith, ap, ◌∙◌, inl, inr}
 use Rattle.std.proofs.lemmas.Bool.{cases_lt}
 use Rattle.recall_hire.specs.Staffed.{allotted_at}
 use Rattle.recall_hire.proofs.Staffings.{row-allotted}

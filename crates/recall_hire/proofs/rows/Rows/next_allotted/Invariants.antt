@@ -1,4 +1,3 @@
-use Rattle.std.proofs.Common.{◌≤◌}
 use Rattle.recall_hire.specs.Staffed.{NoneAllotted}
 use Rattle.recall_hire.proofs.rows.Rows.next_allotted.Given as goal
 
