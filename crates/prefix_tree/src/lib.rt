@@ -37,3 +37,6 @@ mod tree;
 
 pub use taken::Taken;
 pub use tree::Tree;
+
+#[cfg(test)]
+mod tests;
