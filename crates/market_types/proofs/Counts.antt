@@ -1,5 +1,5 @@
 -- Counts joined by commas.
-use Rattle.std.proofs.Common.{◌≡◌, ℕ, List, [], ◌∷◌, ◌++◌, ap, sym, ◌∙◌, refl, append_assoc, append-nil}
+use Rattle.std.proofs.Common.{◌≡◌, ℕ, List, [], ◌∷◌, ◌++◌, ap, sym, ◌∙◌, refl, append_assoc, append-nil, ◌+◌, ◌<◌, length, get_or, drop, drop-cons, add-one, codes}
 use Rattle.market_types.specs.Texts.{count_text, counts_text}
 use Rattle.market_types.specs.Written.{more_counts_text}
 
@@ -15,3 +15,14 @@ counts-joined before middle counts e es split first =
     ∙ ap (λ t. before ++ t) (counts-first e es)
     ∙ sym (append_assoc before (count_text e) (more_counts_text es))
     ∙ ap (λ t. t ++ more_counts_text es) (sym first)
+
+-- one count more
+pub counts-step : (before comma after : List ℕ) (counts : List (ℕ × ℕ)) (i : ℕ) (e : ℕ × ℕ) → i < length counts → e ≡ get_or counts i e → comma ≡ before ++ codes "," → after ≡ comma ++ count_text e → after ++ more_counts_text (drop (i + 1) counts) ≡ before ++ more_counts_text (drop i counts)
+counts-step before comma after counts i e h is first second =
+    let next : drop i counts ≡ e ∷ drop (i + 1) counts = rw (add-one, drop-cons counts i e, ← is) refl in
+    let rest = more_counts_text (drop (i + 1) counts) in
+    ap (λ t. t ++ rest) second
+    ∙ append_assoc comma (count_text e) rest
+    ∙ ap (λ t. t ++ (count_text e ++ rest)) first
+    ∙ append_assoc before (codes ",") (count_text e ++ rest)
+    ∙ ap (λ l. before ++ more_counts_text l) (sym next)

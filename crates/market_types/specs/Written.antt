@@ -1,12 +1,13 @@
 -- What the writer's inner functions answer.
-use Rattle.std.specs.Prelude.{◌≡◌, ℕ, List, [], ◌∷◌, ◌++◌, codes, decimal}
+use Rattle.std.specs.Prelude.{◌≡◌, ℕ, List, [], ◌∷◌, ◌++◌, IsUtf8, codes, decimal}
 use Rattle.market_types.specs.declared.reply.ArenaView.{ArenaView}
 use Rattle.market_types.specs.Texts.{count_text}
 
--- what stood still stands, and something may follow it
+-- what stood still stands, and some text may follow it
 pub record Extends (before after : List ℕ) : Type 0 where
   pub more : List ℕ
   pub is : after ≡ before ++ more
+  pub utf8 : IsUtf8 more
 
 -- the part of an arena's view that counts seats
 abbrev pub seats_text : ArenaView → List ℕ

@@ -1,5 +1,7 @@
 //! Commands and replies written as texts.
-ghost use Rattle.std.specs.Prelude.{◌≡◌, ◌++◌, IfOk, OnErr, OnOk, codes, decimal, string_bytes};
+#![tactic(auto, using(crate::proofs::Written::extends_trans))]
+
+ghost use Rattle.std.specs.Prelude.{◌≡◌, ◌++◌, IfOk, IsUtf8, OnErr, OnOk, codes, decimal, string_bytes};
 ghost use Rattle.market_types.specs.Texts.{cmd_text, count_text, counts_text, fault_text, level_text, limit_text, open_fault_text, reply_text, view_text, yes_no};
 ghost use Rattle.market_types.specs.Written.{Extends, more_counts_text, seats_text};
 
@@ -7,7 +9,6 @@ use crate::command::Cmd;
 use crate::level::Level;
 use crate::number::ArenaId;
 use crate::reply::{ArenaView, Fault, LimitView, Lists, OpenFault, Reply};
-
 use itoa::Buffer;
 use std::alloc::{AllocError, Global};
 
@@ -17,11 +18,30 @@ pub fn cmd_text(alloc: Global, cmd: &Cmd, levels: u32) -> Result<String, AllocEr
     ensures exact { IfOk result (λ text. string_bytes text ≡ cmd_text levels cmd.now) }
 {
     match cmd {
-        Cmd::Open(slots, reserved, level) => format!(in alloc; "open {} {} {}", slots, reserved, level_text(*level, levels)),
+        Cmd::Open(slots, reserved, level) => format!(in alloc;
+            "open {} {} {}",
+            slots,
+            reserved,
+            level_text(*level, levels)
+        ),
         Cmd::Close(arena) => format!(in alloc; "close {}", arena.get()),
-        Cmd::Priority(arena, level) => format!(in alloc; "priority {} {}", arena.get(), level_text(*level, levels)),
-        Cmd::Resize(arena, slots, reserved) => format!(in alloc; "resize {} {} {}", arena.get(), slots, reserved),
-        Cmd::Request(arena, workers, mandatory) => format!(in alloc; "request {} {} {}", arena.get(), workers, mandatory),
+        Cmd::Priority(arena, level) => format!(in alloc;
+            "priority {} {}",
+            arena.get(),
+            level_text(*level, levels)
+        ),
+        Cmd::Resize(arena, slots, reserved) => format!(in alloc;
+            "resize {} {} {}",
+            arena.get(),
+            slots,
+            reserved
+        ),
+        Cmd::Request(arena, workers, mandatory) => format!(in alloc;
+            "request {} {} {}",
+            arena.get(),
+            workers,
+            mandatory
+        ),
         Cmd::Control(value) => format!(in alloc; "control {}", value),
         Cmd::Uncontrol(control) => format!(in alloc; "uncontrol {}", control.get()),
         Cmd::Join => String::from_str(alloc, "join"),
@@ -37,7 +57,11 @@ pub fn cmd_text(alloc: Global, cmd: &Cmd, levels: u32) -> Result<String, AllocEr
 fn level_text(level: Level, levels: u32) -> &'static str
     ensures { result.now ≡ level_text levels level }
 {
-    if levels == 3 { named_level(level) } else { numbered_level(level) }
+    if levels == 3 {
+        named_level(level)
+    } else {
+        numbered_level(level)
+    }
 }
 
 fn named_level(level: Level) -> &'static str
@@ -98,6 +122,7 @@ pub fn reply_text(alloc: Global, reply: &Reply) -> Result<String, AllocError>
 pub fn push_reply(out: &mut Vec<u8>, reply: &Reply) -> Result<(), AllocError>
     ensures ok { OnOk result (out.new.items ≡ out.old.items ++ reply_text reply.now) }
     ensures err { OnErr result (out.new.items ≡ out.old.items) }
+    ensures utf8 { IsUtf8 out.old.items → IsUtf8 out.new.items }
 {
     let before = out.len();
     let pushed = push_reply_text(out, reply);
@@ -109,19 +134,19 @@ pub fn push_reply(out: &mut Vec<u8>, reply: &Reply) -> Result<(), AllocError>
 
 fn push_reply_text(out: &mut Vec<u8>, reply: &Reply) -> Result<(), AllocError>
     ensures ok { OnOk result (out.new.items ≡ out.old.items ++ reply_text reply.now) }
-    ensures err { OnErr result (Extends out.old.items out.new.items) }
+    ensures grows { Extends out.old.items out.new.items }
 {
     match reply {
-        Reply::Opened(arena) => push_part(out, b"arena ", arena.get()),
-        Reply::Closed | Reply::Moved | Reply::Uncontrolled => out.extend_from_slice(b"ok"),
-        Reply::Resized(request) => push_part(out, b"resized ", *request),
-        Reply::Requested(request) => push_part(out, b"request ", *request),
-        Reply::Controlled(control) => push_part(out, b"control ", control.get()),
-        Reply::Placed(arena) => push_part(out, b"placed ", arena.get()),
-        Reply::Idle => out.extend_from_slice(b"idle"),
-        Reply::Stays(arena) => push_part(out, b"stays ", arena.get()),
-        Reply::Recalled(arena) => push_part(out, b"recalled ", arena.get()),
-        Reply::Left(arena) => push_part(out, b"left ", arena.get()),
+        Reply::Opened(arena) => push_part(out, "arena ", arena.get()),
+        Reply::Closed | Reply::Moved | Reply::Uncontrolled => push_text(out, "ok"),
+        Reply::Resized(request) => push_part(out, "resized ", *request),
+        Reply::Requested(request) => push_part(out, "request ", *request),
+        Reply::Controlled(control) => push_part(out, "control ", control.get()),
+        Reply::Placed(arena) => push_part(out, "placed ", arena.get()),
+        Reply::Idle => push_text(out, "idle"),
+        Reply::Stays(arena) => push_part(out, "stays ", arena.get()),
+        Reply::Recalled(arena) => push_part(out, "recalled ", arena.get()),
+        Reply::Left(arena) => push_part(out, "left ", arena.get()),
         Reply::Shown(view) => push_view(out, view),
         Reply::Listed(lists) => push_lists(out, lists),
         Reply::Limits(view) => push_limits(out, view),
@@ -131,58 +156,58 @@ fn push_reply_text(out: &mut Vec<u8>, reply: &Reply) -> Result<(), AllocError>
 
 fn push_view(out: &mut Vec<u8>, view: &ArenaView) -> Result<(), AllocError>
     ensures ok { OnOk result (out.new.items ≡ out.old.items ++ view_text view.now) }
-    ensures err { OnErr result (Extends out.old.items out.new.items) }
+    ensures grows { Extends out.old.items out.new.items }
 {
-    push_part(out, b"arena ", view.arena.get())?;
-    push_part(out, b" request ", view.request)?;
-    push_part(out, b" allot ", view.allot)?;
-    out.extend_from_slice(b" top ")?;
-    out.extend_from_slice(yes_no(view.top))?;
+    push_part(out, "arena ", view.arena.get())?;
+    push_part(out, " request ", view.request)?;
+    push_part(out, " allot ", view.allot)?;
+    push_text(out, " top ")?;
+    push_text(out, yes_no(view.top))?;
     push_seats(out, view)
 }
 
 /// The part of an arena's view that counts seats.
 fn push_seats(out: &mut Vec<u8>, view: &ArenaView) -> Result<(), AllocError>
     ensures ok { OnOk result (out.new.items ≡ out.old.items ++ seats_text view.now) }
-    ensures err { OnErr result (Extends out.old.items out.new.items) }
+    ensures grows { Extends out.old.items out.new.items }
 {
-    push_part(out, b" active ", view.active)?;
-    push_part(out, b" recall ", view.recall)?;
-    push_part(out, b" hire ", view.hire)
+    push_part(out, " active ", view.active)?;
+    push_part(out, " recall ", view.recall)?;
+    push_part(out, " hire ", view.hire)
 }
 
-fn yes_no(answer: bool) -> &'static [u8]
+fn yes_no(answer: bool) -> &'static str
     ensures { result.now ≡ yes_no answer }
 {
-    if answer { b"yes" } else { b"no" }
+    if answer { "yes" } else { "no" }
 }
 
 fn push_limits(out: &mut Vec<u8>, view: &LimitView) -> Result<(), AllocError>
     ensures ok { OnOk result (out.new.items ≡ out.old.items ++ limit_text view.now) }
-    ensures err { OnErr result (Extends out.old.items out.new.items) }
+    ensures grows { Extends out.old.items out.new.items }
 {
-    push_part(out, b"value ", view.value)?;
-    push_part(out, b" limit ", view.limit)?;
-    push_part(out, b" effective ", view.effective)
+    push_part(out, "value ", view.value)?;
+    push_part(out, " limit ", view.limit)?;
+    push_part(out, " effective ", view.effective)
 }
 
 fn push_lists(out: &mut Vec<u8>, lists: &Lists) -> Result<(), AllocError>
     ensures ok { OnOk result (out.new.items ≡ out.old.items ++ reply_text (Reply.Listed lists.now)) }
-    ensures err { OnErr result (Extends out.old.items out.new.items) }
+    ensures grows { Extends out.old.items out.new.items }
 {
-    out.extend_from_slice(b"recall ")?;
+    push_text(out, "recall ")?;
     push_counts(out, &lists.recalls)?;
-    out.extend_from_slice(b" hire ")?;
+    push_text(out, " hire ")?;
     push_counts(out, &lists.hires)
 }
 
 /// Arenas and their counts, joined by commas; of none a dash.
 fn push_counts(out: &mut Vec<u8>, counts: &[(ArenaId, u32)]) -> Result<(), AllocError>
     ensures ok { OnOk result (out.new.items ≡ out.old.items ++ counts_text counts.now) }
-    ensures err { OnErr result (Extends out.old.items out.new.items) }
+    ensures grows { Extends out.old.items out.new.items }
 {
     let Some((first, rest)) = counts.split_first() else {
-        return out.extend_from_slice(b"-");
+        return push_text(out, "-");
     };
     push_count(out, *first)?;
     push_more_counts(out, rest)
@@ -191,10 +216,10 @@ fn push_counts(out: &mut Vec<u8>, counts: &[(ArenaId, u32)]) -> Result<(), Alloc
 /// Arenas and their counts, each behind a comma.
 fn push_more_counts(out: &mut Vec<u8>, counts: &[(ArenaId, u32)]) -> Result<(), AllocError>
     ensures ok { OnOk result (out.new.items ≡ out.old.items ++ more_counts_text counts.now) }
-    ensures err { OnErr result (Extends out.old.items out.new.items) }
+    ensures grows { Extends out.old.items out.new.items }
 {
     for count in counts {
-        out.extend_from_slice(b",")?;
+        push_text(out, ",")?;
         push_count(out, *count)?;
     }
     Ok(())
@@ -202,48 +227,55 @@ fn push_more_counts(out: &mut Vec<u8>, counts: &[(ArenaId, u32)]) -> Result<(), 
 
 fn push_count(out: &mut Vec<u8>, count: (ArenaId, u32)) -> Result<(), AllocError>
     ensures ok { OnOk result (out.new.items ≡ out.old.items ++ count_text count) }
-    ensures err { OnErr result (Extends out.old.items out.new.items) }
+    ensures grows { Extends out.old.items out.new.items }
 {
     push_number(out, count.0.get())?;
-    push_part(out, b":", count.1)
+    push_part(out, ":", count.1)
 }
 
 fn push_fault(out: &mut Vec<u8>, fault: Fault) -> Result<(), AllocError>
     ensures ok { OnOk result (out.new.items ≡ out.old.items ++ fault_text fault) }
-    ensures err { OnErr result (Extends out.old.items out.new.items) }
+    ensures grows { Extends out.old.items out.new.items }
 {
     match fault {
-        Fault::BadSlots => out.extend_from_slice(b"F01 bad slots"),
-        Fault::BadReserve => out.extend_from_slice(b"F02 bad reserve"),
-        Fault::TooManyArenas => out.extend_from_slice(b"F03 too many arenas"),
-        Fault::OutOfNumbers => out.extend_from_slice(b"F04 out of numbers"),
-        Fault::NoArena => out.extend_from_slice(b"F05 no arena"),
-        Fault::Busy(seats) => push_part(out, b"F06 busy ", seats),
-        Fault::WantedRange => out.extend_from_slice(b"F07 wanted range"),
-        Fault::MandatoryRange => out.extend_from_slice(b"F08 mandatory range"),
-        Fault::BadValue => out.extend_from_slice(b"F09 bad value"),
-        Fault::TooManyControls => out.extend_from_slice(b"F10 too many controls"),
-        Fault::NoControl => out.extend_from_slice(b"F11 no control"),
-        Fault::AlreadyPlaced(arena) => push_part(out, b"F12 already placed ", arena.get()),
-        Fault::NotPlaced => out.extend_from_slice(b"F13 not placed"),
-        Fault::BadLevel => out.extend_from_slice(b"F14 bad level"),
+        Fault::BadSlots => push_text(out, "F01 bad slots"),
+        Fault::BadReserve => push_text(out, "F02 bad reserve"),
+        Fault::TooManyArenas => push_text(out, "F03 too many arenas"),
+        Fault::OutOfNumbers => push_text(out, "F04 out of numbers"),
+        Fault::NoArena => push_text(out, "F05 no arena"),
+        Fault::Busy(seats) => push_part(out, "F06 busy ", seats),
+        Fault::WantedRange => push_text(out, "F07 wanted range"),
+        Fault::MandatoryRange => push_text(out, "F08 mandatory range"),
+        Fault::BadValue => push_text(out, "F09 bad value"),
+        Fault::TooManyControls => push_text(out, "F10 too many controls"),
+        Fault::NoControl => push_text(out, "F11 no control"),
+        Fault::AlreadyPlaced(arena) => push_part(out, "F12 already placed ", arena.get()),
+        Fault::NotPlaced => push_text(out, "F13 not placed"),
+        Fault::BadLevel => push_text(out, "F14 bad level"),
     }
 }
 
 /// A label, and a number in decimal.
-fn push_part(out: &mut Vec<u8>, label: &[u8], number: u32) -> Result<(), AllocError>
+fn push_part(out: &mut Vec<u8>, label: &str, number: u32) -> Result<(), AllocError>
     ensures ok { OnOk result (out.new.items ≡ out.old.items ++ (label.now ++ decimal number)) }
-    ensures err { OnErr result (Extends out.old.items out.new.items) }
+    ensures grows { Extends out.old.items out.new.items }
 {
-    out.extend_from_slice(label)?;
+    push_text(out, label)?;
     push_number(out, number)
 }
 
 /// A number in decimal.
 fn push_number(out: &mut Vec<u8>, number: u32) -> Result<(), AllocError>
     ensures ok { OnOk result (out.new.items ≡ out.old.items ++ decimal number) }
-    ensures err { OnErr result (Extends out.old.items out.new.items) }
+    ensures grows { Extends out.old.items out.new.items }
 {
     let mut digits = Buffer::new();
-    out.extend_from_slice(digits.format(number).as_bytes())
+    push_text(out, digits.format(number))
+}
+
+fn push_text(out: &mut Vec<u8>, text: &str) -> Result<(), AllocError>
+    ensures ok { OnOk result (out.new.items ≡ out.old.items ++ text.now) }
+    ensures grows { Extends out.old.items out.new.items }
+{
+    out.extend_from_slice(text.as_bytes())
 }
