@@ -3,4 +3,4 @@ mod Steps
 mod Shares
 mod Views
 mod Runs
-pub mod Totals
+mod Totals

@@ -1,4 +1,4 @@
-use Rattle.std.proofs.Common.{◌≡◌, ℕ, zero, suc, ◌+◌, ◌<◌, ◌≤◌, true, false, cond, eqb, ltb, List, [], ◌∷◌, ◌++◌, refl, sym, ap, ◌∙◌, arith, inl, inr, zero-add}
+use Rattle.std.proofs.Common.{◌≡◌, ℕ, zero, suc, ◌+◌, ◌<◌, ◌≤◌, false, cond, eqb, List, [], ◌∷◌, refl, sym, ap, ◌∙◌, arith, inl, inr}
 use Rattle.std.specs.List.{All, count_by, sum_by, flat_map, range_with_len}
 use Rattle.std.proofs.lemmas.Bool.{both_ways, cases_eq, ne_eqb, eq-eqb, lt-ltb}
 use Rattle.std.proofs.lemmas.List.Elements.{All-head, All-tail}
@@ -6,8 +6,8 @@ use Rattle.std.proofs.lemmas.List.Sums.{sum_by-cons, sum_by-append}
 use Rattle.market_types.specs.State.{Arena, State}
 use Rattle.market_types.specs.Allotment.{at_level, share_of, carry_past, carried, count_at, assigned, demand, alloc, all_to, bound_of, limit_of, mandatory_pick, in_order}
 use Rattle.allotment.specs.Levels.{workers_of}
-use Rattle.market_core.proofs.Rows.{number_is, count_by-yes, count_by-no, none-count_by}
-use Rattle.market_core.proofs.Shares.{cond-yes, alloc-none}
+use Rattle.market_core.proofs.Rows.{number_is, count_by-yes, none-count_by}
+use Rattle.market_core.proofs.Shares.{alloc-none}
 use Rattle.market_core.specs.Allotted.{total_alloc}
 use Rattle.market_core.specs.Sound.{IsSound}
 
@@ -63,8 +63,13 @@ count_at-behind number workers rest (a ∷ arenas) h =
     let P : Arena → Type 0 = λ (b : Arena). number_is number b ≡ false in
     let apart : eqb number a.number ≡ false = ne_eqb number a.number (λ e. both_ways (eqb a.number number) (All-head P a arenas h) (eq-eqb a.number number (sym e))) in
     let here : count_at a.number ((number, workers) ∷ rest) ≡ count_at a.number rest = rw apart refl in
-    omega (arith, here, sum_by-cons (λ (b : Arena). count_at b.number ((number, workers) ∷ rest)) a arenas, sum_by-cons (λ (b : Arena). count_at b.number rest) a arenas,
-      count_at-behind number workers rest arenas (All-tail P a arenas h))
+    omega (
+      arith,
+      here,
+      sum_by-cons (λ (b : Arena). count_at b.number ((number, workers) ∷ rest)) a arenas,
+      sum_by-cons (λ (b : Arena). count_at b.number rest) a arenas,
+      count_at-behind number workers rest arenas (All-tail P a arenas h),
+    )
 
 -- arenas of different numbers are allotted what stands beside their numbers
 sum-counts : (K D : ℕ → ℕ) (carry : ℕ) (arenas : List Arena) → ((n : ℕ) → count_by (number_is n) arenas ≤ 1)
@@ -77,8 +82,14 @@ sum-counts K D carry (a ∷ arenas) h =
     none-count_by (number_is a.number) arenas (omega (arith, h a.number, count_by-yes (number_is a.number) a arenas (eq-eqb a.number a.number refl))) in
     let fewer : (n : ℕ) → count_by (number_is n) arenas ≤ 1 = λ n. omega (arith, h n, sum_by-cons (λ (b : Arena). cond (number_is n b) 1 0) a arenas) in
     let here : count_at a.number ((a.number, own) ∷ rest) ≡ own = rw (eq-eqb a.number a.number refl) refl in
-    omega (arith, here, sum_by-cons (λ (b : Arena). count_at b.number ((a.number, own) ∷ rest)) a arenas, sum_by-cons workers_of (a.number, own) rest,
-      count_at-behind a.number own rest arenas others, sum-counts K D (carry_past K D carry a) arenas fewer)
+    omega (
+      arith,
+      here,
+      sum_by-cons (λ (b : Arena). count_at b.number ((a.number, own) ∷ rest)) a arenas,
+      sum_by-cons workers_of (a.number, own) rest,
+      count_at-behind a.number own rest arenas others,
+      sum-counts K D (carry_past K D carry a) arenas fewer,
+    )
 
 -- ---- all allotments together
 

@@ -1,4 +1,4 @@
-use Rattle.std.proofs.Common.{arith, refl, subst, sym, ap, ◌≡◌, ◌∙◌}
+use Rattle.std.proofs.Common.{arith, subst, sym, ap, ◌∙◌}
 use Rattle.market_types.specs.State.{State}
 use Rattle.market_core.specs.Sound.{IsSound}
 use Rattle.market_core.proofs.Steps.{limits-same}
