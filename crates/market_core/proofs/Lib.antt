@@ -3,3 +3,4 @@ mod Steps
 mod Shares
 mod Views
 mod Runs
+mod Totals

@@ -1,6 +1,6 @@
-use Rattle.std.proofs.Common.{◌≡◌, ◌≢◌, ℕ, zero, suc, ◌+◌, ◌-◌, ◌*◌, ◌/◌, ◌%◌, ◌<◌, ◌≤◌, Bool, true, false, cond, eqb, ltb, List, [], ◌∷◌, ◌++◌, length, get_or, take, drop, min, replicate, Option, Some, None, refl, sym, ap, subst, ◌∙◌, arith, inl, inr, append_assoc}
+use Rattle.std.proofs.Common.{◌≡◌, ◌≢◌, ℕ, zero, suc, ◌+◌, ◌-◌, ◌*◌, ◌/◌, ◌%◌, ◌<◌, ◌≤◌, Bool, true, false, cond, eqb, ltb, List, [], ◌∷◌, ◌++◌, length, get_or, take, drop, min, Option, Some, None, refl, sym, ap, subst, ◌∙◌, arith, inl, inr, append_assoc}
 use Rattle.std.specs.Prelude.{slice_get, slice_index}
-use Rattle.std.specs.List.{All, count_by, filter, flat_map, list_any, range_with_len, sum}
+use Rattle.std.specs.List.{All, count_by, flat_map, list_any, range_with_len}
 use Rattle.std.proofs.lemmas.Bool.{cases_eq, ne_eqb, eq-eqb, cases_Bool, cases_lt, lt-ltb, le-ltb}
 use Rattle.std.proofs.lemmas.List.{take-append-drop, drop_more, get_or_past}
 use Rattle.std.proofs.lemmas.List.Elements.{All-get_or, All-append, All-filter, All-head, All-tail, filter-append}
@@ -8,9 +8,9 @@ use Rattle.std.proofs.lemmas.Option.{slice_get_within, get_or_from_slice_get}
 use Rattle.std.proofs.lemmas.List.Sums.{sum_by-cons, sum_by-append}
 use Rattle.market_types.specs.State.{Arena, State}
 use Rattle.market_types.specs.Claims.{request_of}
-use Rattle.market_types.specs.Allotment.{total_request, at_level, share_of, carry_past, carry_after, carried, count_at, assigned, demand, alloc, all_to, bound_of, limit_of, effective_limit_of, mandatory_pick, in_order, levels_of, active, is_just}
+use Rattle.market_types.specs.Allotment.{total_request, at_level, share_of, carry_past, carry_after, carried, count_at, assigned, demand, alloc, all_to, bound_of, limit_of, mandatory_pick, in_order, levels_of}
 use Rattle.allotment.specs.Levels.{AreDemandsOf, IsLeveled}
-use Rattle.market_core.proofs.Rows.{number_is, count_by-yes, count_by-no, none-count_by}
+use Rattle.market_core.proofs.Rows.{number_is, count_by-yes, none-count_by}
 use Rattle.market_core.proofs.Steps.{effective-unmandated}
 use Rattle.market_core.specs.Sound.{IsSound}
 
@@ -136,7 +136,7 @@ request-within arenas i row e =
 
 -- ---- what the market allots
 
-cond-yes : (b : Bool) (x y : ℕ) → b ≡ true → cond b x y ≡ x
+pub cond-yes : (b : Bool) (x y : ℕ) → b ≡ true → cond b x y ≡ x
 cond-yes true x y e = refl
 cond-yes false x y e = cc
 

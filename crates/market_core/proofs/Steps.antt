@@ -1,4 +1,4 @@
-use Rattle.std.proofs.Common.{◌≡◌, ℕ, ◌+◌, ◌<◌, ◌≤◌, Bool, true, false, cond, eqb, ltb, List, ◌∷◌, length, get_or, set, Some, None, Result, Ok, Err, ℤ, pos, ◌+ℤ◌, not, ◌||◌, refl, sym, ap, subst, ◌∙◌, arith, inl, inr}
+use Rattle.std.proofs.Common.{◌≡◌, ℕ, ◌+◌, ◌<◌, ◌≤◌, Bool, true, false, cond, ltb, List, [], ◌∷◌, length, get_or, set, Some, Ok, Err, ℤ, pos, ◌+ℤ◌, not, ◌||◌, refl, sym, ap, subst, ◌∙◌, arith, inl, inr}
 use Rattle.std.specs.Prelude.{◌==◌}
 use Rattle.std.specs.List.{All, count_by}
 use Rattle.std.proofs.lemmas.Bool.{cases_eq, ne_eqb, eq-eqb, le-ltb, lt-ltb, cases_lt}
@@ -8,8 +8,8 @@ use Rattle.std.proofs.lemmas.List.Sums.{sum_by-set}
 use Rattle.std.proofs.lemmas.List.{length-set}
 use Rattle.market_types.specs.State.{Claim, Arena, State}
 use Rattle.market_types.specs.Claims.{request_of, new_claim, added_claim, is_wanted, is_mandatory, natural}
-use Rattle.market_types.specs.Allotment.{has_mandatory, effective_limit_of, limit_of}
-use Rattle.market_types.specs.Step.{Outcome, arena_at, with_claim, request_step, refuse}
+use Rattle.market_types.specs.Allotment.{active_value, has_mandatory, effective_limit_of, limit_of}
+use Rattle.market_types.specs.Step.{limits_of, Outcome, arena_at, with_claim, request_step, refuse}
 use Rattle.market_types.specs.declared.reply.Fault.{Fault}
 use Rattle.market_types.specs.declared.reply.Fault.TheVariants.{BadSlots, BadReserve, WantedRange, MandatoryRange}
 use Rattle.market_types.specs.declared.reply.Reply.TheVariants.{Requested}
@@ -30,6 +30,14 @@ effective-unmandated s h =
       | inl p ↦ rw (lt-ltb 0 (limit_of s) p) refl
       | inr z ↦ rw (le-ltb 0 (limit_of s) z) (omega arith)
     ])
+
+-- the limits without controls
+pub limits-same : (s : State) (value limit : ℕ) → IsSound s → s.controls ≡ [] → value ≡ s.base → limit ≡ limit_of s
+    → record { value = value; limit = limit; effective = limit } ≡ limits_of s
+limits-same s value limit sound none e f =
+    let active : value ≡ active_value s.base s.controls = e ∙ sym (ap (active_value s.base) none) in
+    let effective : limit ≡ effective_limit_of s = f ∙ sym (effective-unmandated s sound) in
+    cc
 
 only_ok : (a b : Bool) (f g : Fault) (claim new : Claim) → Ok claim ≡ cond a (Err f) (cond b (Err g) (Ok new)) → claim ≡ new
 only_ok true b f g claim new e = cc

@@ -1,5 +1,5 @@
 use Rattle.std.proofs.Common.{◌≡◌, ℕ, zero, suc, ◌-◌, ◌≤◌, Bool, true, false, ltb, ℤ, pos, negsuc, cond, replicate, Some, None, refl, sym, ap, ◌∙◌, arith, inl, inr}
-use Rattle.std.specs.Prelude.{◌==◌, ◌&&◌, if◌then◌else◌}
+use Rattle.std.specs.Prelude.{◌==◌, ◌&&◌}
 use Rattle.std.specs.List.{count_by}
 use Rattle.std.specs.Option.{option_map}
 use Rattle.std.proofs.lemmas.Bool.{cases_eq, ne_eqb}
@@ -8,7 +8,7 @@ use Rattle.market_types.specs.Claims.{cap_of, clamp_total, request_of}
 use Rattle.market_types.specs.Allotment.{alloc, active, is_just, is_top}
 use Rattle.market_types.specs.Step.{arena_at, view_of}
 use Rattle.market_core.proofs.Rows.{count_by-no, arena_at-number}
-use Rattle.market_core.specs.Within.{IsWithin}
+use Rattle.market_core.specs.Allotted.{IsWithin}
 
 -- no seat is placed
 active-none : (a n : ℕ) → count_by (is_just a) (replicate n None) ≡ 0

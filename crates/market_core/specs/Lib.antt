@@ -1,4 +1,4 @@
 pub mod Sound
 pub mod Shown
 pub mod Memory
-pub mod Within
+pub mod Allotted

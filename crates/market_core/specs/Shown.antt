@@ -1,4 +1,4 @@
-use Rattle.std.specs.Prelude.{◌≤◌, [], None, replicate}
+use Rattle.std.specs.Prelude.{[], None, replicate}
 use Rattle.market_types.specs.State.{State}
 use Rattle.market_core.specs.declared.market.Market.TheInside.{Inside}
 use Rattle.market_core.specs.Sound.{IsSound}

@@ -10,7 +10,8 @@ use market_types::{Call, Reply};
 use std::alloc::{AllocError, Global};
 
 /// Applies calls in order, and gathers the replies: after any list of commands by any number of seats each reply is what
-/// the market gives as it then stands. After an `Err` the calls before one of them are applied, and no other is.
+/// the market gives as it then stands. The replies' places are reserved first. After an `Err` the calls before one of
+/// them are applied, and no other is.
 pub fn apply_all(
     alloc: Global,
     market: &mut Market,

@@ -11,3 +11,6 @@ mod row;
 
 pub use calls::apply_all;
 pub use market::Market;
+
+#[cfg(test)]
+mod tests;

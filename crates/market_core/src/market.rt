@@ -1,12 +1,16 @@
 //! The market, and what can be read of it.
-ghost use Rattle.std.specs.Prelude.{◌≡◌, ◌≤◌, length};
+ghost use Rattle.std.specs.Prelude.{◌≡◌, ◌≤◌, ◌<◌, length, IfOk};
+ghost use Rattle.market_types.specs.State.{opening};
 ghost use Rattle.market_types.specs.Opening.{opened_market, MemoryAside};
+ghost use Rattle.market_types.specs.Allotment.{limit_of, bound_of};
 ghost use Rattle.market_types.specs.Step.{limits_of};
+ghost use Rattle.market_core.specs.Allotted.{total_alloc};
 
 mod apply;
 mod view;
 
 use crate::row::ArenaRow;
+use allotment::bound_is_given_out;
 use market_types::{LimitView, OpenFault};
 use std::alloc::Global;
 use std::marker::Model;
@@ -48,6 +52,7 @@ impl Market {
         levels: u32,
     ) -> Result<Self, OpenFault>
         ensures exact { MemoryAside (opened_market base hard seats levels) result }
+        ensures opened { IfOk result (λ market. market ≡ opening base hard seats levels) }
     {
         if base == 0 || base > 65536 {
             return Err(OpenFault::BadBase);
@@ -72,7 +77,7 @@ impl Market {
         })
     }
 
-    /// What the active value is where no control lives, 1 to 65,536.
+    /// The value where no control lives, 1 to 65,536: the market's own limit on parallelism.
     pub fn base(&self) -> u32
         ensures exact { result ≡ self.now.base }
         ensures low { 1 ≤ result }
@@ -81,7 +86,7 @@ impl Market {
         self.base
     }
 
-    /// How many workers may be active at most, 1 to 65,535.
+    /// How many workers may be active whatever the value is, 1 to 65,535.
     pub fn hard(&self) -> u32
         ensures exact { result ≡ self.now.hard }
         ensures low { 1 ≤ result }
@@ -108,15 +113,26 @@ impl Market {
         self.levels
     }
 
-    /// How many workers may be active, and why.
+    /// How many workers may be active, and why. Where some may be, all arenas together are allotted what they ask for and
+    /// may have; where none may be, one at most.
     pub fn limits(&self) -> LimitView
         ensures exact { result ≡ limits_of self.now }
+        ensures given_out { 0 < limit_of self.now → total_alloc self.now ≡ bound_of self.now }
+        ensures one_at_most { limit_of self.now ≡ 0 → total_alloc self.now ≤ 1 }
     {
-        let limit = (self.base - 1).min(self.hard);
+        bound_is_given_out();
+        let limit = self.limit();
         LimitView {
             value: self.base,
             limit,
             effective: limit,
         }
+    }
+
+    /// How many workers may be active.
+    fn limit(&self) -> u32
+        ensures exact { result ≡ limit_of self.now }
+    {
+        (self.base - 1).min(self.hard)
     }
 }

@@ -1,6 +1,6 @@
 -- A command of clap's, step by step.
 use Rattle.std.proofs.Common.{◌≡◌, ◌∙◌, ◌||◌, Bool, true, false, refl, ap, ap₂, Option, Some, None, option_map}
-use Rattle.clap.specs.Simple.{App, app_of, app_of_fields, is_simple, with_rule, with_subcommand}
+use Rattle.clap.specs.Simple.{App, app_of, app_of_fields, is_simple, on_top, with_rule, with_subcommand}
 use Rattle.clap.specs.Faults.{is_simple_and_free}
 use Rattle.clap.proofs.OnLiterals.{clap_on_literals}
 use Rattle.market_prog.specs.Words.{market_app}
@@ -19,6 +19,18 @@ command_with_setting old new fields change app is changed globals was = record {
   is = ap app_of_fields is ∙ changed ∙ ap change was.is;
   local = ap (λ (f : Command-F Command). f.has_globals) is ∙ globals ∙ was.local;
 }
+
+-- with no argument at all, the command answers with its help
+pub command_with_help_asked : (old new : Command) (app : App) → out-Command new ≡ record (out-Command old) { arg_required_else_help = true } → IsCommandOf old app
+    → IsCommandOf new (on_top (λ s. record s { arg_required_else_help = true }) app)
+command_with_help_asked old new app is =
+    command_with_setting old new (record (out-Command old) { arg_required_else_help = true }) (on_top (λ s. record s { arg_required_else_help = true })) app is refl refl
+
+-- a subcommand is asked for
+pub command_with_subcommand_asked : (old new : Command) (app : App) → out-Command new ≡ record (out-Command old) { subcommand_required = true } → IsCommandOf old app
+    → IsCommandOf new (on_top (λ s. record s { subcommand_required = true }) app)
+command_with_subcommand_asked old new app is =
+    command_with_setting old new (record (out-Command old) { subcommand_required = true }) (on_top (λ s. record s { subcommand_required = true })) app is refl refl
 
 -- one more option
 pub command_with_arg : (old new : Command) (a : Arg) (app : App) (rule : Rule) → AddsArg old a new → rule_of a ≡ rule → a.global ≡ false → IsCommandOf old app

@@ -2,7 +2,8 @@
 
 /// At the end of `market --help`.
 pub(crate) const OF_MARKET: &str = "\
-It reads standard input and writes standard output.
+`market run` reads script lines from standard input, and answers each by a reply line on standard
+output. `market run --help` tells the commands.
 
 Example:
   $ printf '0 open 8 1 normal\\n0 request 1 3\\n' | market run
@@ -17,19 +18,23 @@ Exit status:
 
 /// At the end of `market run --help`.
 pub(crate) const OF_RUN: &str = "\
-It reads script lines from standard input, and answers each by one line on standard output,
-before it waits for the next. A line is SEAT COMMAND, its fields parted by one space, where
-SEAT is a number below N seats and COMMAND is one of these, with its answer:
+Standard input holds script lines, and standard output gets a reply line for each, written before
+the next line is waited for. A line is SEAT COMMAND, with one space between fields, SEAT being a
+number below --seats. The commands, with their replies:
 
-  open SLOTS [RESERVED [LEVEL]]  arena A
-  request ARENA WORKERS          request Q
-  show ARENA                     arena A request Q allot K top T active N recall R hire H
-  limit                          value V limit L effective E
+  open SLOTS [RESERVED [LEVEL]]  an arena is opened
+                                   arena A
+  request ARENA WORKERS          it asks for so many workers more, or fewer below 0
+                                   request Q
+  show ARENA                     what it is allotted
+                                   arena A request Q allot K top T active N recall R hire H
+  limit                          how many workers may be active
+                                   value V limit L effective E
 
-WORKERS may be negative. RESERVED is 1 where it is left out. LEVEL is a number from 1, the level
-that is served first; of three levels it may be high, normal or low. Left out it is the middle.
-A command that is refused is answered by its fault, as F05 no arena, and any other line by unread.
-Neither changes anything. An empty line, and one that begins with #, gets no answer.
+RESERVED is 1 unless it is given. LEVEL is a number from 1, the level that is served first, or with
+three levels one of high, normal and low; unless it is given it is the middle one. A refused
+command changes nothing and is answered by its fault, as `F05 no arena`. Any other line is answered
+`unread`. An empty line and one that begins with # are not answered.
 
 Example:
   $ printf '0 open 8 1 normal\\n0 request 1 3\\n' | market run

@@ -42,28 +42,28 @@ const BASE: NumberOption = NumberOption {
     name: "base",
     default: "8",
     high: 65_536,
-    help: "Parallelism while no control lives, 1 to 65536: fewer than N workers are active",
+    help: "Fewer than N workers are active while no control lives, 1 to 65536",
 };
 
 const HARD: NumberOption = NumberOption {
     name: "hard",
     default: "64",
     high: 65_535,
-    help: "How many workers there are at most, 1 to 65535",
+    help: "At most N workers are active, 1 to 65535",
 };
 
 const SEATS: NumberOption = NumberOption {
     name: "seats",
     default: "4",
     high: 64,
-    help: "How many seats give commands, 1 to 64; they are numbered from 0",
+    help: "N seats give commands, numbered from 0, 1 to 64",
 };
 
 const LEVELS: NumberOption = NumberOption {
     name: "levels",
     default: "3",
     high: 8,
-    help: "How many priority levels there are, 1 to 8",
+    help: "There are N priority levels, 1 to 8",
 };
 
 impl NumberOption {

@@ -1,11 +1,11 @@
 -- What lines read as, and what a script is told.
-use Rattle.std.specs.Prelude.{◌≡◌, ℕ, pos, negsuc, List, [], ◌∷◌, ◌++◌, Option, Some, None, codes, refl}
+use Rattle.std.specs.Prelude.{◌≡◌, ℕ, pos, negsuc, List, [], ◌∷◌, Option, Some, None, codes, refl}
 use Rattle.std.specs.Fmt.{digits}
 use Rattle.market_types.specs.declared.command.Cmd.{Cmd}
 use Rattle.market_types.specs.declared.command.Cmd.TheVariants.{Open, Request, Limit}
 use Rattle.market_types.specs.State.{opening}
-use Rattle.market_types.specs.Reading.{line_reading, number, signed, level, command_of, call_of, reading, spellings}
-use Rattle.market_types.specs.Script.{Told, told, answer_of, script_lines}
+use Rattle.market_types.specs.Reading.{line_reading, number, signed, level, command_of, spellings}
+use Rattle.market_types.specs.Script.{told, answer_of, script_lines}
 
 -- a line of a market of 4 seats and so many levels
 abbrev line : ℕ → List ℕ → Option (ℕ × Cmd)

@@ -1,5 +1,5 @@
 -- What grows by texts.
-use Rattle.std.proofs.Common.{◌≡◌, ℕ, List, [], ◌++◌, subst, ap, sym, ◌∙◌, refl, append-nil, append_assoc}
+use Rattle.std.proofs.Common.{ℕ, List, [], ◌++◌, subst, ap, sym, ◌∙◌, append-nil, append_assoc}
 use Rattle.std.specs.Str.{IsUtf8}
 use Rattle.std.proofs.lemmas.Str.{IsUtf8-append, IsUtf8-nil}
 use Rattle.market_types.specs.Written.{Extends}

@@ -41,6 +41,10 @@ spellings levels (Request arena workers mandatory) =
     ∷ if_allowed (is_zero mandatory) (codes "request " ++ (decimal arena ++ (codes " " ++ signed_decimal workers)))
 spellings levels cmd = cmd_text levels cmd ∷ []
 
+-- the lines that spell a seat's command: the seat, one space, and a text that spells the command
+abbrev pub line_spellings : ℕ → ℕ → Cmd → List (List ℕ)
+line_spellings levels seat cmd = map (λ text. decimal seat ++ (codes " " ++ text)) (spellings levels cmd)
+
 -- the numbers of a command that can be written
 abbrev pub FitsLevel : ℕ → Type 0
 FitsLevel level = (1 ≤ level) × (level ≤ 8)

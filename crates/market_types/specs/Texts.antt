@@ -1,5 +1,5 @@
 -- The written texts of commands, faults and replies: bytes of ASCII, numbers in decimal.
-use Rattle.std.specs.Prelude.{ℕ, ℤ, List, [], ◌∷◌, ◌++◌, map, Bool, true, false, if◌then◌else◌, ◌==◌, ◌&&◌, nat_le, codes, decimal}
+use Rattle.std.specs.Prelude.{ℕ, List, [], ◌∷◌, ◌++◌, map, Bool, true, false, if◌then◌else◌, ◌==◌, ◌&&◌, nat_le, codes, decimal}
 use Rattle.std.specs.Fmt.{signed_decimal}
 use Rattle.std.specs.List.{join_with_byte}
 use Rattle.market_types.specs.declared.command.Cmd.{Cmd}
@@ -12,7 +12,6 @@ use Rattle.market_types.specs.declared.reply.ArenaView.{ArenaView}
 use Rattle.market_types.specs.declared.reply.LimitView.{LimitView}
 use Rattle.market_types.specs.declared.reply.Reply.{Reply}
 use Rattle.market_types.specs.declared.reply.Reply.TheVariants.{Opened, Closed, Moved, Resized, Requested, Controlled, Uncontrolled, Placed, Idle, Stays, Recalled, Left, Shown, Listed, Limits, Refused}
-use Rattle.market_types.specs.Counts.{Counts}
 
 -- ---- commands
 

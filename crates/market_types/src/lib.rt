@@ -1,5 +1,9 @@
 //! The words that every crate of the market speaks: the numbers of arenas, controls and seats, levels, commands and
-//! replies. `specs/` says what the market is: its state, what each arena is allotted, and what each command does.
+//! replies; their texts, read and written; and the devices that bytes come from and go to.
+//!
+//! `specs/` says what the market is: its state (`State`), one arena (`Claims`), who is allotted how many workers
+//! (`Allotment`), what each command does (`Step`), lists of commands (`History`), and the bytes (`Reading`, `Texts`,
+//! `Script`). `proofs/Examples` and `proofs/TextRows` hold worked examples of it.
 #![tactic(auto)]
 
 mod command;
@@ -9,6 +13,7 @@ mod number;
 mod reading;
 mod reply;
 mod row;
+mod spelling;
 mod std_device;
 mod test_device;
 mod writing;
@@ -20,6 +25,7 @@ pub use number::{ArenaId, ControlId, SeatNo};
 pub use reading::{read_cmd, read_line};
 pub use reply::{ArenaView, Entry, Fault, LimitView, Lists, OpenFault, Reply};
 pub use row::Row;
+pub use spelling::{lines_spell_calls, texts_spell_commands};
 pub use std_device::{ReadSource, WriteSink};
 pub use test_device::{Refusal, TestSink, TestSource};
 pub use writing::{cmd_text, open_fault_text, push_reply, reply_text};

@@ -17,8 +17,9 @@ const MOST_ARENAS: usize = 1024;
 const LAST_NUMBER: u32 = 1048576;
 
 impl Market {
-    /// Does what a seat asks, or refuses it. Only commands that may take memory can give an `Err`, and after one the
-    /// market is as before.
+    /// Does what a seat asks, or refuses it: the first refusal that applies is the reply, and changes nothing. Only
+    /// commands that may take memory can give an `Err`, and after one the market is as before. The command is one that
+    /// the market serves, and the seat one that it has. Each command walks over the arenas at most.
     pub fn apply(&mut self, alloc: Global, seat: SeatNo, cmd: Cmd) -> Result<Reply, AllocError>
         requires served { IsTrue (is_served cmd) }
         requires seat { seat < length self.old.seats }

@@ -4,7 +4,7 @@ ghost use Rattle.market_types.specs.Claims.{request_of};
 ghost use Rattle.market_types.specs.Allotment.{alloc, is_top};
 ghost use Rattle.market_types.specs.Step.{arena_at, view_of};
 ghost use Rattle.allotment.specs.Levels.{AreDemandsOf};
-ghost use Rattle.market_core.specs.Within.{IsWithin};
+ghost use Rattle.market_core.specs.Allotted.{IsWithin};
 
 use super::Market;
 use crate::demand::{demand_of, demands_of, sum_of};
@@ -13,7 +13,8 @@ use allotment::{assign, bound_is_given_out, no_carry_to_keep, share, top_level};
 use market_types::{ArenaId, ArenaView};
 
 impl Market {
-    /// What is seen of an arena, or `None` where no living arena has this number. It takes no memory, and walks over
+    /// What is seen of an arena, or `None` where no living arena has this number. An arena is allotted no more than it
+    /// asks for, asks for no more than it can use, and can use no more than its slots. It takes no memory, and walks over
     /// the arenas.
     pub fn view(&self, arena: ArenaId) -> Option<ArenaView>
         ensures exact { result ≡ option_map (view_of self.now) (arena_at arena self.now.arenas) }
@@ -51,7 +52,8 @@ impl Market {
         ensures no_more_than_asked { result ≤ request_of row.now.claim }
     {
         let rows = &self.rows;
-        let limit = self.limits().limit;
+        let limit = self.limit();
+        // Where no worker may be active, enqueued work alone is served, and there is none.
         if limit == 0 {
             return 0;
         }

@@ -49,7 +49,7 @@ fn help_is_no_mistake(rt: HostRuntime) {
         (
             &["market", "run", "--help"],
             0,
-            "before it waits for the next",
+            "the next line is waited for",
         ),
     ];
     for (words, status, text) in lines {

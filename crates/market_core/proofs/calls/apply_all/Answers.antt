@@ -1,8 +1,7 @@
-use Rattle.std.proofs.Common.{rules, arith, ◌≡◌, ◌<◌, length, sym, ap, ◌∙◌, take}
+use Rattle.std.proofs.Common.{arith, sym, ap, ◌∙◌}
 use Rattle.std.proofs.lemmas.Grind.{common_steps}
 use Rattle.market_types.specs.State.{State}
 use Rattle.market_types.specs.Step.{step}
-use Rattle.market_types.specs.History.{replies_to, state_after}
 use Rattle.market_core.proofs.Runs.{state_after_more}
 use Rattle.market_core.proofs.calls.apply_all.Goals as goal
 

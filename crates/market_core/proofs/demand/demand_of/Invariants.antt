@@ -1,4 +1,4 @@
-use Rattle.std.proofs.Common.{◌≡◌, ℕ, ◌*◌, ◌≤◌, take}
+use Rattle.std.proofs.Common.{◌≡◌, ◌*◌, ◌≤◌, take}
 use Rattle.market_types.specs.Allotment.{at_level, total_request}
 use Rattle.market_core.proofs.demand.demand_of.Given as goal
 

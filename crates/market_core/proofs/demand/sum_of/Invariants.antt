@@ -1,4 +1,4 @@
-use Rattle.std.proofs.Common.{◌≡◌, ℕ, ◌*◌, ◌≤◌, sum, take}
+use Rattle.std.proofs.Common.{◌≡◌, ◌*◌, ◌≤◌, sum, take}
 use Rattle.market_core.proofs.demand.sum_of.Given as goal
 
 abbrev pub invariant-loop-demand : goal.invariant-loop-demand

@@ -1,4 +1,4 @@
-use Rattle.std.proofs.Common.{◌≡◌, ◌∙◌}
+use Rattle.std.proofs.Common.{◌∙◌}
 use Rattle.market_types.proofs.Counts.{counts-step}
 use Rattle.market_types.proofs.Written.{extends_trans}
 use Rattle.market_types.proofs.writing.push_more_counts.Goals as goal

@@ -1,8 +1,7 @@
-use Rattle.std.proofs.Common.{length-take-le, arith, refl, sym, ap, subst, ◌≡◌, ◌∙◌, ◌+◌, ◌-◌, ◌*◌, ◌/◌, ◌%◌, ◌<◌, ◌≤◌, ℕ, Some, List, length, take, min}
-use Rattle.std.specs.Prelude.{slice_get, slice_index, sum}
+use Rattle.std.proofs.Common.{length-take-le, arith, sym, ap, subst, ◌≡◌, ◌∙◌, ◌+◌, ◌-◌, ◌<◌, ◌≤◌, take}
+use Rattle.std.specs.Prelude.{slice_index}
 use Rattle.std.proofs.lemmas.Option.{slice_get_within}
-use Rattle.market_types.specs.declared.reply.LimitView.{LimitView}
-use Rattle.market_types.specs.State.{Arena, State}
+use Rattle.market_types.specs.State.{State}
 use Rattle.market_types.specs.Claims.{request_of}
 use Rattle.market_types.specs.Allotment.{total_request, at_level, demand, assigned, limit_of, bound_of}
 use Rattle.market_core.specs.Sound.{IsSound}
@@ -14,14 +13,14 @@ pub returns-then-limit-eq0 : goal.returns-then-limit-eq0
 returns-then-limit-eq0 c =
     let s = c.args.self.now in
     let sound : IsSound s = subst IsSound c.self.view_is c.self.invariant in
-    let none : limit_of s ≡ 0 = ap (λ (v : LimitView). v.limit) (sym c.limits-limit.ensures.exact) ∙ c.if-limit-eq0.true in
+    let none : limit_of s ≡ 0 = sym c.limit-limit.ensures.exact ∙ c.if-limit-eq0.true in
     record { exact = sym (alloc-none s c.args.row.now.number sound none); no_more_than_asked = omega arith }
 
 pub returns-then-request-eq0 : goal.returns-then-request-eq0
 returns-then-request-eq0 c =
     let s = c.args.self.now in
     let sound : IsSound s = subst IsSound c.self.view_is c.self.invariant in
-    let limit : c.limits-limit.result.limit ≡ limit_of s = ap (λ (v : LimitView). v.limit) c.limits-limit.ensures.exact in
+    let limit : c.limit-limit.result ≡ limit_of s = c.limit-limit.ensures.exact in
     let some : 0 < limit_of s = omega (arith, limit, c.if-limit-eq0.false) in
     let idle : request_of c.args.row.now.claim ≡ 0 = sym c.request-request.ensures.exact ∙ c.if-request-eq0.true in
     record { exact = sym (alloc-idle s c.args.place c.args.row.now sound c.requires.there some (c.no_carry_to_keep.ensures.after_a_level s (assigned s)) idle); no_more_than_asked = omega arith }
@@ -65,7 +64,7 @@ returns c =
     let row = c.args.row.now in
     let sound : IsSound s = subst IsSound c.self.view_is c.self.invariant in
     let level = level-within s c.args.place row sound c.requires.there in
-    let limit : c.limits-limit.result.limit ≡ limit_of s = ap (λ (v : LimitView). v.limit) c.limits-limit.ensures.exact in
+    let limit : c.limit-limit.result ≡ limit_of s = c.limit-limit.ensures.exact in
     let some : 0 < limit_of s = omega (arith, limit, c.if-limit-eq0.false) in
     let total : c.sum_of.result ≡ total_request s.arenas = c.sum_of.ensures.exact ∙ c.bound_is_given_out.ensures.asked s c.args.demands.now sound.leveled c.requires.demanded in
     let bound : c.min.result ≡ bound_of s = c.min.ensures ∙ bound-computed s c.sum_of.result c.from.result sound total (c.from.ensures ∙ limit) in

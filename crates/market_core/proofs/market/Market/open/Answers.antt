@@ -1,4 +1,4 @@
-use Rattle.std.proofs.Common.{arith, refl}
+use Rattle.std.proofs.Common.{arith}
 use Rattle.market_core.specs.Shown.{shown}
 use Rattle.market_core.proofs.Steps.{IsSound-opened, new_claim-unmandated}
 use Rattle.market_core.proofs.market.Market.open.Goals as goal

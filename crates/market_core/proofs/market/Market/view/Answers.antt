@@ -1,6 +1,6 @@
-use Rattle.std.proofs.Common.{arith, refl, sym, ap, ◌≡◌, ◌∙◌, ◌≤◌, ◌<◌, Some, length, get_or}
+use Rattle.std.proofs.Common.{arith, sym, ap, ◌≡◌, ◌∙◌, ◌≤◌, ◌<◌, Some, length, get_or}
 use Rattle.std.proofs.lemmas.List.{get_or_read}
-use Rattle.market_types.specs.State.{Arena, State}
+use Rattle.market_types.specs.State.{State}
 use Rattle.market_types.specs.Claims.{request_of}
 use Rattle.market_types.specs.Allotment.{alloc}
 use Rattle.market_types.specs.Step.{arena_at}

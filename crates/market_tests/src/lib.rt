@@ -1,0 +1,10 @@
+//! Tests that cross crates: whole scripts answered by the engine over devices in memory, with values worked out by hand
+//! from the market's rules, and the market's own calls at their limits.
+#![tactic(auto)]
+
+#[cfg(test)]
+mod devices;
+#[cfg(test)]
+mod limits;
+#[cfg(test)]
+mod scripts;

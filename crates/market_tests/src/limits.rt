@@ -1,0 +1,112 @@
+//! The market at its limits.
+ghost use Rattle.std.specs.Prelude.{◌≡◌, ◌<◌, length, IsTrue};
+ghost use Rattle.market_types.specs.Commands.{is_served};
+
+use market_core::{Market, apply_all};
+use market_types::{ArenaId, Call, Cmd, Fault, Level, OpenFault, Reply, SeatNo};
+use std::alloc::Global;
+use std::process::Abort;
+use std::rt::HostRuntime;
+
+/// The market's answer to seat 0.
+fn answer(rt: &impl Abort, alloc: Global, market: &mut Market, cmd: Cmd) -> Reply
+    requires served { IsTrue (is_served cmd) }
+{
+    let _ = market.seats();
+    let Ok(reply) = market.apply(alloc, SeatNo::new(0), cmd) else {
+        panic!(rt; "no memory");
+    };
+    reply
+}
+
+fn level(rt: &impl Abort, number: u32) -> Level {
+    let Some(level) = Level::new(number) else {
+        panic!(rt; "no level");
+    };
+    level
+}
+
+#[test]
+fn a_thousand_arenas_share_all_workers(rt: HostRuntime) {
+    let Ok(mut market) = Market::new(rt.alloc(), 65536, 65535, 4, 3) else {
+        panic!(&rt; "no market");
+    };
+    let normal = level(&rt, 2);
+    for number in 1..1025 {
+        let opened = answer(&rt, rt.alloc(), &mut market, Cmd::Open(65535, 0, normal));
+        assert!(&rt; matches!(opened, Reply::Opened(arena) if arena == ArenaId::new(number)));
+        let asked = answer(
+            &rt,
+            rt.alloc(),
+            &mut market,
+            Cmd::Request(ArenaId::new(number), 65535, 0),
+        );
+        assert!(&rt; matches!(asked, Reply::Requested(65535)));
+    }
+    for number in 1..1025 {
+        let Some(view) = market.view(ArenaId::new(number)) else {
+            panic!(&rt; "no arena");
+        };
+        let due = if number == 1024 { 63 } else { 64 };
+        assert!(&rt; view.allot == due);
+    }
+    let refused = answer(&rt, rt.alloc(), &mut market, Cmd::Open(65535, 0, normal));
+    assert!(&rt; matches!(refused, Reply::Refused(Fault::TooManyArenas)));
+}
+
+#[test]
+fn an_opening_names_its_first_bad_number(rt: HostRuntime) {
+    let bad = [
+        (0, 0, 0, 0, OpenFault::BadBase),
+        (65537, 64, 4, 3, OpenFault::BadBase),
+        (8, 0, 0, 0, OpenFault::BadHard),
+        (8, 65536, 4, 3, OpenFault::BadHard),
+        (8, 64, 0, 0, OpenFault::BadSeats),
+        (8, 64, 65, 3, OpenFault::BadSeats),
+        (8, 64, 4, 0, OpenFault::BadLevels),
+        (8, 64, 4, 9, OpenFault::BadLevels),
+    ];
+    for (base, hard, seats, levels, due) in bad {
+        let opened = Market::new(rt.alloc(), base, hard, seats, levels);
+        assert!(&rt; matches!(opened, Err(fault) if fault == due));
+    }
+}
+
+#[test]
+fn a_market_tells_what_it_was_opened_with(rt: HostRuntime) {
+    let Ok(market) = Market::new(rt.alloc(), 65536, 65535, 64, 8) else {
+        panic!(&rt; "no market");
+    };
+    assert!(&rt; market.base() == 65536);
+    assert!(&rt; market.hard() == 65535);
+    assert!(&rt; market.seats() == 64);
+    assert!(&rt; market.levels() == 8);
+    assert!(&rt; market.limits().limit == 65535);
+}
+
+#[test]
+fn a_list_of_commands_is_answered_in_order(rt: HostRuntime) {
+    let Ok(mut market) = Market::new(rt.alloc(), 8, 64, 4, 3) else {
+        panic!(&rt; "no market");
+    };
+    let seat = SeatNo::new(3);
+    let arena = ArenaId::new(1);
+    let calls = [
+        Call {
+            seat,
+            cmd: Cmd::Open(8, 1, level(&rt, 2)),
+        },
+        Call {
+            seat,
+            cmd: Cmd::Request(arena, 3, 0),
+        },
+        Call {
+            seat,
+            cmd: Cmd::Show(arena),
+        },
+    ];
+    let Ok(replies) = apply_all(rt.alloc(), &mut market, &calls) else {
+        panic!(&rt; "no memory");
+    };
+    assert!(&rt; matches!(&replies[2], Reply::Shown(view) if view.allot == 3 && view.hire == 3));
+}
