@@ -1,6 +1,6 @@
 //! The engine that runs a script.
 ghost use Rattle.std.specs.Prelude.{◌≡◌, ◌↔◌, ℕ, ◌+◌, ◌<◌, ◌≤◌, ◌++◌, List, [], length, vec_len, take, true, false, IsOk, IsErr, Ok, Err, OnOk, OnErr, IfOk, IfErr};
-ghost use Rattle.std.specs.Io.KnownBytes.{Consumes};
+ghost use Rattle.std.specs.Io.KnownBytes.{Consumes, IsAtEnd};
 ghost use Rattle.market_types.specs.declared.reply.OpenFault.{OpenFault};
 ghost use Rattle.market_types.specs.State.{opening};
 ghost use Rattle.market_types.specs.Opening.{opened_market};
@@ -38,6 +38,7 @@ fn read_piece<R: Source>(source: &mut R, buffer: &mut [u8], total: usize) -> Res
     ensures working { OnOk result (R.failed source.new ≡ false) }
     ensures more { IfOk result (λ n. 0 < n → R.ended source.new ≡ false) }
     ensures end { IfOk result (λ n. n ≡ 0 → R.ended source.new ≡ true) }
+    ensures all { IfOk result (λ n. n ≡ 0 → IsAtEnd (R.left source.new)) }
     ensures breaks_off { IfErr result (λ fault. BreaksOff (R.left source.old) (R.left source.new) total (R.failed source.new) fault) }
     ensures none_given { result ≡ Err RunFault.Read → Consumes (R.left source.old) (R.left source.new) [] }
 {
@@ -64,6 +65,7 @@ fn run_lines<R: Source, W: Sink>(
     requires sink_working { W.failed sink.old ≡ false }
     ensures answers { IfOk result (λ unread. Answers lines.old.session.market (R.left source.old) (R.left source.new) (W.taken sink.old) (W.taken sink.new) unread) }
     ensures end { OnOk result (R.ended source.new ≡ true) }
+    ensures whole { OnOk result (IsAtEnd (R.left source.new)) }
     ensures working { OnOk result ((R.failed source.new ≡ false) × (W.failed sink.new ≡ false)) }
     ensures stops { IfErr result (λ fault. Stops lines.old.session.market (R.left source.old) (R.left source.new) (W.taken sink.old) (W.taken sink.new) (R.failed source.new) (W.failed sink.new) fault) }
     ensures prompt { result ≡ Err RunFault.Read → HandsOver lines.old.session.market (R.left source.old) (R.left source.new) (W.taken sink.old) (W.taken sink.new) }
@@ -105,6 +107,7 @@ pub fn run_script<R: Source, W: Sink>(
     // The whole script is read and answered.
     ensures answers { IfOk result (λ unread. Answers (opening base hard seats levels) (R.left source.old) (R.left source.new) (W.taken sink.old) (W.taken sink.new) unread) }
     ensures end { OnOk result (R.ended source.new ≡ true) }
+    ensures whole { OnOk result (IsAtEnd (R.left source.new)) }
     ensures working { OnOk result ((R.failed source.new ≡ false) × (W.failed sink.new ≡ false)) }
 
     // After a fault a prefix of the replies is written; before a read that fails, all replies to ended lines are.
