@@ -7,8 +7,6 @@ ghost use Rattle.market_types.specs.Reading.{alone, call_of, command_of, if_serv
 use crate::command::Cmd;
 use crate::level::Level;
 use crate::number::{ArenaId, ControlId, SeatNo};
-use memchr::memchr;
-
 /// The seat and the command that a line of a script spells, as `0 open 8 1 normal`: a seat below the number of seats,
 /// one space, and a command as `read_cmd` reads it. None for every other line. Takes no memory.
 #[tactic(auto, unfolding(crate::specs::Reading::line_reading))]
@@ -190,8 +188,13 @@ fn cut_space(text: &[u8]) -> Option<(&[u8], &[u8])>
     ensures some { IfSome result (λ p. (text.now ≡ p.0.now ++ 32 ∷ p.1.now) × All (λ x. is_space x ≡ false) p.0.now) }
     ensures none { IfNone result (All (λ x. is_space x ≡ false) text.now) }
 {
-    let at = memchr(b' ', text)?;
-    Some((&text[..at], &text[at + 1..]))
+    // Fields are short: a search by vectors is slower.
+    for (at, byte) in text.iter().enumerate() {
+        if *byte == b' ' {
+            return Some((&text[..at], &text[at + 1..]));
+        }
+    }
+    None
 }
 
 /// The first field, and what follows its space, if it has one.

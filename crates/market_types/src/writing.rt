@@ -18,31 +18,22 @@ pub fn cmd_text(alloc: Global, cmd: &Cmd, levels: u32) -> Result<String, AllocEr
     ensures exact { IfOk result (λ text. string_bytes text ≡ cmd_text levels cmd.now) }
 {
     match cmd {
-        Cmd::Open(slots, reserved, level) => format!(in alloc;
-            "open {} {} {}",
-            slots,
-            reserved,
-            level_text(*level, levels)
-        ),
+        Cmd::Open(slots, reserved, level) => {
+            let level = level_text(*level, levels);
+            format!(in alloc; "open {slots} {reserved} {level}")
+        }
         Cmd::Close(arena) => format!(in alloc; "close {}", arena.get()),
-        Cmd::Priority(arena, level) => format!(in alloc;
-            "priority {} {}",
-            arena.get(),
-            level_text(*level, levels)
-        ),
-        Cmd::Resize(arena, slots, reserved) => format!(in alloc;
-            "resize {} {} {}",
-            arena.get(),
-            slots,
-            reserved
-        ),
-        Cmd::Request(arena, workers, mandatory) => format!(in alloc;
-            "request {} {} {}",
-            arena.get(),
-            workers,
-            mandatory
-        ),
-        Cmd::Control(value) => format!(in alloc; "control {}", value),
+        Cmd::Priority(arena, level) => {
+            let level = level_text(*level, levels);
+            format!(in alloc; "priority {} {level}", arena.get())
+        }
+        Cmd::Resize(arena, slots, reserved) => {
+            format!(in alloc; "resize {} {slots} {reserved}", arena.get())
+        }
+        Cmd::Request(arena, workers, mandatory) => {
+            format!(in alloc; "request {} {workers} {mandatory}", arena.get())
+        }
+        Cmd::Control(value) => format!(in alloc; "control {value}"),
         Cmd::Uncontrol(control) => format!(in alloc; "uncontrol {}", control.get()),
         Cmd::Join => String::from_str(alloc, "join"),
         Cmd::Stay => String::from_str(alloc, "stay"),
