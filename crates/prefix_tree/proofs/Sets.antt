@@ -77,6 +77,7 @@ fits_right s q m {d} {b} t a k h e =
     let le : requests t.0 ≤ requests b.right.0 + q = rw e (set-requests-le s q m b.right.0 (parts b.left.0 b.row b.right.0 g.ordered).right) in
     omega (arith, g.summed.sum, requests-node b.left.0 b.row b.right.0, node_requests a, k.sum)
 
+-- nor on the left
 pub fits_left : (s q : ℕ) (m : Bool) {d : List Row × ℕ} {b : Node} (t : List Row × ℕ) → AtNode d b → IsSmall d → q < 2 ^ 31 → t.0 ≡ set_row s q m b.left.0 → b.sum - requests b.left.0 + requests t.0 < 2 ^ 32
 fits_left s q m {d} {b} t a k h e =
     let g = a.sound in
