@@ -1,5 +1,5 @@
 -- What may stand together before and after a rotation.
-use Rattle.std.proofs.Common.{◌≡◌, ℕ, ◌+◌, ◌^◌, ◌<◌, ◌≤◌, List, ◌∷◌, ◌++◌, length, subst, append_assoc, arith}
+use Rattle.std.proofs.Common.{◌≡◌, ℕ, ◌+◌, ◌^◌, ◌<◌, List, ◌∷◌, ◌++◌, length, subst, append_assoc, arith}
 use Rattle.market_types.specs.declared.row.Row.{Row}
 use Rattle.prefix_tree.specs.Rows.{IsNewestFirst, requests}
 use Rattle.prefix_tree.specs.Nodes.{CanJoin, OpensTo, IsFilled}

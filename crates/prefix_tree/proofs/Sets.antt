@@ -1,6 +1,5 @@
 -- A node after the row of a stamp at or below it was set.
 use Rattle.std.proofs.Common.{◌≡◌, Bool, ℕ, ◌+◌, ◌-◌, ◌<◌, ◌≤◌, ◌^◌, List, [], ◌∷◌, ◌++◌, length, refl, ap, sym, ◌∙◌, arith, eqb, true, false, cond}
-use Rattle.std.specs.Prelude.{max}
 use Rattle.std.proofs.lemmas.Bool.{eqb-true}
 use Rattle.market_types.specs.declared.row.Row.{Row}
 use Rattle.prefix_tree.specs.declared.node.Node.{Node}
@@ -8,7 +7,7 @@ use Rattle.prefix_tree.specs.Rows.{IsNewestFirst, requests, set_row}
 use Rattle.prefix_tree.specs.Nodes.{mandates, one_if, rows_in, IsSoundNode, IsSmall}
 use Rattle.prefix_tree.proofs.Ordered.{newest-tail, under_here, absent_above, parts}
 use Rattle.prefix_tree.proofs.AtNode.{AtNode, whole_node, node_requests}
-use Rattle.prefix_tree.proofs.Readings.{requests-cons, requests-node, mandates-node, mandates-le, length-node}
+use Rattle.prefix_tree.proofs.Readings.{requests-cons, requests-node, mandates-node}
 use Rattle.prefix_tree.proofs.Changes.{set-none, set_left, set_right, set_here, set-newest, set-length}
 
 -- a request that is set adds at most itself

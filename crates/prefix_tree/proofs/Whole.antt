@@ -1,6 +1,6 @@
 -- A whole tree: small enough for the code's numbers, and a tree again after each change.
-use Rattle.std.proofs.Common.{◌≡◌, Bool, ℕ, ◌+◌, ◌*◌, ◌<◌, ◌≤◌, Option, Some, None, List, [], ◌∷◌, length, arith}
-use Rattle.std.specs.Prelude.{All, IfSome}
+use Rattle.std.proofs.Common.{◌≡◌, Bool, ℕ, ◌*◌, ◌<◌, ◌≤◌, Option, Some, None, List, [], ◌∷◌, length, arith}
+use Rattle.std.specs.Prelude.{IfSome}
 use Rattle.std.proofs.lemmas.List.Elements.{All-head, All-tail}
 use Rattle.market_types.specs.declared.row.Row.{Row}
 use Rattle.prefix_tree.specs.Bits.{bits}
@@ -8,7 +8,7 @@ use Rattle.prefix_tree.specs.Rows.{IsAbsent, HasLowRequests, requests, insert_ro
 use Rattle.prefix_tree.specs.Nodes.{IsTree, IsSmall, IsFilled}
 use Rattle.prefix_tree.proofs.Heights.{height-le-rows, height-le-bits}
 use Rattle.prefix_tree.proofs.Readings.{requests-cons}
-use Rattle.prefix_tree.proofs.Changes.{absent_without, insert-low, insert-newest, insert-length, without-low, without-newest, without-length, set-low, set-newest, set-length, row-fewer}
+use Rattle.prefix_tree.proofs.Changes.{insert-low, insert-newest, insert-length, without-low, without-newest, without-length, set-low, set-newest, set-length, row-fewer}
 
 -- low requests add up to at most 65,535 a row
 pub requests-le : (l : List Row) → HasLowRequests l → requests l ≤ 65535 * length l
