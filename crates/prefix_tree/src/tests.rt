@@ -124,11 +124,21 @@ impl Pair {
 
     /// The newest mandated row, by a walk over all.
     fn newest_mandated(&self) -> Option<Row> {
-        self.list.iter().filter(|row| row.mandated).max_by_key(|row| row.stamp).copied()
+        self.list
+            .iter()
+            .filter(|row| row.mandated)
+            .max_by_key(|row| row.stamp)
+            .copied()
     }
 
     /// Inserts a row on both sides.
-    fn insert(&mut self, alloc: Global, stamp: u32, request: u32, mandated: bool) -> Result<(), AllocError>
+    fn insert(
+        &mut self,
+        alloc: Global,
+        stamp: u32,
+        request: u32,
+        mandated: bool,
+    ) -> Result<(), AllocError>
         requires { request ≤ 65535 }
     {
         if insert(&mut self.tree, alloc, row(stamp, request, mandated))? {
