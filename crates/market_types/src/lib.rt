@@ -9,6 +9,8 @@ mod reading;
 mod reply;
 mod row;
 mod spelling;
+#[cfg(test)]
+mod text_tests;
 mod writing;
 
 pub use command::{Call, Cmd};
