@@ -3,6 +3,7 @@
 #![tactic(auto)]
 
 mod command;
+mod field;
 mod level;
 mod number;
 mod reading;
