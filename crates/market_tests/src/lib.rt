@@ -8,3 +8,5 @@ mod devices;
 mod limits;
 #[cfg(test)]
 mod scripts;
+#[cfg(test)]
+mod texts;

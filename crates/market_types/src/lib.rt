@@ -8,6 +8,7 @@
 
 mod command;
 mod device;
+mod field;
 mod level;
 mod number;
 mod reading;

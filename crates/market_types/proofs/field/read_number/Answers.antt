@@ -1,6 +1,6 @@
 use Rattle.std.proofs.Common.{◌∙◌, sym}
 use Rattle.market_types.proofs.Numbers.{number-not_plain, number-plain, stopped, ended}
-use Rattle.market_types.proofs.reading.read_number.Goals as goal
+use Rattle.market_types.proofs.field.read_number.Goals as goal
 
 pub returns-then-not-is_plain : goal.returns-then-not-is_plain
 returns-then-not-is_plain c = number-not_plain c.args.field.now (sym c.if-not-is_plain.ensures)

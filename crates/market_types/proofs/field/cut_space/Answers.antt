@@ -1,10 +1,10 @@
-use Rattle.std.proofs.Common.{◌≡◌, false, get_or, take, sym, subst}
+use Rattle.std.proofs.Common.{◌≡◌, false, get_or, subst}
 use Rattle.std.specs.List.{All}
 use Rattle.std.proofs.lemmas.List.{take_all}
 use Rattle.std.proofs.lemmas.Bool.{ne_eqb}
 use Rattle.std.proofs.lemmas.List.Elements.{All-more}
 use Rattle.market_types.specs.Reading.{is_space}
-use Rattle.market_types.proofs.reading.cut_space.Goals as goal
+use Rattle.market_types.proofs.field.cut_space.Goals as goal
 
 pub loop-at-preserved : goal.loop-at-preserved
 loop-at-preserved c =

@@ -1,0 +1,61 @@
+//! Texts of commands and replies.
+use market_types::{
+    ArenaId, ArenaView, Fault, LimitView, Lists, OpenFault, Reply, cmd_text, open_fault_text,
+    push_reply, read_cmd, read_line, reply_text,
+};
+use std::test::Fail;
+
+#[test]
+fn served_commands_are_read_and_written(rt: HostRuntime) -> Result<(), Fail> {
+    for text in ["open 8 1 normal", "request 1 3 0", "show 1", "limit"] {
+        let cmd = read_cmd(text.as_bytes(), 3).ok_or("unread")?;
+        let written = cmd_text(rt.alloc(), &cmd, 3)?;
+        assert_eq!(rt; written.as_str(), text);
+    }
+    Ok(())
+}
+
+#[test]
+fn a_line_names_its_seat(rt: HostRuntime) -> Result<(), Fail> {
+    let (seat, _cmd) = read_line(b"3 limit", 4, 3).ok_or("unread")?;
+    assert_eq!(rt; seat.get(), 3);
+    assert!(rt; read_line(b"4 limit", 4, 3).is_none());
+    Ok(())
+}
+
+#[test]
+fn replies_are_written(rt: HostRuntime) -> Result<(), Fail> {
+    let view = ArenaView {
+        arena: ArenaId::new(1),
+        request: 3,
+        allot: 3,
+        top: true,
+        active: 0,
+        recall: 0,
+        hire: 3,
+    };
+    let mut out = Vec::new(rt.alloc());
+    push_reply(&mut out, &Reply::Shown(view))?;
+    let due = b"arena 1 request 3 allot 3 top yes active 0 recall 0 hire 3";
+    assert_eq!(rt; out.as_slice(), due.as_slice());
+
+    let mut recalls = Vec::new(rt.alloc());
+    recalls.push((ArenaId::new(3), 1))?;
+    recalls.push((ArenaId::new(1), 2))?;
+    let hires = Vec::new(rt.alloc());
+    let listed = reply_text(rt.alloc(), &Reply::Listed(Lists { recalls, hires }))?;
+    assert_eq!(rt; listed.as_str(), "recall 3:1,1:2 hire -");
+
+    let limits = LimitView {
+        value: 8,
+        limit: 7,
+        effective: 7,
+    };
+    let limits = reply_text(rt.alloc(), &Reply::Limits(limits))?;
+    assert_eq!(rt; limits.as_str(), "value 8 limit 7 effective 7");
+
+    let busy = reply_text(rt.alloc(), &Reply::Refused(Fault::Busy(1)))?;
+    assert_eq!(rt; busy.as_str(), "F06 busy 1");
+    assert_eq!(rt; open_fault_text(OpenFault::BadLevels), "O5 bad levels");
+    Ok(())
+}
