@@ -45,10 +45,11 @@ spellings levels cmd = cmd_text levels cmd ∷ []
 abbrev pub line_spellings : ℕ → ℕ → Cmd → List (List ℕ)
 line_spellings levels seat cmd = map (λ text. decimal seat ++ (codes " " ++ text)) (spellings levels cmd)
 
--- the numbers of a command that can be written
+-- a level is 1 to 8
 abbrev pub FitsLevel : ℕ → Type 0
 FitsLevel level = (1 ≤ level) × (level ≤ 8)
 
+-- each number of the command is one that the command can hold: unsigned or signed 32 bits, or a level
 abbrev pub Fits : Cmd → Type 0
 Fits (Open slots reserved level) = (slots < 2 ^ 32) × (reserved < 2 ^ 32) × FitsLevel level
 Fits (Close arena) = arena < 2 ^ 32
@@ -62,6 +63,7 @@ Fits _ = Unit {0}
 
 -- ---- fields
 
+-- the byte between fields
 abbrev pub is_space : ℕ → Bool
 is_space b = b == 32
 
@@ -69,6 +71,7 @@ is_space b = b == 32
 abbrev pub is_plain : List ℕ → Bool
 is_plain field = nat_lt 0 (length field) && ((length field == 1) || not (slice_index field 0 == 48))
 
+-- decimal digits with no needless 0 before them
 abbrev pub is_number : List ℕ → Bool
 is_number field = all_ascii_digits field && is_plain field
 
@@ -76,9 +79,11 @@ is_number field = all_ascii_digits field && is_plain field
 unfoldable pub number : List ℕ → Option ℕ
 number field = if is_number field && nat_lt (digits_value 10 field) (2 ^ 32) then Some (digits_value 10 field) else None
 
+-- the same number as a signed one of 32 bits
 abbrev pub positive : ℕ → Option ℤ
 positive n = if nat_lt n (2 ^ 31) then Some (pos n) else None
 
+-- the number below 0 by so much, of 32 bits; there is no -0
 abbrev pub negative : ℕ → Option ℤ
 negative n = if nat_lt 0 n && nat_le n (2 ^ 31) then Some (neg_ℤ (pos n)) else None
 
@@ -88,6 +93,7 @@ signed field =
     if slice_index field 0 == 45 then option_and_then negative (number (drop 1 field))
     else option_and_then positive (number field)
 
+-- the number of a level, 1 to 8
 abbrev pub in_levels : ℕ → Option ℕ
 in_levels n = if nat_lt 0 n && nat_le n 8 then Some n else None
 
@@ -111,43 +117,53 @@ abbrev pub of_number : (ℕ → Cmd) → List (List ℕ) → Option Cmd
 of_number cmd [] = None
 of_number cmd (field ∷ more) = option_and_then (λ n. alone (cmd n) more) (number field)
 
+-- open, after slots and reserved slots: the level, or the middle one where the text ends
 abbrev pub open_level : ℕ → ℕ → ℕ → List (List ℕ) → Option Cmd
 open_level levels slots reserved [] = option_map (λ l. Open slots reserved l) (in_levels (middle_level levels))
 open_level levels slots reserved (field ∷ more) = option_and_then (λ l. alone (Open slots reserved l) more) (level levels field)
 
+-- open, after slots: the reserved slots, or 1 where the text ends
 abbrev pub open_reserved : ℕ → ℕ → List (List ℕ) → Option Cmd
 open_reserved levels slots [] = option_map (λ l. Open slots 1 l) (in_levels (middle_level levels))
 open_reserved levels slots (field ∷ more) = option_and_then (λ reserved. open_level levels slots reserved more) (number field)
 
+-- open: slots first
 abbrev pub open_of : ℕ → List (List ℕ) → Option Cmd
 open_of levels [] = None
 open_of levels (field ∷ more) = option_and_then (λ slots. open_reserved levels slots more) (number field)
 
+-- priority, after the arena: the level
 abbrev pub priority_level : ℕ → ℕ → List (List ℕ) → Option Cmd
 priority_level levels arena [] = None
 priority_level levels arena (field ∷ more) = option_and_then (λ l. alone (Priority arena l) more) (level levels field)
 
+-- priority: the arena first
 abbrev pub priority_of : ℕ → List (List ℕ) → Option Cmd
 priority_of levels [] = None
 priority_of levels (field ∷ more) = option_and_then (λ arena. priority_level levels arena more) (number field)
 
+-- resize, after the arena: slots and reserved slots
 abbrev pub resize_slots : ℕ → List (List ℕ) → Option Cmd
 resize_slots arena [] = None
 resize_slots arena (field ∷ more) = option_and_then (λ slots. of_number (Resize arena slots) more) (number field)
 
+-- resize: the arena first
 abbrev pub resize_of : List (List ℕ) → Option Cmd
 resize_of [] = None
 resize_of (field ∷ more) = option_and_then (λ arena. resize_slots arena more) (number field)
 
+-- request, after arena and workers: the mandatory count, or 0 where the text ends
 abbrev pub request_mandatory : ℕ → ℤ → List (List ℕ) → Option Cmd
 request_mandatory arena workers [] = Some (Request arena workers (pos 0))
 request_mandatory arena workers (field ∷ more) =
     option_and_then (λ mandatory. alone (Request arena workers mandatory) more) (signed field)
 
+-- request, after the arena: workers
 abbrev pub request_workers : ℕ → List (List ℕ) → Option Cmd
 request_workers arena [] = None
 request_workers arena (field ∷ more) = option_and_then (λ workers. request_mandatory arena workers more) (signed field)
 
+-- request: the arena first
 abbrev pub request_of : List (List ℕ) → Option Cmd
 request_of [] = None
 request_of (field ∷ more) = option_and_then (λ arena. request_workers arena more) (number field)
@@ -185,6 +201,7 @@ reading levels text = option_and_then if_served (command_of levels (slice_split 
 abbrev pub in_seats : ℕ → ℕ → Option ℕ
 in_seats seats n = if nat_lt n seats then Some n else None
 
+-- a seat by the first field, and its command by the others
 abbrev pub call_of : ℕ → ℕ → List (List ℕ) → Option (ℕ × Cmd)
 call_of seats levels [] = None
 call_of seats levels (word ∷ more) =

@@ -6,6 +6,7 @@ ghost use Rattle.market_types.specs.Reading.{alone, command_of, if_served, line_
 use crate::command::Cmd;
 use crate::field::{cut_field, middle_level, read_level, read_number, read_seat, read_signed};
 use crate::number::{ArenaId, ControlId, SeatNo};
+
 /// The seat and the command that a line of a script spells, as `0 open 8 1 normal`: a seat below the number of seats,
 /// one space, and a command as `read_cmd` reads it. None for every other line. Takes no memory.
 #[tactic(auto, unfolding(crate::specs::Reading::line_reading))]
