@@ -1,5 +1,5 @@
 //! The fields of a text, and what each reads as.
-ghost use Rattle.std.specs.Prelude.{◌≡◌, ◌∷◌, ◌++◌, IfNone, IfSome, false, option_and_then};
+ghost use Rattle.std.specs.Prelude.{◌≡◌, ◌<◌, ◌∷◌, ◌++◌, IfNone, IfSome, false, option_and_then};
 ghost use Rattle.std.specs.List.{All, slice_split};
 ghost use Rattle.market_types.specs.Fields.{digit_after, fields_left};
 ghost use Rattle.market_types.specs.Reading.{in_levels, in_seats, is_plain, is_space, level, middle_level, negative, number, positive, signed};
@@ -121,7 +121,8 @@ pub(crate) fn read_level(field: &[u8], levels: u32) -> Option<Level>
 
 /// A seat below the number of seats.
 pub(crate) fn read_seat(field: &[u8], seats: u8) -> Option<SeatNo>
-    ensures { result ≡ option_and_then (in_seats seats) (number field.now) }
+    ensures exact { result ≡ option_and_then (in_seats seats) (number field.now) }
+    ensures seated { IfSome result (λ seat. seat < seats) }
 {
     let number = read_number(field)?;
     if number >= u32::from(seats) {

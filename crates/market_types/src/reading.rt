@@ -1,5 +1,6 @@
 //! Commands read from their texts.
-ghost use Rattle.std.specs.Prelude.{◌≡◌};
+ghost use Rattle.std.specs.Prelude.{◌≡◌, ◌<◌, IfSome, true};
+ghost use Rattle.market_types.specs.Commands.{is_served};
 ghost use Rattle.market_types.specs.Fields.{fields_left};
 ghost use Rattle.market_types.specs.Reading.{alone, command_of, if_served, line_reading, of_number, open_of, priority_of, reading, request_of, resize_of};
 
@@ -12,6 +13,8 @@ use crate::number::{ArenaId, ControlId, SeatNo};
 #[tactic(auto, unfolding(crate::specs::Reading::line_reading))]
 pub fn read_line(line: &[u8], seats: u8, levels: u32) -> Option<(SeatNo, Cmd)>
     ensures exact { result ≡ line_reading seats levels line.now }
+    ensures seated { IfSome result (λ call. call.0 < seats) }
+    ensures served { IfSome result (λ call. is_served call.1 ≡ true) }
 {
     let (field, more) = cut_field(line);
     let seat = read_seat(field, seats)?;
@@ -24,13 +27,15 @@ pub fn read_line(line: &[u8], seats: u8, levels: u32) -> Option<(SeatNo, Cmd)>
 #[tactic(auto, unfolding(crate::specs::Reading::reading))]
 pub fn read_cmd(text: &[u8], levels: u32) -> Option<Cmd>
     ensures exact { result ≡ reading levels text.now }
+    ensures served { IfSome result (λ cmd. is_served cmd ≡ true) }
 {
     if_served(read_command(Some(text), levels)?)
 }
 
 /// The command, where the market serves it.
 fn if_served(cmd: Cmd) -> Option<Cmd>
-    ensures { result ≡ if_served cmd }
+    ensures exact { result ≡ if_served cmd }
+    ensures served { IfSome result (λ cmd. is_served cmd ≡ true) }
 {
     Some(cmd).filter(|cmd| cmd.is_served())
 }
