@@ -1,0 +1,3 @@
+mod ByStamp
+mod Entries
+mod Found

@@ -1,0 +1,38 @@
+-- How the market keeps its arenas: a table by number, and for each level a list by stamp.
+use Rattle.std.specs.Prelude.{◌≡◌, ◌≢◌, ℕ, ◌-◌, ◌<◌, ◌≤◌, nat_lt, if◌then◌else◌, List, [], ◌∷◌, length, map, slice_index_or}
+use Rattle.std.specs.List.{All, AllPairs, filter, count_by}
+use Rattle.market_types.specs.declared.row.Row.{Row}
+use Rattle.market_types.specs.State.{Arena}
+use Rattle.market_types.specs.Claims.{request_of, is_mandated}
+use Rattle.market_types.specs.Allotment.{at_level}
+
+-- the arenas with one more, before the first that is older
+abbrev pub insert_arena : Arena → List Arena → List Arena
+insert_arena a [] = a ∷ []
+insert_arena a (b ∷ bs) = if nat_lt b.stamp a.stamp then a ∷ b ∷ bs else b ∷ insert_arena a bs
+
+-- the arenas, greatest stamp first
+abbrev pub by_stamp : List Arena → List Arena
+by_stamp [] = []
+by_stamp (a ∷ arenas) = insert_arena a (by_stamp arenas)
+
+-- what a level's list keeps of an arena
+abbrev pub entry_of : Arena → Row
+entry_of a =
+    record { stamp = a.stamp; arena = a.number; request = request_of a.claim; mandated = is_mandated a.claim }
+
+-- a level's list
+abbrev pub entries : ℕ → List Arena → List Row
+entries level arenas = map entry_of (at_level level arenas)
+
+-- the arenas with stamps above this one
+abbrev pub newer : ℕ → List Arena → List Arena
+newer stamp arenas = filter (λ (a : Arena). nat_lt stamp a.stamp) arenas
+
+-- each arena is newer than every one after it
+abbrev pub IsNewestFirst : List Arena → Type 0
+IsNewestFirst arenas = AllPairs (λ (a b : Arena). b.stamp < a.stamp) arenas
+
+-- no number is used twice
+abbrev pub IsApart : List Arena → Type 0
+IsApart arenas = AllPairs (λ (a b : Arena). a.number ≢ b.number) arenas
