@@ -1,0 +1,3 @@
+mod Carries
+mod Sums
+mod Levels
