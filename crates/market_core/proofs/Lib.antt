@@ -1,3 +1,5 @@
 mod ByStamp
 mod Entries
 mod Found
+mod Table
+mod Allotted

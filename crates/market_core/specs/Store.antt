@@ -33,6 +33,10 @@ newer stamp arenas = filter (λ (a : Arena). nat_lt stamp a.stamp) arenas
 abbrev pub IsNewestFirst : List Arena → Type 0
 IsNewestFirst arenas = AllPairs (λ (a b : Arena). b.stamp < a.stamp) arenas
 
+-- the numbers rise
+abbrev pub IsByNumber : List Arena → Type 0
+IsByNumber arenas = AllPairs (λ (a b : Arena). a.number < b.number) arenas
+
 -- no number is used twice
 abbrev pub IsApart : List Arena → Type 0
 IsApart arenas = AllPairs (λ (a b : Arena). a.number ≢ b.number) arenas
