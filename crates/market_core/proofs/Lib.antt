@@ -3,3 +3,4 @@ mod Entries
 mod Found
 mod Table
 mod Allotted
+mod Search

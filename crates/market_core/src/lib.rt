@@ -4,8 +4,11 @@
 ghost use Rattle.std.specs.Prelude.{◌≡◌, ◌++◌, ◌∷◌, []};
 ghost use Rattle.market_types.specs.State.{Arena};
 ghost use Rattle.market_core.specs.Store.{by_stamp};
-ghost use Rattle.market_types.specs.Step.{without};
+
 ghost use Rattle.std.specs.Prelude.{List, ℕ, length};
+
+mod record;
+pub use record::{Record, place_of};
 
 /// Laws.
 pub fn laws()

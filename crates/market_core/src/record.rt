@@ -1,0 +1,114 @@
+//! An arena as the market keeps it, and where it stands among the others.
+ghost use Rattle.std.specs.Prelude.{◌≡◌, ◌≢◌, ◌<◌, ◌≤◌, length, None, slice_index_or, IfNone, IfSome};
+ghost use Rattle.std.specs.List.{All};
+ghost use Rattle.market_types.specs.State.{Arena};
+ghost use Rattle.market_types.specs.Claims.{request_of, is_mandated};
+ghost use Rattle.market_core.specs.Store.{IsByNumber, entry_of};
+
+use arena_record::ArenaRecord;
+use market_types::{ArenaId, Level, Row};
+use std::marker::Model;
+
+/// An arena of the market.
+#[derive(Clone, Copy, Debug)]
+pub struct Record {
+    arena: ArenaId,
+    stamp: u32,
+    level: Level,
+    claim: ArenaRecord,
+}
+
+impl Model for Record {
+    ghost use Rattle.market_types.specs.State.{Arena};
+
+    ghost Value = { Arena };
+
+    ghost view = { λ r. record { number = r.arena; stamp = r.stamp; level = r.level; claim = r.claim } };
+
+    ghost inverse = { λ a. record { arena = a.number; stamp = a.stamp; level = a.level; claim = a.claim } };
+}
+
+impl Record {
+    /// An arena with this claim.
+    pub fn new(arena: ArenaId, stamp: u32, level: Level, claim: ArenaRecord) -> Self
+        ensures { result ≡ record { number = arena; stamp = stamp; level = level; claim = claim } }
+    {
+        Record {
+            arena,
+            stamp,
+            level,
+            claim,
+        }
+    }
+
+    /// Its number.
+    pub fn arena(self) -> ArenaId
+        ensures { result ≡ self.number }
+    {
+        self.arena
+    }
+
+    /// The stamp of its last Open or Priority.
+    pub fn stamp(self) -> u32
+        ensures { result ≡ self.stamp }
+    {
+        self.stamp
+    }
+
+    /// Its level.
+    pub fn level(self) -> Level
+        ensures { result ≡ self.level }
+    {
+        self.level
+    }
+
+    /// What it may use and has asked for.
+    pub fn claim(self) -> ArenaRecord
+        ensures { result ≡ self.claim }
+    {
+        self.claim
+    }
+
+    /// The arena with another claim.
+    pub fn with_claim(self, claim: ArenaRecord) -> Record
+        ensures { result ≡ record self { claim = claim } }
+    {
+        Record { claim, ..self }
+    }
+
+    /// The arena at this level, with a new stamp.
+    pub fn promoted(self, stamp: u32, level: Level) -> Record
+        ensures { result ≡ record self { stamp = stamp; level = level } }
+    {
+        Record {
+            stamp,
+            level,
+            ..self
+        }
+    }
+
+    /// What the list of its level keeps of it.
+    pub fn entry(self) -> Row
+        ensures exact { result ≡ entry_of self }
+        ensures small { result.request ≤ 65535 }
+    {
+        Row {
+            stamp: self.stamp,
+            arena: self.arena,
+            request: self.claim.request(),
+            mandated: self.claim.mandated(),
+        }
+    }
+}
+
+/// Where the arena stands among records with rising numbers.
+pub fn place_of(records: &[Record], arena: ArenaId) -> Option<usize>
+    requires { IsByNumber records.now }
+    ensures missing { IfNone result (All (λ (a : Arena). a.number ≢ arena) records.now) }
+    ensures there { IfSome result (λ place. place < length records.now) }
+    ensures found { IfSome result (λ place. (d : Arena) → (slice_index_or records.now place d).number ≡ arena) }
+{
+    records
+        .binary_search_by_key(&arena.get(), |record| record.arena().get())
+        .ok()
+}
