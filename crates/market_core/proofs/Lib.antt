@@ -4,3 +4,4 @@ mod Found
 mod Table
 mod Allotted
 mod Search
+mod Stored

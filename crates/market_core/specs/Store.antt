@@ -1,5 +1,5 @@
 -- How the market keeps its arenas: a table by number, and for each level a list by stamp.
-use Rattle.std.specs.Prelude.{◌≡◌, ◌≢◌, ℕ, ◌-◌, ◌<◌, ◌≤◌, nat_lt, if◌then◌else◌, List, [], ◌∷◌, length, map, slice_index_or}
+use Rattle.std.specs.Prelude.{◌≡◌, ◌≢◌, ℕ, ◌-◌, ◌<◌, ◌≤◌, Bool, nat_lt, if◌then◌else◌, List, [], ◌∷◌, length, map, slice_index_or}
 use Rattle.std.specs.List.{All, AllPairs, filter, count_by}
 use Rattle.market_types.specs.declared.row.Row.{Row}
 use Rattle.market_types.specs.State.{Arena}
@@ -40,3 +40,28 @@ IsByNumber arenas = AllPairs (λ (a b : Arena). a.number < b.number) arenas
 -- no number is used twice
 abbrev pub IsApart : List Arena → Type 0
 IsApart arenas = AllPairs (λ (a b : Arena). a.number ≢ b.number) arenas
+
+-- what holds of the living arenas: they are at most 1,024, each at a level that a market can have, newest first
+pub record IsKept (arenas : List Arena) : Type 0 where
+  pub few : length arenas ≤ 1024
+  pub apart : IsApart arenas
+  pub newest_first : IsNewestFirst arenas
+  pub leveled : All (λ (a : Arena). (1 ≤ a.level) × (a.level ≤ 8)) arenas
+
+-- the arena has enqueued work
+abbrev pub has_work : Arena → Bool
+has_work a = nat_lt 0 a.claim.mandatory
+
+-- there is a list for each level, level 1 first
+pub record IsListed (lists : List (List Row)) (arenas : List Arena) : Type 0 where
+  pub width : length lists ≡ 8
+  pub entries : (level : ℕ) (d : List Row) → 1 ≤ level → level ≤ 8 → slice_index_or lists (level - 1) d ≡ entries level arenas
+
+-- what holds of the table, the lists and the count of arenas with enqueued work
+pub record IsStored (records : List Arena) (lists : List (List Row)) (count : ℕ) : Type 0 where
+  pub few : length records ≤ 1024
+  pub by_number : IsByNumber records
+  pub newest_first : IsNewestFirst (by_stamp records)
+  pub leveled : All (λ (a : Arena). (1 ≤ a.level) × (a.level ≤ 8)) records
+  pub listed : IsListed lists (by_stamp records)
+  pub enqueued : count ≡ count_by has_work records

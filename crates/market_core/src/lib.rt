@@ -1,14 +1,17 @@
 //! The market.
 #![tactic(auto)]
 
-ghost use Rattle.std.specs.Prelude.{◌≡◌, ◌++◌, ◌∷◌, []};
+ghost use Rattle.std.specs.Prelude.{◌≡◌};
 ghost use Rattle.market_types.specs.State.{Arena};
 ghost use Rattle.market_core.specs.Store.{by_stamp};
 
 ghost use Rattle.std.specs.Prelude.{List, ℕ, length};
 
-mod record;
-pub use record::{Record, place_of};
+mod level_list;
+mod row;
+mod store;
+pub use store::Arenas;
+pub use row::{ArenaRow, place_of};
 
 /// Laws.
 pub fn laws()

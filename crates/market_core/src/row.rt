@@ -11,14 +11,14 @@ use std::marker::Model;
 
 /// An arena of the market.
 #[derive(Clone, Copy, Debug)]
-pub struct Record {
+pub struct ArenaRow {
     arena: ArenaId,
     stamp: u32,
     level: Level,
     claim: ArenaRecord,
 }
 
-impl Model for Record {
+impl Model for ArenaRow {
     ghost use Rattle.market_types.specs.State.{Arena};
 
     ghost Value = { Arena };
@@ -28,12 +28,12 @@ impl Model for Record {
     ghost inverse = { λ a. record { arena = a.number; stamp = a.stamp; level = a.level; claim = a.claim } };
 }
 
-impl Record {
+impl ArenaRow {
     /// An arena with this claim.
     pub fn new(arena: ArenaId, stamp: u32, level: Level, claim: ArenaRecord) -> Self
         ensures { result ≡ record { number = arena; stamp = stamp; level = level; claim = claim } }
     {
-        Record {
+        ArenaRow {
             arena,
             stamp,
             level,
@@ -70,17 +70,17 @@ impl Record {
     }
 
     /// The arena with another claim.
-    pub fn with_claim(self, claim: ArenaRecord) -> Record
+    pub fn with_claim(self, claim: ArenaRecord) -> ArenaRow
         ensures { result ≡ record self { claim = claim } }
     {
-        Record { claim, ..self }
+        ArenaRow { claim, ..self }
     }
 
     /// The arena at this level, with a new stamp.
-    pub fn promoted(self, stamp: u32, level: Level) -> Record
+    pub fn promoted(self, stamp: u32, level: Level) -> ArenaRow
         ensures { result ≡ record self { stamp = stamp; level = level } }
     {
-        Record {
+        ArenaRow {
             stamp,
             level,
             ..self
@@ -101,14 +101,14 @@ impl Record {
     }
 }
 
-/// Where the arena stands among records with rising numbers.
-pub fn place_of(records: &[Record], arena: ArenaId) -> Option<usize>
-    requires { IsByNumber records.now }
-    ensures missing { IfNone result (All (λ (a : Arena). a.number ≢ arena) records.now) }
-    ensures there { IfSome result (λ place. place < length records.now) }
-    ensures found { IfSome result (λ place. (d : Arena) → (slice_index_or records.now place d).number ≡ arena) }
+/// Where the arena stands among rows with rising numbers.
+pub fn place_of(rows: &[ArenaRow], arena: ArenaId) -> Option<usize>
+    requires { IsByNumber rows.now }
+    ensures missing { IfNone result (All (λ (a : Arena). a.number ≢ arena) rows.now) }
+    ensures there { IfSome result (λ place. place < length rows.now) }
+    ensures found { IfSome result (λ place. (d : Arena) → (slice_index_or rows.now place d).number ≡ arena) }
 {
-    records
-        .binary_search_by_key(&arena.get(), |record| record.arena().get())
+    rows
+        .binary_search_by_key(&arena.get(), |row| row.arena().get())
         .ok()
 }
