@@ -1,0 +1,2 @@
+pub use Rattle.prefix_tree.specs.Bits
+pub use Rattle.prefix_tree.specs.Rows

@@ -1,0 +1,9 @@
+pub mod AtNode
+pub mod Changes
+pub mod Heights
+pub mod Joins
+pub mod Moves
+pub mod Ordered
+pub mod Readings
+pub mod Sets
+pub mod Whole

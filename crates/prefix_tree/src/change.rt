@@ -1,0 +1,110 @@
+//! Changing a side: setting a row in place, putting a node in, taking one out.
+ghost use Rattle.std.specs.Prelude.{◌≡◌, ◌+◌, ◌^◌, ◌<◌, ◌≤◌, ◌∷◌, length};
+ghost use Rattle.prefix_tree.specs.Rows.{IsAbsent, insert_row, without, set_row, row_at};
+ghost use Rattle.prefix_tree.specs.Nodes.{IsSmall, IsFilled, IsBetween, row_of};
+
+use crate::balance::{balance, fork};
+use crate::node::{Node, one_if, visit};
+use crate::side::Side;
+
+impl Side {
+    /// Sets the request and the mandate of the row with that stamp.
+    pub(crate) fn set(&mut self, stamp: u32, request: u32, mandated: bool) -> u32
+        requires small { IsSmall self.old }
+        requires request { request < 2 ^ 31 }
+        ensures rows { self.new.0 ≡ set_row stamp request mandated self.old.0 }
+        ensures height { self.new.1 ≡ self.old.1 }
+        ensures visits { result ≤ self.old.1 }
+    {
+        let Some(node) = &mut self.root else { return 0 };
+        if stamp < node.row.stamp {
+            let (sum, mandates) = (node.right.sum(), node.right.mandates());
+            let visits = node.right.set(stamp, request, mandated);
+            node.sum = node.sum - sum + node.right.sum();
+            node.mandates = node.mandates - mandates + node.right.mandates();
+            return visit(visits);
+        }
+        if node.row.stamp < stamp {
+            let (sum, mandates) = (node.left.sum(), node.left.mandates());
+            let visits = node.left.set(stamp, request, mandated);
+            node.sum = node.sum - sum + node.left.sum();
+            node.mandates = node.mandates - mandates + node.left.mandates();
+            return visit(visits);
+        }
+        node.sum = node.sum - node.row.request + request;
+        node.mandates = node.mandates - one_if(node.row.mandated) + one_if(mandated);
+        node.row.request = request;
+        node.row.mandated = mandated;
+        visit(0)
+    }
+
+    /// Puts a node in its place.
+    pub(crate) fn put(self, node: Box<Node>) -> (Side, u32)
+        requires small { IsSmall self }
+        requires request { node.value.row.request < 2 ^ 31 }
+        requires absent { IsAbsent node.value.row.stamp self.0 }
+        requires filled { IsFilled self }
+        ensures rows { result.0.0 ≡ insert_row node.value.row self.0 }
+        ensures height { IsBetween self.1 (self.1 + 1) result.0.1 }
+        ensures filled { IsFilled result.0 }
+        ensures visits { IsBetween 1 (self.1 + 1) result.1 }
+    {
+        if self.count() == 0 {
+            return (fork(node, Side::new(), Side::new()), visit(0));
+        }
+        let (here, left, right) = self.open();
+        if node.row.stamp < here.row.stamp {
+            let (right, visits) = right.put(node);
+            (balance(here, left, right), visit(visits))
+        } else {
+            let (left, visits) = left.put(node);
+            (balance(here, left, right), visit(visits))
+        }
+    }
+
+    /// Takes the node with that stamp out.
+    pub(crate) fn take(self, stamp: u32) -> (Side, Option<Box<Node>>, u32)
+        requires small { IsSmall self }
+        requires filled { IsFilled self }
+        ensures rows { result.0.0 ≡ without stamp self.0 }
+        ensures taken { row_of result.1 ≡ row_at stamp self.0 }
+        ensures height { IsBetween result.0.1 (result.0.1 + 1) self.1 }
+        ensures filled { IsFilled result.0 }
+        ensures visits { result.2 ≤ self.1 }
+    {
+        if self.count() == 0 {
+            return (self, None, 0);
+        }
+        let (here, left, right) = self.open();
+        if stamp < here.row.stamp {
+            let (right, taken, visits) = right.take(stamp);
+            (balance(here, left, right), taken, visit(visits))
+        } else if here.row.stamp < stamp {
+            let (left, taken, visits) = left.take(stamp);
+            (balance(here, left, right), taken, visit(visits))
+        } else if right.count() == 0 {
+            (left, Some(here), visit(0))
+        } else {
+            let (first, right, visits) = right.take_first();
+            (balance(first, left, right), Some(here), visit(visits))
+        }
+    }
+
+    /// Takes the node of the newest row out.
+    fn take_first(self) -> (Box<Node>, Side, u32)
+        requires small { IsSmall self }
+        requires some { 0 < length self.0 }
+        requires filled { IsFilled self }
+        ensures rows { self.0 ≡ result.0.value.row ∷ result.1.0 }
+        ensures height { IsBetween result.1.1 (result.1.1 + 1) self.1 }
+        ensures filled { IsFilled result.1 }
+        ensures visits { result.2 ≤ self.1 }
+    {
+        let (here, left, right) = self.open();
+        if left.count() == 0 {
+            return (here, right, visit(0));
+        }
+        let (first, left, visits) = left.take_first();
+        (first, balance(here, left, right), visit(visits))
+    }
+}

@@ -1,0 +1,39 @@
+//! Rows by descending stamp in a balanced tree, which adds up the requests of all rows that are newer than one in a
+//! few steps, where a list walks them all.
+//!
+//! A [`Tree`] holds at most 1,024 rows of one stamp each. Its contracts see it as the list of its rows, newest first;
+//! a row that was taken out is a [`Taken`], which keeps its memory, so that putting it back takes none.
+//!
+//! Each node holds its row and, of all rows at and below it, the sum of their requests, their number, and how many of
+//! them are mandated. Its left side has the newer rows, its right side the older ones:
+//!
+//! ```text
+//!                      stamp 5 asks 3
+//!                sum 14, 5 rows, 1 mandated
+//!               /                          \
+//!        stamp 8 asks 4               stamp 2 asks 1, mandated
+//!   sum 4, 1 row, 0 mandated        sum 7, 3 rows, 1 mandated
+//!                                   /                      \
+//!                            stamp 4 asks 6            stamp 1 asks 0
+//! ```
+//!
+//! So the requests above stamp 4 are those of the root and of its left side, 3 + 4, and what the way down from there
+//! leaves to its left, 0: two sums, read on a path of three nodes. The heights of a node's two sides differ by one at
+//! most, so no path is longer than twice the binary digits of the number of rows.
+//!
+//! Each call but `new`, `len`, `is_empty` and `total` says how many nodes of its search path it entered, the new or
+//! replaced node included; nodes that only a rotation touches are not counted. That this number is no more than it may
+//! be is proved. That it is no less, nothing can prove: it is seen by reading, since a node is entered by
+//! `node::visit` alone, once on each turn of a loop and on each call of a recursion.
+#![tactic(auto)]
+
+mod balance;
+mod change;
+mod node;
+mod search;
+mod side;
+mod taken;
+mod tree;
+
+pub use taken::Taken;
+pub use tree::Tree;

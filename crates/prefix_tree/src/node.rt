@@ -1,0 +1,59 @@
+//! A node: its row, and the sums of the rows at and below it.
+ghost use Rattle.std.specs.Prelude.{◌≡◌, ◌+◌, ◌^◌, ◌<◌, ◌≤◌};
+ghost use Rattle.prefix_tree.specs.Nodes.{one_if};
+
+use crate::side::Side;
+use market_types::Row;
+
+/// A row, its two sides, and the sums of all three.
+#[cycle(side)]
+#[derive(Drop)]
+pub(crate) struct Node {
+    pub(crate) row: Row,
+    /// How many nodes the longest path from here down has.
+    pub(crate) height: u32,
+    /// How many rows.
+    pub(crate) count: u32,
+    /// The sum of their requests.
+    pub(crate) sum: u32,
+    /// How many of them are mandated.
+    pub(crate) mandates: u32,
+    /// The newer rows.
+    pub(crate) left: Side,
+    /// The older rows.
+    pub(crate) right: Side,
+}
+
+impl Node {
+    /// A node with nothing below it.
+    pub(crate) fn new(row: Row) -> Node
+        ensures { result.row ≡ row }
+    {
+        let (sum, mandates) = (row.request, one_if(row.mandated));
+        Node {
+            row,
+            height: 1,
+            count: 1,
+            sum,
+            mandates,
+            left: Side::new(),
+            right: Side::new(),
+        }
+    }
+}
+
+/// Enters one more node of a search path. Nothing else counts a visit, and each node is entered by one call of this.
+pub(crate) fn visit(visits: u32) -> u32
+    requires { visits < 2 ^ 31 }
+    ensures { result ≡ visits + 1 }
+{
+    visits + 1
+}
+
+/// How many mandated rows a row is.
+pub(crate) fn one_if(mandated: bool) -> u32
+    ensures exact { result ≡ one_if mandated }
+    ensures at_most_one { result ≤ 1 }
+{
+    if mandated { 1 } else { 0 }
+}

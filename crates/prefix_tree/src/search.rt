@@ -1,0 +1,137 @@
+//! Reading a side: one walk down from its topmost node.
+ghost use Rattle.std.specs.Prelude.{◌≡◌, ◌≤◌, IfNone, IfSome, slice_get};
+ghost use Rattle.prefix_tree.specs.Rows.{requests, requests_above, first_mandated, IsPassedAt, place_of};
+ghost use Rattle.prefix_tree.specs.Nodes.{IsSmall};
+
+use crate::node::{Node, visit};
+use crate::side::Side;
+use market_types::Row;
+
+impl Side {
+    /// The sum of the requests of the rows that are newer than `stamp`.
+    pub(crate) fn sum_before(&self, stamp: u32) -> (u64, u32)
+        requires { IsSmall self.now }
+        ensures sum { result.0 ≡ requests_above stamp self.now.0 }
+        ensures visits { result.1 ≤ self.now.1 }
+    {
+        let mut before = 0u64;
+        let mut visits = 0;
+        let mut side = self;
+        while let Some(node) = &side.root {
+            let node: &Node = node;
+            visits = visit(visits);
+            if stamp < node.row.stamp {
+                before += u64::from(node.left.sum()) + u64::from(node.row.request);
+                side = &node.right;
+            } else if node.row.stamp < stamp {
+                side = &node.left;
+            } else {
+                before += u64::from(node.left.sum());
+                return (before, visits);
+            }
+        }
+        (before, visits)
+    }
+
+    /// The row at a place of the list.
+    pub(crate) fn walk(&self, place: usize) -> (Option<Row>, u32)
+        requires { IsSmall self.now }
+        ensures row { result.0 ≡ slice_get self.now.0 place }
+        ensures visits { result.1 ≤ self.now.1 }
+    {
+        let mut rest = place;
+        let mut visits = 0;
+        let mut side = self;
+        while let Some(node) = &side.root {
+            let node: &Node = node;
+            visits = visit(visits);
+            let before = node.left.count() as usize;
+            if rest < before {
+                side = &node.left;
+            } else if before < rest {
+                rest -= before + 1;
+                side = &node.right;
+            } else {
+                return (Some(node.row), visits);
+            }
+        }
+        (None, visits)
+    }
+
+    /// The first mandated row.
+    pub(crate) fn first_mandated(&self) -> (Option<Row>, u32)
+        requires { IsSmall self.now }
+        ensures row { result.0 ≡ first_mandated self.now.0 }
+        ensures visits { result.1 ≤ self.now.1 }
+    {
+        let mut visits = 0;
+        let mut side = self;
+        while let Some(node) = &side.root {
+            let node: &Node = node;
+            visits = visit(visits);
+            if node.left.mandates() > 0 {
+                side = &node.left;
+            } else if node.row.mandated {
+                return (Some(node.row), visits);
+            } else {
+                side = &node.right;
+            }
+        }
+        (None, visits)
+    }
+
+    /// The place of the row with which the requests add up to more than `sum`.
+    pub(crate) fn place_of_sum(&self, sum: u64) -> (Option<usize>, u32)
+        requires { IsSmall self.now }
+        ensures some { IfSome result.0 (λ place. IsPassedAt sum place self.now.0) }
+        ensures none { IfNone result.0 (requests self.now.0 ≤ sum) }
+        ensures visits { result.1 ≤ self.now.1 }
+    {
+        let mut rest = sum;
+        let mut place = 0usize;
+        let mut visits = 0;
+        let mut side = self;
+        while let Some(node) = &side.root {
+            let node: &Node = node;
+            visits = visit(visits);
+            let before = u64::from(node.left.sum());
+            let request = u64::from(node.row.request);
+            if rest < before {
+                side = &node.left;
+            } else if rest - before < request {
+                place += node.left.count() as usize;
+                return (Some(place), visits);
+            } else {
+                rest -= before + request;
+                place += node.left.count() as usize + 1;
+                side = &node.right;
+            }
+        }
+        (None, visits)
+    }
+
+    /// The place of the row with that stamp.
+    pub(crate) fn place_of(&self, stamp: u32) -> (Option<usize>, u32)
+        requires { IsSmall self.now }
+        ensures place { result.0 ≡ place_of stamp self.now.0 }
+        ensures visits { result.1 ≤ self.now.1 }
+    {
+        let mut place = 0usize;
+        let mut visits = 0;
+        let mut side = self;
+        while let Some(node) = &side.root {
+            let node: &Node = node;
+            visits = visit(visits);
+            if stamp < node.row.stamp {
+                place += node.left.count() as usize + 1;
+                side = &node.right;
+            } else if node.row.stamp < stamp {
+                side = &node.left;
+            } else {
+                place += node.left.count() as usize;
+                return (Some(place), visits);
+            }
+        }
+        (None, visits)
+    }
+}
