@@ -1,3 +1,3 @@
 pub mod Store
-pub mod Rows
-pub mod Bits
+pub mod Memory
+pub mod Within

@@ -1,19 +1,11 @@
-//! The market.
+//! The market: arenas that share workers, and what each command of a seat does to them.
+//!
+//! A market answers every command at once and never fails but for want of memory; then it is as it was. What it answers
+//! is what its arenas, controls and seats give as they stand, and depends on nothing that went before.
 #![tactic(auto)]
 
-ghost use Rattle.std.specs.Prelude.{◌≡◌};
-ghost use Rattle.market_types.specs.State.{Arena};
-ghost use Rattle.market_core.specs.Store.{by_stamp};
-
-ghost use Rattle.std.specs.Prelude.{List, ℕ, length};
-
-mod level_list;
 mod row;
 mod store;
-pub use store::Arenas;
-pub use row::{ArenaRow, place_of};
 
-/// Laws.
-pub fn laws()
-    ensures length { (xs : List Arena) → length (by_stamp xs) ≡ length xs }
-{}
+pub use row::{ArenaRow, place_of};
+pub use store::Arenas;

@@ -6,11 +6,12 @@ ghost use Rattle.market_types.specs.Claims.{is_mandated};
 ghost use Rattle.market_types.specs.Allotment.{total_request, at_level, has_mandatory};
 ghost use Rattle.market_types.specs.Step.{arena_at, with_claim, without};
 ghost use Rattle.market_core.specs.Store.{IsKept, newer, entry_of};
-ghost use Rattle.market_core.specs.Bits.{bits};
+ghost use Rattle.level_list.specs.Bits.{bits};
 
-use crate::level_list::LevelList;
+
 use crate::row::{ArenaRow, place_of};
 use arena_record::ArenaRecord;
+use level_list::LevelList;
 use market_types::{ArenaId, Level, Row};
 use std::alloc::{AllocError, Global};
 use std::marker::Model;

@@ -1,0 +1,10 @@
+use Rattle.std.specs.Prelude.{◌≤◌}
+use Rattle.market_types.specs.State.{Arena, State}
+use Rattle.market_types.specs.Claims.{cap_of, request_of}
+use Rattle.market_types.specs.Allotment.{alloc}
+
+-- an arena is allotted no more than it asks for, asks for no more than it can use, and can use no more than its slots
+pub record IsWithin (s : State) (a : Arena) : Type 0 where
+  pub allotted : alloc s a.number ≤ request_of a.claim
+  pub asked : request_of a.claim ≤ cap_of a.claim
+  pub usable : cap_of a.claim ≤ a.claim.slots
