@@ -4,4 +4,5 @@ mod Found
 mod Table
 mod Allotted
 mod Search
+mod Visits
 mod Stored

@@ -1,5 +1,5 @@
 -- What the store keeps, through each change.
-use Rattle.std.proofs.Common.{◌≡◌, ◌≢◌, ℕ, zero, suc, ◌+◌, ◌-◌, ◌<◌, ◌≤◌, Bool, true, false, cond, eqb, ltb, not, List, [], ◌∷◌, ◌++◌, length, get_or, set, take, drop, map, Option, Some, None, refl, sym, ap, ◌∙◌, arith, inl, inr, length-append}
+use Rattle.std.proofs.Common.{◌≡◌, ◌≢◌, ℕ, zero, suc, ◌+◌, ◌-◌, ◌*◌, ◌<◌, ◌≤◌, Bool, true, false, cond, eqb, ltb, not, List, [], ◌∷◌, ◌++◌, length, get_or, set, take, drop, map, Option, Some, None, refl, sym, ap, ◌∙◌, arith, inl, inr, length-append}
 use Rattle.std.specs.List.{All, AllPairs, filter, find, remove, sum_by, count_by, list_any}
 use Rattle.std.specs.Option.{option_map}
 use Rattle.std.proofs.lemmas.Bool.{cases_eq, cases_lt, cases_Bool, eq-eqb, ne_eqb, lt-ltb, le-ltb}
@@ -14,10 +14,12 @@ use Rattle.market_types.specs.Claims.{request_of, is_mandated}
 use Rattle.market_types.specs.Allotment.{at_level, has_mandatory}
 use Rattle.market_types.specs.Step.{arena_at, without, with_claim}
 use Rattle.market_core.specs.Store.{by_stamp, entry_of, entries, IsNewestFirst, IsByNumber, IsApart, IsKept, IsListed, IsStored, has_work}
-use Rattle.market_core.proofs.ByStamp.{has_number, IsMissing, IsOlder, All-by_stamp, by_stamp-All, sum_by-by_stamp, length-by_stamp, arena_at-by_stamp_none}
+use Rattle.market_core.proofs.ByStamp.{has_number, IsMissing, IsOlder, All-by_stamp, by_stamp-All, sum_by-by_stamp, length-by_stamp, arena_at-by_stamp_none, without-missing}
 use Rattle.market_core.proofs.Entries.{Matches, LevelsAt, entries-with_claim, entries-with_claim_other, entries-without, entries-without_other, entry-at, entries-older, length-entries}
 use Rattle.market_core.proofs.Found.{Found, found-at, found-matches, found-levels}
-use Rattle.market_core.proofs.Table.{table-found, table-claimed, table-removed, table-promoted, table-pushed, rising-set, apart-by_stamp, newest-with_claim, newest-without, newest-cons}
+use Rattle.level_list.specs.Bits.{bits}
+use Rattle.market_core.proofs.Visits.{bits-more, bits-few}
+use Rattle.market_core.proofs.Table.{claims-missing, table-found, table-claimed, table-removed, table-promoted, table-pushed, rising-set, apart-by_stamp, newest-with_claim, newest-without, newest-cons}
 
 abbrev IsLevel : Arena → Type 0
 IsLevel a = (1 ≤ a.level) × (a.level ≤ 8)
@@ -32,6 +34,10 @@ kept xs lists n h =
       newest_first = h.newest_first;
       leveled = All-by_stamp IsLevel xs h.leveled;
     }
+
+missing : (n : ℕ) (xs : List Arena) → All (λ (a : Arena). a.number ≢ n) xs → IsMissing n (by_stamp xs)
+missing n xs h =
+    All-by_stamp (λ (a : Arena). has_number n a ≡ false) xs (All-weaker (λ (a : Arena). a.number ≢ n) (λ (a : Arena). has_number n a ≡ false) (λ a apart. ne_eqb a.number n apart) xs h)
 
 -- no arena is found where no number is as wanted
 pub missing-by_stamp : (n : ℕ) (xs : List Arena) → All (λ (a : Arena). a.number ≢ n) xs → arena_at n (by_stamp xs) ≡ None
@@ -266,3 +272,33 @@ module _ (xs : List Arena) (lists : List (List Row)) (n i : ℕ) (x : Arena) (h 
               let same : w y ≡ w x = ap (λ (c : Claim). cond (ltb 0 c.mandatory) 1 0) claim in
               omega (arith, sums, here, same, h.enqueued);
         }
+
+-- ---- a list
+
+module _ (xs : List Arena) (lists : List (List Row)) (n : ℕ) (h : IsStored xs lists n) (level place : ℕ) (d : List Row) (low : 1 ≤ level) (high : level ≤ 8) (p : place ≡ level - 1) where
+  pub list-at : get_or lists place d ≡ entries level (by_stamp xs)
+  list-at = ap (λ k. get_or lists k d) p ∙ h.listed.entries level d low high
+
+  pub list-few : length (get_or lists place d) ≤ length xs
+  list-few = omega (arith, ap length list-at, length-entries level (by_stamp xs), length-by_stamp xs)
+
+  pub list-newest : (t : ℕ) → All (IsOlder t) (by_stamp xs) → All (λ (r : Row). r.stamp < t) (get_or lists place d)
+  list-newest t older = rw list-at (entries-older level t (by_stamp xs) older)
+
+  -- a visit to a list is within the bound for all arenas
+  pub list-visits : (v : ℕ) → v ≤ 2 * bits (length (get_or lists place d)) → v ≤ 2 * bits (length (by_stamp xs))
+  list-visits v e = omega (arith, bits-more (length (get_or lists place d)) (length (by_stamp xs)) (omega (arith, list-few, length-by_stamp xs)))
+
+  pub list-visits_one : (v : ℕ) → v ≤ 2 * bits (length (get_or lists place d)) + 1 → v ≤ 2 * bits (length (by_stamp xs)) + 1
+  list-visits_one v e = omega (arith, bits-more (length (get_or lists place d)) (length (by_stamp xs)) (omega (arith, list-few, length-by_stamp xs)))
+
+pub all-visits : (xs : List Arena) (lists : List (List Row)) (n : ℕ) → IsStored xs lists n → 2 * bits (length (by_stamp xs)) ≤ 22
+all-visits xs lists n h = omega (arith, bits-few (length (by_stamp xs)) (omega (arith, length-by_stamp xs, h.few)))
+
+-- ---- no arena has the number
+
+pub claimed-missing : (n : ℕ) (c : Claim) (xs : List Arena) → All (λ (a : Arena). a.number ≢ n) xs → with_claim n c (by_stamp xs) ≡ by_stamp xs
+claimed-missing n c xs h = claims-missing n c (by_stamp xs) (missing n xs h)
+
+pub removed-missing : (n : ℕ) (xs : List Arena) → All (λ (a : Arena). a.number ≢ n) xs → without n (by_stamp xs) ≡ by_stamp xs
+removed-missing n xs h = without-missing n (by_stamp xs) (missing n xs h)

@@ -69,7 +69,7 @@ table-found xs i x rising within e =
     ap (λ ys. arena_at x.number (by_stamp ys)) (split-at xs i x within e)
     ∙ arena_at-by_stamp x.number (take i xs) (drop (i + 1) xs) x (eq-eqb x.number x.number refl) (missing-front xs i x rising within e) (missing-back xs i x rising within e)
 
-claims-missing : (n : ℕ) (c : Claim) (xs : List Arena) → IsMissing n xs → with_claim n c xs ≡ xs
+pub claims-missing : (n : ℕ) (c : Claim) (xs : List Arena) → IsMissing n xs → with_claim n c xs ≡ xs
 claims-missing n c [] h = refl
 claims-missing n c (x ∷ xs) h =
     rw (All-head (λ (b : Arena). has_number n b ≡ false) x xs h) (ap (λ ys. x ∷ ys) (claims-missing n c xs (All-tail (λ (b : Arena). has_number n b ≡ false) x xs h)))
