@@ -7,7 +7,7 @@ use Rattle.std.proofs.lemmas.List.Elements.{All-nil, All-cons, All-head, All-tai
 use Rattle.std.proofs.lemmas.List.{get_or-set_same, get_or-set_other, length-set}
 use Rattle.std.proofs.lemmas.List.Edits.{length-remove}
 use Rattle.std.proofs.lemmas.List.Quantifiers.{all_pairs_push, all_pairs_remove}
-use Rattle.std.proofs.lemmas.List.Sums.{sum_by-cons, sum_by_push, sum_by-set, sum_by-remove, count_by-le-length}
+use Rattle.std.proofs.lemmas.List.Sums.{sum_by-cons, sum_by_push, sum_by-set, sum_by-remove, count_by-le-length, get_or-le-sum_by}
 use Rattle.market_types.specs.declared.row.Row.{Row}
 use Rattle.market_types.specs.State.{Claim, Arena}
 use Rattle.market_types.specs.Claims.{request_of, is_mandated}
@@ -58,6 +58,17 @@ place-found n i xs x y rising within e number found =
   where
     same-some : (a b : Arena) → Some a ≡ Some b → a ≡ b
     same-some a b h = cc
+
+get_or-any : (xs : List Arena) (i : ℕ) (d e : Arena) → i < length xs → get_or xs i d ≡ get_or xs i e
+get_or-any [] i d e within = absurd (omega arith)
+get_or-any (x ∷ xs) zero d e within = refl
+get_or-any (x ∷ xs) (suc i) d e within = get_or-any xs i d e (omega arith)
+
+-- the arena that is found stands at the place with its number
+pub row-here : (n i : ℕ) (xs : List Arena) (x : Arena) → IsByNumber xs → i < length xs → ((d : Arena) → (get_or xs i d).number ≡ n) → arena_at n (by_stamp xs) ≡ Some x → x ≡ get_or xs i x
+row-here n i xs x rising within number found =
+    let y = get_or xs i x in
+    sym (place-found n i xs x y rising within (get_or-any xs i x y within) number found)
 
 -- ---- enqueued work
 
@@ -158,6 +169,14 @@ module _ (xs : List Arena) (lists : List (List Row)) (n i : ℕ) (x : Arena) (h 
       ∙ ap (find (λ (r : Row). eqb r.stamp x.stamp)) (h.listed.entries x.level d level.0 level.1)
       ∙ entry-at x.number x.stamp (by_stamp xs) x (found-matches x.number x (by_stamp xs) found-here) (table-found xs i x h.by_number within e)
 
+  -- it is counted if it has enqueued work
+  pub counted-within : cond (has_work x) 1 0 ≤ n
+  counted-within =
+      let w : Arena → ℕ = λ (a : Arena). cond (has_work a) 1 0 in
+      let here : w (get_or xs i x) ≡ w x = ap w (sym e) in
+      let part : w (get_or xs i x) ≤ sum_by w xs = get_or-le-sum_by w xs i x within in
+      omega (arith, here, part, h.enqueued)
+
   -- ---- its claim changes
 
   pub view-claimed : (c : Claim) → by_stamp (set xs i (record x { claim = c })) ≡ with_claim x.number c (by_stamp xs)
@@ -254,6 +273,13 @@ module _ (xs : List Arena) (lists : List (List Row)) (n i : ℕ) (x : Arena) (h 
 
     pub promoted-newest : All (λ (r : Row). r.stamp < y.stamp) (get_or mid to e')
     promoted-newest = rw there (entries-older y.level y.stamp (without x.number (by_stamp xs)) older-mid)
+
+    -- a visit to a list is within the bound for all arenas
+    pub promoted-visits : (v : ℕ) → v ≤ 2 * bits (length (get_or mid to e')) + 1 → v ≤ 2 * bits (length (by_stamp xs)) + 1
+    promoted-visits v k =
+        let size : length (without x.number (by_stamp xs)) ≤ length (by_stamp xs) = omega (arith, ap length view-removed, length-by_stamp (remove xs i), length-by_stamp xs, length-remove xs i within) in
+        let less : length (get_or mid to e') ≤ length (by_stamp xs) = omega (arith, ap length there, length-entries y.level (without x.number (by_stamp xs)), size) in
+        omega (arith, bits-more (length (get_or mid to e')) (length (by_stamp xs)) less)
 
     pub stored-promoted : (after : List Row) → y.number ≡ x.number → y.claim ≡ x.claim → after ≡ entry_of y ∷ get_or mid to e'
         → IsStored (set xs i y) (set mid to after) n
