@@ -1,10 +1,11 @@
 use Rattle.std.proofs.lemmas.Bool.{cases_eq, cases_lt, ne_eqb, eq-eqb}
 use Rattle.std.proofs.Common.{inl, inr, ◌≡◌, ℕ, ◌+◌, ◌-◌, ◌*◌, ◌/◌, ◌%◌, ◌<◌, ◌≤◌, cond, eqb, List, [], ◌∷◌, refl, sym, ap, add-zero, zero-add, ◌∙◌, arith}
-use Rattle.std.proofs.Math.Nat.{div-add-mod, mul-add-div, add-mod-mod, mul-mod_left, zero-mod, mul-zero, mul-le-mul_left, div-eq_of_lt, div-zero}
+use Rattle.std.proofs.Math.Nat.{div-add-mod, mul-add-div, add-mod-mod, mul-mod_left, zero-mod, mul-zero, mul-le-mul_left, div-eq_of_lt, div-zero, mod-eq_of_lt}
 use Rattle.std.proofs.lemmas.Nat.{div_below}
 use Rattle.std.specs.List.{flat_map}
 use Rattle.std.proofs.lemmas.List.Sums.{sum_by-cons, fold-append}
 use Rattle.market_types.specs.State.{Arena, State}
+use Rattle.allotment.specs.Levels.{Asks, AskBefore}
 use Rattle.market_types.specs.Claims.{request_of}
 use Rattle.market_types.specs.Allotment.{total_request, at_level, share_of, carry_past, carry_after, demand}
 
@@ -114,3 +115,46 @@ pub share_of-few : (K D : ℕ → ℕ) (before : List Arena) (row : Arena) → K
 share_of-few K D before row h =
     rw (ap (λ carry. share_of K D carry row) (carry_after-before K D row.level before))
     (few (request_of row.claim) (K row.level) (D row.level) (total_request (at_level row.level before)) h)
+
+-- ---- the two functions are the rule
+
+quotient-at : (q k d c : ℕ) → c < d → (q * k + c) / d ≡ cond (eqb q 0) 0 ((q * k + c) / d)
+quotient-at q k d c p =
+    elim (cases_eq q 0) [
+      | inl z ↦
+          let carried : 0 * k + c ≡ c = omega arith in
+          rw z (ap (λ n. n / d) carried ∙ div-eq_of_lt {n = c} {m = d} p)
+      | inr n ↦ rw (ne_eqb q 0 n) refl
+    ]
+
+remainder-at : (q k d c : ℕ) → c < d → (q * k + c) % d ≡ cond (eqb q 0) c ((q * k + c) % d)
+remainder-at q k d c p =
+    elim (cases_eq q 0) [
+      | inl z ↦
+          let carried : 0 * k + c ≡ c = omega arith in
+          rw z (ap (λ n. n % d) carried ∙ mod-eq_of_lt {n = c} {m = d} p)
+      | inr n ↦ rw (ne_eqb q 0 n) refl
+    ]
+
+pub carry_share-workers : (K D : ℕ → ℕ) (a : Arena) (k d q carry : ℕ) → Asks K D a k d q → carry < d → (q * k + carry) / d ≡ share_of K D carry a
+carry_share-workers K D a k d q carry asks p =
+    quotient-at q k d carry p
+    ∙ ap (λ x. cond (eqb x 0) 0 ((x * k + carry) / d)) asks.request_is
+    ∙ ap (λ x. cond (eqb (request_of a.claim) 0) 0 ((request_of a.claim * x + carry) / d)) asks.assigned_is
+    ∙ ap (λ x. cond (eqb (request_of a.claim) 0) 0 ((request_of a.claim * K a.level + carry) / x)) asks.demand_is
+
+pub carry_share-carry : (K D : ℕ → ℕ) (a : Arena) (k d q carry : ℕ) → Asks K D a k d q → carry < d → (q * k + carry) % d ≡ carry_past K D carry a
+carry_share-carry K D a k d q carry asks p =
+    remainder-at q k d carry p
+    ∙ ap (λ x. cond (eqb x 0) carry ((x * k + carry) % d)) asks.request_is
+    ∙ ap (λ x. cond (eqb (request_of a.claim) 0) carry ((request_of a.claim * x + carry) % d)) asks.assigned_is
+    ∙ ap (λ x. cond (eqb (request_of a.claim) 0) carry ((request_of a.claim * K a.level + carry) % x)) asks.demand_is
+
+pub share-workers : (K D : ℕ → ℕ) (others : List Arena) (a : Arena) (k d b q : ℕ) → Asks K D a k d q → AskBefore others a b → 0 < d
+    → k * (b + q) / d - k * b / d ≡ share_of K D (carry_after K D 0 (at_level a.level others)) a
+share-workers K D others a k d b q asks before p =
+    let carry : k * b % d ≡ carry_after K D 0 (at_level a.level others) =
+    rw (asks.assigned_is, asks.demand_is, before) (sym (carry_after-before K D a.level others)) in
+    share-carried k d b q p
+    ∙ carry_share-workers K D a k d q (k * b % d) asks (omega arith)
+    ∙ ap (λ c. share_of K D c a) carry

@@ -3,8 +3,8 @@ use Rattle.std.specs.Prelude.{◌≡◌, ℕ, ◌-◌, ◌≤◌, List, [], ◌�
 use Rattle.std.specs.List.{find}
 use Rattle.std.specs.Option.{option_map}
 use Rattle.market_types.specs.State.{State, Arena}
-use Rattle.market_types.specs.Claims.{is_mandated}
-use Rattle.market_types.specs.Allotment.{demand, at_level, mandatory_pick}
+use Rattle.market_types.specs.Claims.{request_of, is_mandated}
+use Rattle.market_types.specs.Allotment.{total_request, demand, at_level, mandatory_pick}
 
 -- what each level asks for, and 0 above the market's levels
 pub record AreDemandsOf (s : State) (demands : List ℕ) : Type 0 where
@@ -34,6 +34,16 @@ first_some (Some a ∷ picks) = Some a
 -- each arena is at a level of the market
 abbrev pub IsLeveled : State → Type 0
 IsLeveled s = All (λ (a : Arena). (1 ≤ a.level) × (a.level ≤ s.levels)) s.arenas
+
+-- the arena asks for `request` of the `demand` of its level, which is assigned `assigned`
+pub record Asks (given asked : ℕ → ℕ) (a : Arena) (assigned demand request : ℕ) : Type 0 where
+  pub assigned_is : assigned ≡ given a.level
+  pub demand_is : demand ≡ asked a.level
+  pub request_is : request ≡ request_of a.claim
+
+-- the arenas of its level before it ask for `before` together
+abbrev pub AskBefore : List Arena → Arena → ℕ → Type 0
+AskBefore others a before = before ≡ total_request (at_level a.level others)
 
 -- the workers that stand beside an arena's number
 abbrev pub workers_of : ℕ × ℕ → ℕ

@@ -1,5 +1,8 @@
 //! The workers of an arena, by what its level is given.
-ghost use Rattle.std.specs.Prelude.{◌≡◌, ◌+◌, ◌-◌, ◌*◌, ◌/◌, ◌%◌, ◌^◌, ◌<◌, ◌≤◌};
+ghost use Rattle.std.specs.Prelude.{◌≡◌, ℕ, ◌+◌, ◌-◌, ◌*◌, ◌/◌, ◌%◌, ◌^◌, ◌<◌, ◌≤◌, List};
+ghost use Rattle.market_types.specs.State.{Arena};
+ghost use Rattle.market_types.specs.Allotment.{share_of, carry_past, carry_after, at_level};
+ghost use Rattle.allotment.specs.Levels.{Asks, AskBefore};
 
 /// The workers of an arena that asks for `request` of the `demand` of a level which is assigned `assigned`, where the
 /// arena before it left `carry`; and the carry that it leaves itself.
@@ -13,6 +16,12 @@ pub fn carry_share(assigned: u64, demand: u64, carry: u64, request: u64) -> (u64
     ensures carry { result.1 ≡ (request * assigned + carry) % demand }
     ensures no_more_than_asked { result.0 ≤ request }
     ensures carried_on { result.1 < demand }
+
+    // It is the rule's step for an arena of such a level.
+    ensures workers_of { (given asked : ℕ → ℕ) (a : Arena) → Asks given asked a assigned demand request
+        → result.0 ≡ share_of given asked carry a }
+    ensures carry_of { (given asked : ℕ → ℕ) (a : Arena) → Asks given asked a assigned demand request
+        → result.1 ≡ carry_past given asked carry a }
 {
     let total = request * assigned + carry;
     (total / demand, total % demand)
@@ -28,6 +37,11 @@ pub fn share(assigned: u64, demand: u64, before: u64, request: u64) -> u64
     ensures difference { result ≡ assigned * (before + request) / demand - assigned * before / demand }
     ensures carried { result ≡ (request * assigned + assigned * before % demand) / demand }
     ensures no_more_than_asked { result ≤ request }
+
+    // It is what the rule gives an arena that comes after others.
+    ensures workers_of { (given asked : ℕ → ℕ) (others : List Arena) (a : Arena)
+        → Asks given asked a assigned demand request → AskBefore others a before
+        → result ≡ share_of given asked (carry_after given asked 0 (at_level a.level others)) a }
 {
     assigned * (before + request) / demand - assigned * before / demand
 }

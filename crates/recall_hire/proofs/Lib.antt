@@ -1,0 +1,3 @@
+mod Seats
+mod Staffings
+mod Tables

@@ -1,0 +1,126 @@
+use Rattle.std.proofs.Common.{◌≡◌, ℕ, zero, suc, ◌+◌, ◌<◌, ◌≤◌, ltb, List, [], ◌∷◌, ◌++◌, take, length, get_or, map, Some, None, refl, sym, ap, ◌∙◌, arith, add-one, inl, inr}
+use Rattle.std.specs.Prelude.{slice_get}
+use Rattle.std.specs.List.{find}
+use Rattle.std.specs.Option.{option_map}
+use Rattle.std.proofs.lemmas.Bool.{cases_lt, cases_Bool, lt-ltb}
+use Rattle.market_types.specs.State.{State, Arena}
+use Rattle.market_types.specs.Counts.{Counts}
+use Rattle.market_types.specs.Allotment.{in_order, hire, recall}
+use Rattle.market_types.specs.Step.{above_zero, counts_of}
+use Rattle.recall_hire.specs.declared.rows.Staffing.{Staffing}
+use Rattle.recall_hire.specs.Staffed.{recall_in, hire_in, listed, allotted_at, NoneAllotted, first_in_need, counts_in, above_zero_in, row_of, rows_of, need_of}
+
+-- ---- a search for a row that has too few
+
+-- how many workers the row at a place has too few
+abbrev pub hire_at : List Staffing → ℕ → ℕ
+hire_at rows place = get_or (map hire_in rows) place 0
+
+-- no row before a place has too few
+abbrev pub NoneNeeds : List Staffing → ℕ → Type 0
+NoneNeeds rows to = (place : ℕ) → place < to → hire_at rows place ≡ 0
+
+-- only a row that is allotted workers can have too few
+hire-within : (rows : List Staffing) (place : ℕ) → hire_at rows place ≤ allotted_at rows place
+hire-within [] place = omega arith
+hire-within (r ∷ rs) zero = omega arith
+hire-within (r ∷ rs) (suc place) = hire-within rs place
+
+pub row-hire : (rows : List Staffing) (place : ℕ) (r : Staffing) → slice_get rows place ≡ Some r → hire_at rows place ≡ hire_in r
+row-hire [] place r e = cc
+row-hire (x ∷ xs) zero r e = let f : Some x ≡ Some r = e in let same : x ≡ r = cc in ap hire_in same
+row-hire (x ∷ xs) (suc place) r e = row-hire xs place r e
+
+-- rows without allotments need nobody
+pub needs-to : (rows : List Staffing) (from to : ℕ) → NoneNeeds rows from → NoneAllotted rows from to → NoneNeeds rows to
+needs-to rows from to before between place below =
+    elim (cases_lt place from) [
+      | inl p ↦ before place p
+      | inr p ↦ omega (arith, between place p below, hire-within rows place)
+    ]
+
+-- the search goes on
+pub needs-more : (rows : List Staffing) (next : ℕ) (r : Staffing) → NoneNeeds rows next → slice_get rows next ≡ Some r → hire_in r ≡ 0 → NoneNeeds rows (next + 1)
+needs-more rows next r before e zero_hire place below =
+    elim (cases_lt place next) [
+      | inl p ↦ before place p
+      | inr p ↦ ap (hire_at rows) (omega arith) ∙ row-hire rows next r e ∙ zero_hire
+    ]
+
+-- and ends at a row
+pub need-found : (rows : List Staffing) (next : ℕ) (r : Staffing) → NoneNeeds rows next → slice_get rows next ≡ Some r → 0 < hire_in r → first_in_need rows ≡ Some r.arena
+need-found [] next r before e low = cc
+need-found (x ∷ xs) zero r before e low =
+    let f : Some x ≡ Some r = e in
+    let same : x ≡ r = cc in
+    rw same (rw (lt-ltb 0 (hire_in r) low) refl)
+need-found (x ∷ xs) (suc next) r before e low =
+    let none : hire_in x ≡ 0 = before 0 (omega arith) in
+    rw none (need-found xs next r (λ place below. before (suc place) (omega arith)) e low)
+
+-- or at none
+pub need-none : (rows : List Staffing) → NoneNeeds rows (length rows) → first_in_need rows ≡ None
+need-none [] before = refl
+need-none (x ∷ xs) before =
+    let none : hire_in x ≡ 0 = before 0 (omega arith) in
+    rw none (need-none xs (λ place below. before (suc place) (omega arith)))
+
+-- ---- in a market
+
+need-rows : (s : State) (arenas : List Arena) → first_in_need (map (row_of s) arenas) ≡ option_map (λ (a : Arena). a.number) (find (λ (a : Arena). ltb 0 (hire s a.number)) arenas)
+need-rows s [] = refl
+need-rows s (a ∷ arenas) =
+    elim (cases_Bool (ltb 0 (hire s a.number))) [
+      | inl e ↦ rw e refl
+      | inr e ↦ rw e (need-rows s arenas)
+    ]
+
+pub need-in_market : (s : State) (rows : List Staffing) → rows ≡ rows_of s → first_in_need rows ≡ need_of s
+need-in_market s rows e = ap first_in_need e ∙ need-rows s (in_order s)
+
+counts-rows : (s : State) (count : ℕ → ℕ) (count_in : Staffing → ℕ) (arenas : List Arena) → ((a : Arena) → count_in (row_of s a) ≡ count a.number)
+    → above_zero_in count_in (map (row_of s) arenas) ≡ above_zero count arenas
+counts-rows s count count_in [] same = refl
+counts-rows s count count_in (a ∷ arenas) same = rw (same a, counts-rows s count count_in arenas same) refl
+
+pub counts-in_market : (s : State) (rows : List Staffing) → rows ≡ rows_of s → counts_in rows ≡ counts_of s
+counts-in_market s rows e =
+    let recalls : above_zero_in recall_in (rows_of s) ≡ above_zero (recall s) (in_order s) = counts-rows s (recall s) recall_in (in_order s) (λ a. refl) in
+    let hires : above_zero_in hire_in (rows_of s) ≡ above_zero (hire s) (in_order s) = counts-rows s (hire s) hire_in (in_order s) (λ a. refl) in
+    ap counts_in e ∙ cc
+
+-- the two lists of a reply
+abbrev pub counts : List (ℕ × ℕ) → List (ℕ × ℕ) → Counts
+counts recalls hires = record { recalls = recalls; hires = hires }
+
+-- ---- the rows one by one
+
+pub row-allotted : (rows : List Staffing) (place : ℕ) (r : Staffing) → slice_get rows place ≡ Some r → allotted_at rows place ≡ r.allotted
+row-allotted [] place r e = cc
+row-allotted (x ∷ xs) zero r e = let f : Some x ≡ Some r = e in let same : x ≡ r = cc in ap (λ (y : Staffing). y.allotted) same
+row-allotted (x ∷ xs) (suc place) r e = row-allotted xs place r e
+
+-- one row more
+above_zero-suc : (count : Staffing → ℕ) (rows : List Staffing) (place : ℕ) (r : Staffing) → slice_get rows place ≡ Some r
+    → above_zero_in count (take (suc place) rows) ≡ above_zero_in count (take place rows) ++ listed r.arena (count r)
+above_zero-suc count [] place r e = cc
+above_zero-suc count (x ∷ xs) zero r e =
+    let f : Some x ≡ Some r = e in
+    let same : x ≡ r = cc in
+    rw same refl
+above_zero-suc count (x ∷ xs) (suc place) r e =
+    let rest : above_zero_in count (take (suc place) xs) ≡ above_zero_in count (take place xs) ++ listed r.arena (count r) = above_zero-suc count xs place r e in
+    elim (cases_Bool (ltb 0 (count x))) [
+      | inl t ↦ rw t (ap (λ es. (x.arena, count x) ∷ es) rest)
+      | inr f ↦ rw f rest
+    ]
+
+above_zero-more : (count : Staffing → ℕ) (rows : List Staffing) (place : ℕ) (r : Staffing) → slice_get rows place ≡ Some r
+    → above_zero_in count (take (place + 1) rows) ≡ above_zero_in count (take place rows) ++ listed r.arena (count r)
+above_zero-more count rows place r e = rw add-one (above_zero-suc count rows place r e)
+
+-- a list of counts, after one row more
+pub listed-more : (count : Staffing → ℕ) (rows : List Staffing) (place n : ℕ) (r : Staffing) (before after : List (ℕ × ℕ))
+    → after ≡ before ++ listed r.arena n → before ≡ above_zero_in count (take place rows) → n ≡ count r → slice_get rows place ≡ Some r
+    → after ≡ above_zero_in count (take (place + 1) rows)
+listed-more count rows place n r before after added so_far counted e = rw (added, so_far, counted) (sym (above_zero-more count rows place r e))

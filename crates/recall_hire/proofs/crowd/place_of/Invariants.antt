@@ -1,0 +1,7 @@
+use Rattle.std.proofs.Common.{◌≡◌, take}
+use Rattle.recall_hire.specs.Crowds.{size_at}
+use Rattle.recall_hire.proofs.crowd.place_of.Given as goal
+
+-- none of the crowds so far is at the arena
+abbrev pub invariant-loop-place : goal.invariant-loop-place
+invariant-loop-place l = size_at l.arena (take l.place l.crowds) ≡ 0

@@ -1,0 +1,14 @@
+use Rattle.std.proofs.Common.{◌-◌, ◌≤◌, length}
+use Rattle.recall_hire.proofs.Staffings.{NoneNeeds}
+use Rattle.recall_hire.proofs.needs.first_in_need.Given as goal
+
+-- no row so far has too few workers
+abbrev pub invariant-loop-place : goal.invariant-loop-place
+invariant-loop-place g l =
+    record {
+      within : l.place ≤ length (g.R.Rows.rows l.rows);
+      searched : NoneNeeds (g.R.Rows.rows l.rows) l.place;
+    }
+
+abbrev pub decreases-loop-place : goal.decreases-loop-place
+decreases-loop-place g l = length (g.R.Rows.rows l.rows) - l.place

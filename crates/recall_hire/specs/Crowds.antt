@@ -1,0 +1,33 @@
+-- How many seats are placed at each arena.
+use Rattle.std.specs.Prelude.{◌≡◌, ℕ, ◌≤◌, Bool, ◌==◌, if◌then◌else◌, List, map, length, Option, is_some, slice_get, All}
+use Rattle.std.specs.List.{sum_by, count_by}
+use Rattle.market_types.specs.Allotment.{is_just}
+use Rattle.recall_hire.specs.declared.crowd.Crowd.{Crowd}
+
+abbrev pub one_if : Bool → ℕ
+one_if b = if b then 1 else 0
+
+-- the arena of the crowd at a place
+abbrev pub arena_at : ℕ → List Crowd → Option ℕ
+arena_at place crowds = slice_get (map (λ (c : Crowd). c.arena) crowds) place
+
+-- how many seats are at an arena
+abbrev pub size_at : ℕ → List Crowd → ℕ
+size_at a crowds = sum_by (λ (c : Crowd). if c.arena == a then c.size else 0) crowds
+
+-- how many seats are at any
+abbrev pub total_size : List Crowd → ℕ
+total_size crowds = sum_by (λ (c : Crowd). c.size) crowds
+
+-- each arena has one crowd at most, and no crowd is empty
+pub record IsTable (crowds : List Crowd) : Type 0 where
+  pub single : (a : ℕ) → count_by (λ (c : Crowd). c.arena == a) crowds ≤ 1
+  pub filled : All (λ (c : Crowd). 1 ≤ c.size) crowds
+
+-- the crowds are those of the seats, with room for each seat to be at an arena of its own
+pub record IsCounted (seats : List (Option ℕ)) (crowds : List Crowd) (capacity : ℕ) : Type 0 where
+  pub table : IsTable crowds
+  pub sizes : (a : ℕ) → size_at a crowds ≡ count_by (is_just a) seats
+  pub total : total_size crowds ≡ count_by is_some seats
+  pub room : length seats ≤ capacity
+  pub few : length seats ≤ 64

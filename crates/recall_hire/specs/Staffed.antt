@@ -1,0 +1,55 @@
+-- What arenas have of what they are allotted, in the order in which they are served.
+use Rattle.std.specs.Prelude.{◌≡◌, ℕ, ◌-◌, ◌<◌, ◌≤◌, nat_lt, if◌then◌else◌, List, [], ◌∷◌, map, Option, slice_index}
+use Rattle.std.specs.List.{filter, find}
+use Rattle.std.specs.Option.{option_map}
+use Rattle.market_types.specs.State.{State, Arena}
+use Rattle.market_types.specs.Counts.{Counts}
+use Rattle.market_types.specs.Allotment.{in_order, alloc, active, need}
+use Rattle.recall_hire.specs.declared.rows.Staffing.{Staffing}
+
+-- how many workers a row has too many
+abbrev pub recall_in : Staffing → ℕ
+recall_in r = r.active - r.allotted
+
+-- how many it has too few
+abbrev pub hire_in : Staffing → ℕ
+hire_in r = r.allotted - r.active
+
+-- the arena of the first row that has too few
+abbrev pub first_in_need : List Staffing → Option ℕ
+first_in_need rows = option_map (λ (r : Staffing). r.arena) (find (λ (r : Staffing). nat_lt 0 (hire_in r)) rows)
+
+-- an arena with its count, where that is above 0
+abbrev pub listed : ℕ → ℕ → List (ℕ × ℕ)
+listed a count = if nat_lt 0 count then (a, count) ∷ [] else []
+
+-- the arenas in order at which a count is above 0, with it
+abbrev pub above_zero_in : (Staffing → ℕ) → List Staffing → List (ℕ × ℕ)
+above_zero_in count rows =
+    filter (λ (e : ℕ × ℕ). nat_lt 0 e.1) (map (λ (r : Staffing). (r.arena, count r)) rows)
+
+-- those with too many, and those with too few
+abbrev pub counts_in : List Staffing → Counts
+counts_in rows = record { recalls = above_zero_in recall_in rows; hires = above_zero_in hire_in rows }
+
+-- what the row at a place is allotted, and 0 after the last
+abbrev pub allotted_at : List Staffing → ℕ → ℕ
+allotted_at rows place = slice_index (map (λ (r : Staffing). r.allotted) rows) place
+
+-- no row from one place on and before another is allotted a worker
+abbrev pub NoneAllotted : List Staffing → ℕ → ℕ → Type 0
+NoneAllotted rows from to = (place : ℕ) → from ≤ place → place < to → allotted_at rows place ≡ 0
+
+-- ---- in a market
+
+-- the row of an arena
+abbrev pub row_of : State → Arena → Staffing
+row_of s a = record { arena = a.number; allotted = alloc s a.number; active = active s a.number }
+
+-- the rows of a market
+abbrev pub rows_of : State → List Staffing
+rows_of s = map (row_of s) (in_order s)
+
+-- the arena that a worker goes to next
+abbrev pub need_of : State → Option ℕ
+need_of s = option_map (λ (a : Arena). a.number) (need s)

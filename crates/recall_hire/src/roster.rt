@@ -1,0 +1,93 @@
+//! At which arena each seat is placed.
+ghost use Rattle.std.specs.Prelude.{◌≡◌, ◌≤◌, ◌<◌, None, Some, length, replicate, slice_get, slice_set, IfOk};
+ghost use Rattle.std.specs.List.{count_by};
+ghost use Rattle.market_types.specs.Allotment.{is_just};
+
+use crate::crowd::{Crowd, grow, shrink, size_of};
+use market_types::{ArenaId, SeatNo};
+use std::alloc::{AllocError, Global};
+use std::marker::Model;
+
+/// For each seat the arena that it is placed at, if any.
+#[derive(Debug, Drop)]
+pub struct Roster {
+    seats: Vec<Option<ArenaId>>,
+    /// The arenas where somebody is placed, so that their seats need not be counted again.
+    crowds: Vec<Crowd>,
+}
+
+impl Model for Roster {
+    ghost use Rattle.std.specs.Prelude.{ℕ, List, Option};
+    ghost use Rattle.std.specs.Vec.{vec_capacity};
+    ghost use Rattle.recall_hire.specs.Crowds.{IsCounted};
+
+    ghost Value = { List (Option ℕ) };
+
+    ghost view = { λ r. r.seats.items };
+
+    ghost invariant = { λ r. IsCounted r.seats.items r.crowds.items (vec_capacity r.crowds) };
+}
+
+impl Roster {
+    /// So many seats, 1 to 64, none of them placed. Takes the memory of all that comes: no other call takes any.
+    pub fn new(alloc: Global, seats: u8) -> Result<Self, AllocError>
+        requires some { 1 ≤ seats }
+        requires few { seats ≤ 64 }
+        ensures unplaced { IfOk result (λ roster. roster ≡ replicate seats None) }
+    {
+        Ok(Roster {
+            seats: vec![in alloc; None; usize::from(seats)]?,
+            crowds: Vec::with_capacity(alloc, usize::from(seats))?,
+        })
+    }
+
+    /// How many seats there are.
+    pub fn seats(&self) -> u8
+        ensures exact { result ≡ length self.now }
+    {
+        self.seats.len() as u8
+    }
+
+    /// The arena that a seat is placed at.
+    pub fn at(&self, seat: SeatNo) -> Option<ArenaId>
+        requires known { seat < length self.now }
+        ensures exact { slice_get self.now seat ≡ Some result }
+    {
+        self.seats[usize::from(seat.get())]
+    }
+
+    /// Places a seat that is not placed.
+    pub fn place(&mut self, seat: SeatNo, arena: ArenaId)
+        requires known { seat < length self.old }
+        requires unplaced { slice_get self.old seat ≡ Some None }
+        ensures placed { self.new ≡ slice_set self.old seat (Some arena) }
+    {
+        let place = usize::from(seat.get());
+        self.seats[place] = Some(arena);
+        grow(&mut self.crowds, arena);
+    }
+
+    /// Takes a seat from its arena, and gives that arena; nothing happens where it is not placed.
+    pub fn unplace(&mut self, seat: SeatNo) -> Option<ArenaId>
+        requires known { seat < length self.old }
+        ensures was { slice_get self.old seat ≡ Some result }
+        ensures unplaced { self.new ≡ slice_set self.old seat None }
+    {
+        let place = usize::from(seat.get());
+        let was = self.seats[place];
+        if let Some(arena) = was {
+            self.seats[place] = None;
+            shrink(&mut self.crowds, arena);
+        }
+        was
+    }
+
+    /// How many seats are placed at an arena. Looks at no more entries than there are seats, whatever the number of
+    /// arenas.
+    pub fn active(&self, arena: ArenaId) -> u32
+        ensures exact { result ≡ count_by (is_just arena) self.now }
+        ensures few { result ≤ 64 }
+    {
+        size_of(&self.crowds, arena)
+    }
+}

@@ -1,0 +1,61 @@
+//! What arenas have of what they are allotted.
+ghost use Rattle.std.specs.Prelude.{◌≡◌, ℕ, ◌-◌, ◌<◌, ◌≤◌, List, length, slice_get, Some, IfSome, IfNone};
+ghost use Rattle.recall_hire.specs.declared.rows.Staffing.{Staffing};
+ghost use Rattle.recall_hire.specs.Staffed.{allotted_at, NoneAllotted};
+
+use market_types::ArenaId;
+
+/// What an arena is allotted, and what it has.
+#[derive(Clone, Copy, Debug, PartialEq, Eq)]
+pub struct Staffing {
+    pub arena: ArenaId,
+    /// How many workers it is allotted.
+    pub allotted: u32,
+    /// How many seats are placed at it.
+    pub active: u32,
+}
+
+/// How many of `active` workers are too many.
+pub fn recall(active: u32, allotted: u32) -> u32
+    ensures exact { result ≡ active - allotted }
+{
+    active.saturating_sub(allotted)
+}
+
+/// How many workers are too few.
+pub fn hire(active: u32, allotted: u32) -> u32
+    ensures exact { result ≡ allotted - active }
+{
+    allotted.saturating_sub(active)
+}
+
+/// Arenas in the order in which they are served.
+pub trait Rows {
+    /// The rows in order.
+    ghost rows: { Self → List Staffing };
+
+    /// How many rows there are.
+    fn len(&self) -> usize
+        ensures exact { result ≡ length (rows self.now) };
+
+    /// The row at a place, from 0.
+    fn row(&self, place: usize) -> Staffing
+        requires known { place < length (rows self.now) }
+        ensures exact { slice_get (rows self.now) place ≡ Some result };
+
+    /// The first place from `place` on whose row is allotted a worker. Looks at each row on the way, unless the rows
+    /// know better.
+    fn next_allotted(&self, place: usize) -> Option<usize>
+        ensures found { IfSome result (λ next. (place ≤ next) × (next < length (rows self.now))) }
+        ensures allotted { IfSome result (λ next. 0 < allotted_at (rows self.now) next) }
+        ensures first { IfSome result (λ next. NoneAllotted (rows self.now) place next) }
+        ensures none { IfNone result (NoneAllotted (rows self.now) place (length (rows self.now))) }
+    {
+        for next in place..self.len() {
+            if self.row(next).allotted > 0 {
+                return Some(next);
+            }
+        }
+        None
+    }
+}

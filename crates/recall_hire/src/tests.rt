@@ -1,0 +1,77 @@
+//! Rows worked out by hand.
+use crate::{Roster, Rows, Staffing, first_in_need, lists};
+use market_types::{ArenaId, SeatNo};
+use std::alloc::AllocError;
+
+/// Rows as they stand.
+#[derive(Clone, Copy)]
+struct Table<'a> {
+    rows: &'a [Staffing],
+}
+
+impl Rows for Table<'_> {
+    ghost rows = { λ t. t.rows.now };
+
+    fn len(&self) -> usize {
+        self.rows.len()
+    }
+
+    fn row(&self, place: usize) -> Staffing {
+        self.rows[place]
+    }
+}
+
+const fn row(arena: u32, allotted: u32, active: u32) -> Staffing {
+    Staffing {
+        arena: ArenaId::new(arena),
+        allotted,
+        active,
+    }
+}
+
+#[test]
+fn seats_are_counted_at_their_arenas(rt: HostRuntime) -> Result<(), AllocError> {
+    let arena = ArenaId::new(1);
+    let other = ArenaId::new(1024);
+    let mut roster = Roster::new(rt.alloc(), 2)?;
+    assert_eq!(rt; roster.seats(), 2);
+    roster.place(SeatNo::new(0), arena);
+    assert_eq!(rt; roster.active(arena), 1);
+    assert_eq!(rt; roster.active(other), 0);
+    roster.place(SeatNo::new(1), arena);
+    assert_eq!(rt; roster.active(arena), 2);
+    assert_eq!(rt; roster.at(SeatNo::new(1)), Some(arena));
+    assert_eq!(rt; roster.unplace(SeatNo::new(0)), Some(arena));
+    assert_eq!(rt; roster.unplace(SeatNo::new(0)), None);
+    assert_eq!(rt; roster.active(arena), 1);
+    roster.place(SeatNo::new(0), other);
+    assert_eq!(rt; roster.active(other), 1);
+    Ok(())
+}
+
+#[test]
+fn counts_are_listed_in_order(rt: HostRuntime) -> Result<(), AllocError> {
+    let one = [row(1, 3, 1)];
+    let listed = lists(rt.alloc(), &Table { rows: &one })?;
+    assert!(rt; listed.recalls.is_empty());
+    assert_eq!(rt; listed.hires.as_slice(), [(ArenaId::new(1), 2)].as_slice());
+    let four = [row(4, 0, 0), row(3, 1, 2), row(2, 5, 5), row(1, 2, 0)];
+    let listed = lists(rt.alloc(), &Table { rows: &four })?;
+    assert_eq!(rt;
+        listed.recalls.as_slice(),
+        [(ArenaId::new(3), 1)].as_slice()
+    );
+    assert_eq!(rt; listed.hires.as_slice(), [(ArenaId::new(1), 2)].as_slice());
+    Ok(())
+}
+
+#[test]
+fn a_worker_goes_to_the_first_arena_in_need(rt: HostRuntime) {
+    let rows = [row(4, 0, 0), row(3, 1, 2), row(2, 5, 4), row(1, 2, 0)];
+    assert_eq!(rt;
+        first_in_need(&Table { rows: &rows }),
+        Some(ArenaId::new(2))
+    );
+    assert_eq!(rt; first_in_need(&Table { rows: &rows[..2] }), None);
+    assert_eq!(rt; first_in_need(&Table { rows: &[] }), None);
+}
