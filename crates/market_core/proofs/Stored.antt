@@ -13,9 +13,10 @@ use Rattle.market_types.specs.State.{Claim, Arena}
 use Rattle.market_types.specs.Claims.{request_of, is_mandated}
 use Rattle.market_types.specs.Allotment.{at_level, has_mandatory}
 use Rattle.market_types.specs.Step.{arena_at, without, with_claim}
+use Rattle.allotment.specs.Levels.{number_of}
 use Rattle.market_core.specs.Store.{by_stamp, entry_of, entries, IsNewestFirst, IsByNumber, IsApart, IsKept, IsListed, IsStored, has_work}
 use Rattle.market_core.proofs.ByStamp.{has_number, IsMissing, IsOlder, All-by_stamp, by_stamp-All, sum_by-by_stamp, length-by_stamp, arena_at-by_stamp_none, without-missing}
-use Rattle.market_core.proofs.Entries.{Matches, LevelsAt, entries-with_claim, entries-with_claim_other, entries-without, entries-without_other, entry-at, entries-older, length-entries}
+use Rattle.market_core.proofs.Entries.{Matches, LevelsAt, entries-with_claim, entries-with_claim_other, entries-without, entries-without_other, entry-at, entries-older, entries-mandated, length-entries}
 use Rattle.market_core.proofs.Found.{Found, found-at, found-matches, found-levels}
 use Rattle.level_list.specs.Bits.{bits}
 use Rattle.market_core.proofs.Visits.{bits-more, bits-few}
@@ -301,6 +302,10 @@ module _ (xs : List Arena) (lists : List (List Row)) (n i : ℕ) (x : Arena) (h 
 
 -- ---- a list
 
+arena-of : (o : Option Arena) → option_map (λ (r : Row). r.arena) (option_map entry_of o) ≡ number_of o
+arena-of None = refl
+arena-of (Some a) = refl
+
 module _ (xs : List Arena) (lists : List (List Row)) (n : ℕ) (h : IsStored xs lists n) (level place : ℕ) (d : List Row) (low : 1 ≤ level) (high : level ≤ 8) (p : place ≡ level - 1) where
   pub list-at : get_or lists place d ≡ entries level (by_stamp xs)
   list-at = ap (λ k. get_or lists k d) p ∙ h.listed.entries level d low high
@@ -317,6 +322,13 @@ module _ (xs : List Arena) (lists : List (List Row)) (n : ℕ) (h : IsStored xs 
 
   pub list-visits_one : (v : ℕ) → v ≤ 2 * bits (length (get_or lists place d)) + 1 → v ≤ 2 * bits (length (by_stamp xs)) + 1
   list-visits_one v e = omega (arith, bits-more (length (get_or lists place d)) (length (by_stamp xs)) (omega (arith, list-few, length-by_stamp xs)))
+
+  -- the first mandated row is that of the first mandated arena
+  pub list-mandated : (o : Option Row) → o ≡ find (λ (r : Row). r.mandated) (get_or lists place d)
+      → option_map (λ (r : Row). r.arena) o ≡ number_of (find (λ (a : Arena). is_mandated a.claim) (at_level level (by_stamp xs)))
+  list-mandated o e =
+      ap (option_map (λ (r : Row). r.arena)) (e ∙ ap (find (λ (r : Row). r.mandated)) list-at ∙ entries-mandated level (by_stamp xs))
+      ∙ arena-of (find (λ (a : Arena). is_mandated a.claim) (at_level level (by_stamp xs)))
 
 pub all-visits : (xs : List Arena) (lists : List (List Row)) (n : ℕ) → IsStored xs lists n → 2 * bits (length (by_stamp xs)) ≤ 22
 all-visits xs lists n h = omega (arith, bits-few (length (by_stamp xs)) (omega (arith, length-by_stamp xs, h.few)))

@@ -1,3 +1,6 @@
 pub mod Store
 pub mod Memory
-pub mod Within
+pub mod Allotted
+pub mod Sound
+pub mod Shown
+pub mod Divided

@@ -4,8 +4,9 @@
 //! is what its arenas, controls and seats give as they stand, and depends on nothing that went before.
 #![tactic(auto)]
 
+mod division;
+mod market;
 mod row;
 mod store;
 
-pub use row::{ArenaRow, place_of};
-pub use store::Arenas;
+pub use market::Market;

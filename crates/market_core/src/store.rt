@@ -1,10 +1,11 @@
 //! The living arenas: a table by number, and for each level a list by stamp.
-ghost use Rattle.std.specs.Prelude.{◌≡◌, ◌+◌, ◌*◌, ◌<◌, ◌≤◌, ◌∷◌, [], None, Some, length, slice_get, nat_lt, if◌then◌else◌, option_map, IfNone, IfSome, IfOk, OnOk, OnErr};
+ghost use Rattle.std.specs.Prelude.{◌≡◌, ℕ, ◌-◌, slice_index, ◌+◌, ◌*◌, ◌<◌, ◌≤◌, ◌∷◌, [], None, Some, length, slice_get, nat_lt, if◌then◌else◌, option_map, IfNone, IfSome, IfOk, OnOk, OnErr};
 ghost use Rattle.std.specs.List.{All, find};
 ghost use Rattle.market_types.specs.State.{Arena};
 ghost use Rattle.market_types.specs.Claims.{is_mandated};
 ghost use Rattle.market_types.specs.Allotment.{total_request, at_level, has_mandatory};
 ghost use Rattle.market_types.specs.Step.{arena_at, with_claim, without};
+ghost use Rattle.allotment.specs.Levels.{number_of};
 ghost use Rattle.market_core.specs.Store.{IsKept, newer, entry_of};
 ghost use Rattle.level_list.specs.Bits.{bits};
 
@@ -103,6 +104,35 @@ impl Arenas {
         ensures visits { result.1 ≤ 2 * bits (length self.now) }
     {
         self.lists[level.get() as usize - 1].before(stamp)
+    }
+
+    /// What each level asks for, level 1 first.
+    pub fn demands(&self) -> [u64; 8]
+        ensures exact { (level : ℕ) → 1 ≤ level → level ≤ 8
+            → slice_index result (level - 1) ≡ total_request (at_level level self.now) }
+        ensures small { (place : ℕ) → slice_index result place ≤ 1024 * 65535 }
+        ensures size { length result ≡ 8 }
+    {
+        let mut demands = [0; 8];
+        for place in 0..8 {
+            demands[place] = self.demand(place as u32 + 1);
+        }
+        demands
+    }
+
+    /// The first arena of a level, 1 to 8, that has enqueued work and asks for workers.
+    pub fn first_mandated(&self, level: u32) -> (Option<ArenaId>, u32)
+        requires low { 1 ≤ level }
+        requires high { level ≤ 8 }
+        ensures exact { result.0 ≡ number_of (find (λ (a : Arena). is_mandated a.claim) (at_level level self.now)) }
+        ensures visits { result.1 ≤ 2 * bits (length self.now) }
+        ensures few { result.1 ≤ 22 }
+    {
+        let (row, visits) = self.lists[level as usize - 1].first_mandated();
+        match row {
+            Some(row) => (Some(row.arena), visits),
+            None => (None, visits),
+        }
     }
 
     /// A new arena, newer than all others.

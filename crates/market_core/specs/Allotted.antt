@@ -1,4 +1,4 @@
-use Rattle.std.specs.Prelude.{◌≤◌}
+use Rattle.std.specs.Prelude.{ℕ, ◌≤◌, sum_by}
 use Rattle.market_types.specs.State.{Arena, State}
 use Rattle.market_types.specs.Claims.{cap_of, request_of}
 use Rattle.market_types.specs.Allotment.{alloc}
@@ -8,3 +8,7 @@ pub record IsWithin (s : State) (a : Arena) : Type 0 where
   pub allotted : alloc s a.number ≤ request_of a.claim
   pub asked : request_of a.claim ≤ cap_of a.claim
   pub usable : cap_of a.claim ≤ a.claim.slots
+
+-- what all arenas are allotted together
+abbrev pub total_alloc : State → ℕ
+total_alloc s = sum_by (λ (a : Arena). alloc s a.number) s.arenas

@@ -1,0 +1,144 @@
+//! The market, and what can be read of it.
+ghost use Rattle.std.specs.Prelude.{◌≡◌, ◌≤◌, ◌<◌, length, IfOk};
+ghost use Rattle.market_types.specs.State.{opening};
+ghost use Rattle.market_types.specs.Opening.{opened_market, MemoryAside};
+ghost use Rattle.market_types.specs.Allotment.{limit_of};
+ghost use Rattle.market_types.specs.Step.{limits_of};
+
+mod allot;
+
+use crate::store::Arenas;
+use control_set::ControlSet;
+use market_types::{LimitView, OpenFault};
+use recall_hire::Roster;
+use std::alloc::Global;
+use std::marker::Model;
+
+/// Arenas that share workers. Contracts see a market as its `State`: what it was opened with, its arenas, controls and
+/// seats, and its next numbers.
+#[derive(Drop)]
+pub struct Market {
+    base: u32,
+    hard: u32,
+    levels: u32,
+    arenas: Arenas,
+    controls: ControlSet,
+    roster: Roster,
+    next_arena: u32,
+    next_stamp: u32,
+}
+
+impl Model for Market {
+    ghost use Rattle.market_types.specs.State.{State};
+    ghost use Rattle.market_core.specs.Shown.{shown, IsSoundInside};
+
+    ghost Value = { State };
+
+    ghost view = { shown };
+
+    ghost invariant = { IsSoundInside };
+}
+
+impl Market {
+    /// A market that nothing has happened to: with a base of 1 to 65,536, else `BadBase`; a hard limit of 1 to 65,535,
+    /// else `BadHard`; 1 to 64 seats, else `BadSeats`; and 1 to 8 levels, else `BadLevels`. Then want of memory is
+    /// `Memory`.
+    pub fn new(
+        alloc: Global,
+        base: u32,
+        hard: u32,
+        seats: u8,
+        levels: u32,
+    ) -> Result<Self, OpenFault>
+        ensures exact { MemoryAside (opened_market base hard seats levels) result }
+        ensures opened { IfOk result (λ market. market ≡ opening base hard seats levels) }
+    {
+        if base == 0 || base > 65536 {
+            return Err(OpenFault::BadBase);
+        }
+        if hard == 0 || hard > 65535 {
+            return Err(OpenFault::BadHard);
+        }
+        if seats == 0 || seats > 64 {
+            return Err(OpenFault::BadSeats);
+        }
+        if levels == 0 || levels > 8 {
+            return Err(OpenFault::BadLevels);
+        }
+        let Ok(roster) = Roster::new(alloc, seats) else {
+            return Err(OpenFault::Memory);
+        };
+        Ok(Market {
+            base,
+            hard,
+            levels,
+            arenas: Arenas::new(alloc),
+            controls: ControlSet::new(alloc),
+            roster,
+            next_arena: 1,
+            next_stamp: 1,
+        })
+    }
+
+    /// What the active value is where no control lives, 1 to 65,536.
+    pub fn base(&self) -> u32
+        ensures exact { result ≡ self.now.base }
+        ensures low { 1 ≤ result }
+        ensures high { result ≤ 65536 }
+    {
+        self.base
+    }
+
+    /// How many workers may be active at most, 1 to 65,535.
+    pub fn hard(&self) -> u32
+        ensures exact { result ≡ self.now.hard }
+        ensures low { 1 ≤ result }
+        ensures high { result ≤ 65535 }
+    {
+        self.hard
+    }
+
+    /// How many seats there are, 1 to 64, numbered from 0.
+    pub fn seats(&self) -> u8
+        ensures exact { result ≡ length self.now.seats }
+        ensures low { 1 ≤ result }
+        ensures high { result ≤ 64 }
+    {
+        self.roster.seats()
+    }
+
+    /// How many levels there are, 1 to 8.
+    pub fn levels(&self) -> u32
+        ensures exact { result ≡ self.now.levels }
+        ensures low { 1 ≤ result }
+        ensures high { result ≤ 8 }
+    {
+        self.levels
+    }
+
+    /// How many workers may be active, and why.
+    pub fn limits(&self) -> LimitView
+        ensures exact { result ≡ limits_of self.now }
+    {
+        let limit = self.limit();
+        let effective = if limit > 0 {
+            limit
+        } else if self.arenas.has_mandatory() {
+            1
+        } else {
+            0
+        };
+        LimitView {
+            value: self.controls.active_value(self.base),
+            limit,
+            effective,
+        }
+    }
+
+    /// How many workers may be active.
+    fn limit(&self) -> u32
+        ensures exact { result ≡ limit_of self.now }
+    {
+        (self.controls.active_value(self.base) - 1).min(self.hard)
+    }
+}

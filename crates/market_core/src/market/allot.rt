@@ -1,0 +1,88 @@
+//! What the market allots.
+ghost use Rattle.std.specs.Prelude.{◌≡◌, ℕ, ◌+◌, ◌-◌, ◌*◌, ◌≤◌, ◌<◌, Some, None, length, option_map, slice_index, slice_index_or, ◌==◌, if◌then◌else◌};
+ghost use Rattle.market_types.specs.Allotment.{alloc, active, is_top, limit_of};
+ghost use Rattle.market_types.specs.Step.{arena_at, view_of};
+ghost use Rattle.allotment.specs.Levels.{AreDemandsOf, ArePicksOf, pick_of};
+ghost use Rattle.level_list.specs.Bits.{bits};
+ghost use Rattle.market_core.specs.Divided.{IsDivisionOf};
+ghost use Rattle.market_core.specs.Store.{IsKept};
+
+use super::Market;
+use crate::division::{Division, sum_of};
+use crate::row::ArenaRow;
+use allotment::{assign, bound_is_given_out, mandatory_pick, no_carry_to_keep, share, top_level};
+use market_types::{ArenaId, ArenaView};
+use recall_hire::{hire, recall};
+
+impl Market {
+    /// What each level asks for, and 0 above the levels of the market.
+    fn demands(&self) -> [u64; 8]
+        ensures exact { AreDemandsOf self.now result }
+        ensures small { (place : ℕ) → slice_index result place ≤ 1024 * 65535 }
+    {
+        self.arenas.demands()
+    }
+
+    /// The first arena of each level that has enqueued work and asks for workers.
+    fn picks(&self) -> ([Option<ArenaId>; 8], u32)
+        ensures exact { ArePicksOf self.now result.0 }
+        ensures visits { result.1 ≤ self.now.levels * (2 * bits (length self.now.arenas)) }
+    {
+        let mut picks = [None; 8];
+        let mut visits = 0;
+        for place in 0..self.levels {
+            let (pick, more) = self.arenas.first_mandated(place + 1);
+            picks[place as usize] = pick;
+            visits += more;
+        }
+        (picks, visits)
+    }
+
+    /// How workers are divided now.
+    fn divide(&self) -> (Division, u32)
+        ensures exact { IsDivisionOf self.now result.0 }
+        ensures visits { result.1 ≤ (if limit_of self.now == 0 then self.now.levels * (2 * bits (length self.now.arenas)) else 0) }
+    {
+        bound_is_given_out();
+        let limits = self.limits();
+        let demands = self.demands();
+        let bound = sum_of(&demands).min(u64::from(limits.effective)) as u32;
+        let (picked, visits) = if limits.limit == 0 {
+            let (picks, visits) = self.picks();
+            (mandatory_pick(&picks), visits)
+        } else {
+            (None, 0)
+        };
+        let division = Division {
+            limit: limits.limit,
+            bound,
+            demands,
+            assigned: assign(&demands, u64::from(bound)),
+            picked,
+        };
+        (division, visits)
+    }
+
+    /// How many workers a living arena is allotted.
+    fn allot(&self, row: ArenaRow, division: &Division) -> (u32, u32)
+        requires kept { IsKept self.now.arenas }
+        requires there { arena_at row.number self.now.arenas ≡ Some row }
+        requires divided { IsDivisionOf self.now division.now }
+        ensures exact { result.0 ≡ alloc self.now row.number }
+        ensures visits { result.1 ≤ 2 * bits (length self.now.arenas) }
+    {
+        let _ = &self.arenas;
+        if division.limit == 0 {
+            return (division.picked_workers(row.arena()), 0);
+        }
+        no_carry_to_keep();
+        let request = u64::from(row.claim().request());
+        if request == 0 {
+            return (0, 0);
+        }
+        let level = row.level().get() as usize - 1;
+        let (before, visits) = self.arenas.before(row.level(), row.stamp());
+        let workers = share(division.assigned[level], division.demands[level], before, request);
+        (workers as u32, visits)
+    }
+}
