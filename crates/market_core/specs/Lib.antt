@@ -4,3 +4,4 @@ pub mod Allotted
 pub mod Sound
 pub mod Shown
 pub mod Divided
+pub mod Visits

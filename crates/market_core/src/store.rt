@@ -102,6 +102,7 @@ impl Arenas {
     pub fn before(&self, level: Level, stamp: u32) -> (u64, u32)
         ensures exact { result.0 ≡ total_request (at_level level (newer stamp self.now)) }
         ensures visits { result.1 ≤ 2 * bits (length self.now) }
+        ensures few { result.1 ≤ 22 }
     {
         self.lists[level.get() as usize - 1].before(stamp)
     }

@@ -2,9 +2,11 @@
 ghost use Rattle.std.specs.Prelude.{◌≡◌, ℕ, ◌+◌, ◌-◌, ◌*◌, ◌≤◌, ◌<◌, Some, None, length, option_map, slice_index, slice_index_or, ◌==◌, if◌then◌else◌};
 ghost use Rattle.market_types.specs.Allotment.{alloc, active, is_top, limit_of};
 ghost use Rattle.market_types.specs.Step.{arena_at, view_of};
-ghost use Rattle.allotment.specs.Levels.{AreDemandsOf, ArePicksOf, pick_of};
+ghost use Rattle.allotment.specs.Levels.{AreDemandsOf, ArePicksOf, IsLeveled, pick_of};
 ghost use Rattle.level_list.specs.Bits.{bits};
 ghost use Rattle.market_core.specs.Divided.{IsDivisionOf};
+ghost use Rattle.market_core.specs.Visits.{extra_visits};
+ghost use Rattle.market_types.specs.State.{State};
 ghost use Rattle.market_core.specs.Store.{IsKept};
 
 use super::Market;
@@ -19,6 +21,7 @@ impl Market {
     fn demands(&self) -> [u64; 8]
         ensures exact { AreDemandsOf self.now result }
         ensures small { (place : ℕ) → slice_index result place ≤ 1024 * 65535 }
+        ensures leveled { IsLeveled self.now }
     {
         self.arenas.demands()
     }
@@ -27,6 +30,7 @@ impl Market {
     fn picks(&self) -> ([Option<ArenaId>; 8], u32)
         ensures exact { ArePicksOf self.now result.0 }
         ensures visits { result.1 ≤ self.now.levels * (2 * bits (length self.now.arenas)) }
+        ensures few { result.1 ≤ 176 }
     {
         let mut picks = [None; 8];
         let mut visits = 0;
@@ -41,7 +45,8 @@ impl Market {
     /// How workers are divided now.
     fn divide(&self) -> (Division, u32)
         ensures exact { IsDivisionOf self.now result.0 }
-        ensures visits { result.1 ≤ (if limit_of self.now == 0 then self.now.levels * (2 * bits (length self.now.arenas)) else 0) }
+        ensures visits { result.1 ≤ extra_visits self.now }
+        ensures few { result.1 ≤ 176 }
     {
         bound_is_given_out();
         let limits = self.limits();
@@ -70,6 +75,7 @@ impl Market {
         requires divided { IsDivisionOf self.now division.now }
         ensures exact { result.0 ≡ alloc self.now row.number }
         ensures visits { result.1 ≤ 2 * bits (length self.now.arenas) }
+        ensures few { result.1 ≤ 22 }
     {
         let _ = &self.arenas;
         if division.limit == 0 {
@@ -84,5 +90,62 @@ impl Market {
         let (before, visits) = self.arenas.before(row.level(), row.stamp());
         let workers = share(division.assigned[level], division.demands[level], before, request);
         (workers as u32, visits)
+    }
+
+    /// What is seen of a living arena.
+    fn see(&self, row: ArenaRow) -> (ArenaView, u32)
+        requires kept { IsKept self.now.arenas }
+        requires there { arena_at row.number self.now.arenas ≡ Some row }
+        ensures exact { result.0 ≡ view_of self.now row }
+        ensures visits { result.1 ≤ 2 * bits (length self.now.arenas) + extra_visits self.now }
+    {
+        let (division, first) = self.divide();
+        let (allot, more) = self.allot(row, &division);
+        let active = self.roster.active(row.arena());
+        let view = ArenaView {
+            arena: row.arena(),
+            request: row.claim().request(),
+            allot,
+            top: is_top(row, &division.demands),
+            active,
+            recall: recall(active, allot),
+            hire: hire(active, allot),
+        };
+        (view, first + more)
+    }
+
+    /// What is seen of an arena, or `None` where no living arena has this number. It takes no memory.
+    pub fn view(&self, arena: ArenaId) -> Option<ArenaView>
+        ensures exact { result ≡ option_map (view_of self.now) (arena_at arena self.now.arenas) }
+    {
+        let row = self.arenas.get(arena)?;
+        let (view, _) = self.see(row);
+        Some(view)
+    }
+
+    /// How many workers an arena is allotted; none where no living arena has this number.
+    pub(super) fn allotted(&self, arena: ArenaId) -> (u32, u32)
+        ensures exact { result.0 ≡ alloc self.now arena }
+        ensures visits { result.1 ≤ 2 * bits (length self.now.arenas) + extra_visits self.now }
+    {
+        let Some(row) = self.arenas.get(arena) else {
+            return (0, 0);
+        };
+        let (division, first) = self.divide();
+        let (allot, more) = self.allot(row, &division);
+        (allot, first + more)
+    }
+}
+
+/// The arena of the row is top priority.
+fn is_top(row: ArenaRow, demands: &[u64; 8]) -> bool
+    ensures { (s : State) → AreDemandsOf s demands.now → result ≡ is_top s row }
+{
+    if row.claim().request() == 0 {
+        return false;
+    }
+    match top_level(demands) {
+        Some(level) => level == row.level(),
+        None => false,
     }
 }
