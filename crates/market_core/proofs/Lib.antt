@@ -6,3 +6,4 @@ mod Allotted
 mod Search
 mod Visits
 mod Stored
+mod Steps

@@ -6,6 +6,7 @@ ghost use Rattle.market_types.specs.Allotment.{limit_of};
 ghost use Rattle.market_types.specs.Step.{limits_of};
 
 mod allot;
+mod apply;
 
 use crate::store::Arenas;
 use control_set::ControlSet;

@@ -75,6 +75,7 @@ impl Arenas {
     /// The arena of this number.
     pub fn get(&self, arena: ArenaId) -> Option<ArenaRow>
         ensures exact { result ≡ arena_at arena self.now }
+        ensures number { IfSome result (λ row. row.number ≡ arena) }
         ensures kept { IsKept self.now }
     {
         let place = place_of(&self.rows, arena)?;

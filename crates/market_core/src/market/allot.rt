@@ -93,7 +93,7 @@ impl Market {
     }
 
     /// What is seen of a living arena.
-    fn see(&self, row: ArenaRow) -> (ArenaView, u32)
+    pub(super) fn see(&self, row: ArenaRow) -> (ArenaView, u32)
         requires kept { IsKept self.now.arenas }
         requires there { arena_at row.number self.now.arenas ≡ Some row }
         ensures exact { result.0 ≡ view_of self.now row }

@@ -1,4 +1,5 @@
-use Rattle.std.proofs.Common.{arith, sym}
+use Rattle.std.proofs.Common.{arith, sym, ap, ◌∙◌}
+use Rattle.market_types.specs.State.{Arena}
 use Rattle.market_core.proofs.Stored.{kept, missing-by_stamp, found-by_stamp}
 use Rattle.market_core.proofs.store.Arenas.get.Goals as goal
 
@@ -18,3 +19,8 @@ returns-clause-exact c =
 
 pub returns-clause-kept : goal.returns-clause-kept
 returns-clause-kept c = rw (← c.self.view_is) (kept c.self.inside.rows.items c.self.inside.lists c.self.inside.enqueued c.self.invariant)
+
+pub returns-clause-number : goal.returns-clause-number
+returns-clause-number c =
+    let found = rw c.deref.ensures.value at c.in_ok-place.ensures.found in
+    ap (λ (a : Arena). a.number) c.index.ensures ∙ found c.index.result.now

@@ -1,0 +1,194 @@
+//! What a command does.
+ghost use Rattle.std.specs.Prelude.{◌≡◌, ◌≤◌, ◌<◌, length, false, IsOk, IfOk, OnOk, OnErr};
+ghost use Rattle.market_types.specs.Step.{open_step, close_step, priority_step, resize_step, request_step, control_step, uncontrol_step, stay_from, leave_from, place_of, show_step};
+ghost use Rattle.market_core.specs.Visits.{most_visits};
+
+use super::Market;
+use crate::row::ArenaRow;
+use crate::store::Arenas;
+use arena_record::ArenaRecord;
+use market_types::{ArenaId, ControlId, Fault, Level, Reply, SeatNo};
+use recall_hire::recall;
+use std::alloc::{AllocError, Global};
+
+/// The last number of an arena, and the last stamp.
+const LAST: u32 = 1_048_576;
+
+impl Market {
+    /// A new arena, before all others.
+    fn open(
+        &mut self,
+        alloc: Global,
+        slots: u32,
+        reserved: u32,
+        level: Level,
+    ) -> Result<(Reply, u32), AllocError>
+        ensures reply { IfOk result (λ answer. answer.0 ≡ (open_step self.old slots reserved level).0) }
+        ensures next { OnOk result (self.new ≡ (open_step self.old slots reserved level).1) }
+        ensures unchanged { OnErr result (self.new ≡ self.old) }
+        ensures visits { IfOk result (λ answer. answer.1 ≤ most_visits self.old) }
+    {
+        let claim = match ArenaRecord::new(slots, reserved) {
+            Ok(claim) => claim,
+            Err(fault) => return Ok((Reply::Refused(fault), 0)),
+        };
+        if level.get() > self.levels {
+            return Ok((Reply::Refused(Fault::BadLevel), 0));
+        }
+        if self.arenas.len() >= Arenas::MOST {
+            return Ok((Reply::Refused(Fault::TooManyArenas), 0));
+        }
+        if self.next_arena > LAST {
+            return Ok((Reply::Refused(Fault::OutOfNumbers), 0));
+        }
+        if self.next_stamp > LAST {
+            return Ok((Reply::Refused(Fault::OutOfNumbers), 0));
+        }
+        let arena = ArenaId::new(self.next_arena);
+        let row = ArenaRow::new(arena, self.next_stamp, level, claim);
+        let visits = self.arenas.push(alloc, row)?;
+        self.next_arena += 1;
+        self.next_stamp += 1;
+        Ok((Reply::Opened(arena), visits))
+    }
+
+    /// The arena goes, unless a seat is placed at it.
+    fn close(&mut self, arena: ArenaId) -> (Reply, u32)
+        ensures reply { result.0 ≡ (close_step self.old arena).0 }
+        ensures next { self.new ≡ (close_step self.old arena).1 }
+        ensures visits { result.1 ≤ most_visits self.old }
+    {
+        if self.arenas.get(arena).is_none() {
+            return (Reply::Refused(Fault::NoArena), 0);
+        }
+        let active = self.roster.active(arena);
+        if active > 0 {
+            return (Reply::Refused(Fault::Busy(active)), 0);
+        }
+        let visits = self.arenas.remove(arena);
+        (Reply::Closed, visits)
+    }
+
+    /// The arena goes first, at this level.
+    fn priority(&mut self, arena: ArenaId, level: Level) -> (Reply, u32)
+        ensures reply { result.0 ≡ (priority_step self.old arena level).0 }
+        ensures next { self.new ≡ (priority_step self.old arena level).1 }
+        ensures visits { result.1 ≤ most_visits self.old }
+    {
+        if level.get() > self.levels {
+            return (Reply::Refused(Fault::BadLevel), 0);
+        }
+        let Some(row) = self.arenas.get(arena) else {
+            return (Reply::Refused(Fault::NoArena), 0);
+        };
+        if self.next_stamp > LAST {
+            return (Reply::Refused(Fault::OutOfNumbers), 0);
+        }
+        let visits = self.arenas.promote(row, self.next_stamp, level);
+        self.next_stamp += 1;
+        (Reply::Moved, visits)
+    }
+
+    /// The arena gets other slots, at its place.
+    fn resize(&mut self, arena: ArenaId, slots: u32, reserved: u32) -> (Reply, u32)
+        ensures reply { result.0 ≡ (resize_step self.old arena slots reserved).0 }
+        ensures next { self.new ≡ (resize_step self.old arena slots reserved).1 }
+        ensures visits { result.1 ≤ most_visits self.old }
+    {
+        if let Err(fault) = ArenaRecord::new(slots, reserved) {
+            return (Reply::Refused(fault), 0);
+        }
+        let Some(row) = self.arenas.get(arena) else {
+            return (Reply::Refused(Fault::NoArena), 0);
+        };
+        let mut claim = row.claim();
+        if claim.resize(slots, reserved).is_err() {
+            unreachable!();
+        }
+        let visits = self.arenas.set_claim(arena, claim);
+        (Reply::Resized(claim.request()), visits)
+    }
+
+    /// Adds to what the arena asks for.
+    fn request(&mut self, arena: ArenaId, workers: i32, mandatory: i32) -> (Reply, u32)
+        ensures reply { result.0 ≡ (request_step self.old arena workers mandatory).0 }
+        ensures next { self.new ≡ (request_step self.old arena workers mandatory).1 }
+        ensures visits { result.1 ≤ most_visits self.old }
+    {
+        let Some(row) = self.arenas.get(arena) else {
+            return (Reply::Refused(Fault::NoArena), 0);
+        };
+        let mut claim = row.claim();
+        if let Err(fault) = claim.add(workers, mandatory) {
+            return (Reply::Refused(fault), 0);
+        }
+        let visits = self.arenas.set_claim(arena, claim);
+        (Reply::Requested(claim.request()), visits)
+    }
+
+    /// A new limit on parallelism.
+    fn control(&mut self, value: u32) -> Result<Reply, AllocError>
+        ensures reply { IfOk result (λ reply. reply ≡ (control_step self.old value).0) }
+        ensures next { OnOk result (self.new ≡ (control_step self.old value).1) }
+        ensures unchanged { OnErr result (self.new ≡ self.old) }
+    {
+        let made = self.controls.make(value)?;
+        match made {
+            Ok(control) => Ok(Reply::Controlled(control)),
+            Err(fault) => Ok(Reply::Refused(fault)),
+        }
+    }
+
+    /// The control goes.
+    fn uncontrol(&mut self, control: ControlId) -> Reply
+        ensures reply { result ≡ (uncontrol_step self.old control).0 }
+        ensures next { self.new ≡ (uncontrol_step self.old control).1 }
+    {
+        match self.controls.remove(control) {
+            Ok(()) => Reply::Uncontrolled,
+            Err(fault) => Reply::Refused(fault),
+        }
+    }
+
+    /// The seat stays at its arena, unless that has a worker too many.
+    fn stay(&mut self, seat: SeatNo) -> (Reply, u32)
+        requires seat { seat < length self.old.seats }
+        ensures reply { result.0 ≡ (stay_from self.old seat (place_of self.old seat)).0 }
+        ensures next { self.new ≡ (stay_from self.old seat (place_of self.old seat)).1 }
+        ensures visits { result.1 ≤ most_visits self.old }
+    {
+        let Some(arena) = self.roster.at(seat) else {
+            return (Reply::Refused(Fault::NotPlaced), 0);
+        };
+        let (allotted, visits) = self.allotted(arena);
+        if recall(self.roster.active(arena), allotted) == 0 {
+            return (Reply::Stays(arena), visits);
+        }
+        self.roster.unplace(seat);
+        (Reply::Recalled(arena), visits)
+    }
+
+    /// The seat leaves its arena.
+    fn leave(&mut self, seat: SeatNo) -> Reply
+        requires seat { seat < length self.old.seats }
+        ensures reply { result ≡ (leave_from self.old seat (place_of self.old seat)).0 }
+        ensures next { self.new ≡ (leave_from self.old seat (place_of self.old seat)).1 }
+    {
+        match self.roster.unplace(seat) {
+            Some(arena) => Reply::Left(arena),
+            None => Reply::Refused(Fault::NotPlaced),
+        }
+    }
+
+    /// What is seen of an arena, or that there is none.
+    fn show(&self, arena: ArenaId) -> (Reply, u32)
+        ensures reply { result.0 ≡ (show_step self.now arena).0 }
+        ensures visits { result.1 ≤ most_visits self.now }
+    {
+        let Some(row) = self.arenas.get(arena) else {
+            return (Reply::Refused(Fault::NoArena), 0);
+        };
+        let (view, visits) = self.see(row);
+        (Reply::Shown(view), visits)
+    }
+}
