@@ -2,8 +2,8 @@
 use Rattle.std.proofs.Common.{◌≡◌, ◌≢◌, ℕ, zero, suc, ◌+◌, ◌-◌, ◌<◌, ◌≤◌, Bool, true, false, cond, eqb, ltb, leb, not, List, [], ◌∷◌, ◌++◌, length, map, Option, Some, None, Result, Ok, Err, ℤ, refl, sym, ap, ◌∙◌, arith, inl, inr}
 use Rattle.std.specs.Prelude.{◌==◌, ◌||◌, nat_lt, nat_le, unwrap_or, slice_get, slice_set}
 use Rattle.std.specs.List.{All, filter}
-use Rattle.std.proofs.lemmas.Bool.{cases_eq, cases_Bool, eq-eqb, ne_eqb, lt-ltb, le-ltb, le-leb, lt-leb}
-use Rattle.std.proofs.lemmas.List.Elements.{All-nil, All-cons, All-head, All-tail, All-weaker, All-filter}
+use Rattle.std.proofs.lemmas.Bool.{cond_both}
+use Rattle.std.proofs.lemmas.List.Elements.{All-cons, All-weaker, All-filter, All-map}
 use Rattle.market_types.specs.State.{Claim, Arena, State}
 use Rattle.market_types.specs.Claims.{request_of, new_claim, added_claim, with_slots, resized_claim}
 use Rattle.market_types.specs.Allotment.{active, recall}
@@ -16,14 +16,9 @@ use Rattle.market_core.specs.Sound.{IsSound}
 -- ---- what holds of each arena
 
 pub All-with_claim : (P : Arena → Type 0) (n : ℕ) (c : Claim) (xs : List Arena) → ((b : Arena) → P b → P (record b { claim = c })) → All P xs → All P (with_claim n c xs)
-All-with_claim P n c [] keep h = All-nil P
-All-with_claim P n c (x ∷ xs) keep h =
-    let rest = All-with_claim P n c xs keep (All-tail P x xs h) in
-    let here = All-head P x xs h in
-    elim (cases_eq x.number n) [
-      | inl e ↦ rw (eq-eqb x.number n e) (All-cons P (record x { claim = c }) (with_claim n c xs) (keep x here) rest)
-      | inr m ↦ rw (ne_eqb x.number n m) (All-cons P x (with_claim n c xs) here rest)
-    ]
+All-with_claim P n c xs keep h =
+    let f : Arena → Arena = λ (b : Arena). cond (eqb b.number n) (record b { claim = c }) b in
+    All-map P f xs (All-weaker P (λ (b : Arena). P (f b)) (λ b k. cond_both (eqb b.number n) (record b { claim = c }) b P (λ _. keep b k) (λ _. k)) xs h)
 
 pub All-without : (P : Arena → Type 0) (n : ℕ) (xs : List Arena) → All P xs → All P (without n xs)
 All-without P n xs h = All-filter (λ (b : Arena). not (eqb b.number n)) P xs h
@@ -82,34 +77,3 @@ sound-moved s row level h number in_levels =
           (All-weaker (λ (b : Arena). b.stamp < s.next_stamp) (λ (b : Arena). b.stamp < s.next_stamp + 1) (λ b k. omega arith) rest (All-without (λ (b : Arena). b.stamp < s.next_stamp) row.number s.arenas h.stamped));
       leveled = All-cons (λ (b : Arena). (1 ≤ b.level) × (b.level ≤ s.levels)) a rest in_levels (All-without (λ (b : Arena). (1 ≤ b.level) × (b.level ≤ s.levels)) row.number s.arenas h.leveled);
     }
-
--- ---- steps
-
-pub request-missing : (s : State) (a : ℕ) (w m : ℤ) → arena_at a s.arenas ≡ None → request_step s a w m ≡ refuse s NoArena
-request-missing s a w m e = rw e refl
-
-pub request-refused : (s : State) (a : ℕ) (w m : ℤ) (row : Arena) (fault : Fault) → arena_at a s.arenas ≡ Some row → added_claim row.claim w m ≡ Err fault → request_step s a w m ≡ refuse s fault
-request-refused s a w m row fault e f = rw (e, f) refl
-
-pub request-done : (s : State) (a : ℕ) (w m : ℤ) (row : Arena) (claim : Claim) → arena_at a s.arenas ≡ Some row → added_claim row.claim w m ≡ Ok claim
-    → request_step s a w m ≡ (Requested (request_of claim), record s { arenas = with_claim a claim s.arenas })
-request-done s a w m row claim e f = rw (e, f) refl
-
-pub resize-refused : (s : State) (a slots reserved : ℕ) (fault : Fault) → new_claim slots reserved ≡ Err fault → resize_step s a slots reserved ≡ refuse s fault
-resize-refused s a slots reserved fault f = ap (λ r. if_claim s r (λ _. if_arena s (arena_at a s.arenas) (λ arena. (Resized (request_of (with_slots arena.claim slots reserved)), record s { arenas = with_claim a (with_slots arena.claim slots reserved) s.arenas })))) f
-
-pub resize-missing : (s : State) (a slots reserved : ℕ) (c : Claim) → new_claim slots reserved ≡ Ok c → arena_at a s.arenas ≡ None → resize_step s a slots reserved ≡ refuse s NoArena
-resize-missing s a slots reserved c f e =
-    ap (λ r. if_claim s r (λ _. if_arena s (arena_at a s.arenas) (λ arena. (Resized (request_of (with_slots arena.claim slots reserved)), record s { arenas = with_claim a (with_slots arena.claim slots reserved) s.arenas })))) f
-    ∙ ap (λ o. if_arena s o (λ arena. (Resized (request_of (with_slots arena.claim slots reserved)), record s { arenas = with_claim a (with_slots arena.claim slots reserved) s.arenas }))) e
-
-pub resize-done : (s : State) (a slots reserved : ℕ) (c : Claim) (row : Arena) → new_claim slots reserved ≡ Ok c → arena_at a s.arenas ≡ Some row
-    → resize_step s a slots reserved ≡ (Resized (request_of (with_slots row.claim slots reserved)), record s { arenas = with_claim a (with_slots row.claim slots reserved) s.arenas })
-resize-done s a slots reserved c row f e =
-    ap (λ r. if_claim s r (λ _. if_arena s (arena_at a s.arenas) (λ arena. (Resized (request_of (with_slots arena.claim slots reserved)), record s { arenas = with_claim a (with_slots arena.claim slots reserved) s.arenas })))) f
-    ∙ ap (λ o. if_arena s o (λ arena. (Resized (request_of (with_slots arena.claim slots reserved)), record s { arenas = with_claim a (with_slots arena.claim slots reserved) s.arenas }))) e
-
--- a size that a claim can have, any claim can have
-same-cond : {X : Type 0} (b : Bool) (x y u v : X) → (b ≡ true → x ≡ u) → (b ≡ false → y ≡ v) → cond b x y ≡ cond b u v
-same-cond true x y u v f g = f refl
-same-cond false x y u v f g = g refl

@@ -174,10 +174,11 @@ impl Market {
         ensures reply { result ≡ (leave_from self.old seat (place_of self.old seat)).0 }
         ensures next { self.new ≡ (leave_from self.old seat (place_of self.old seat)).1 }
     {
-        match self.roster.unplace(seat) {
-            Some(arena) => Reply::Left(arena),
-            None => Reply::Refused(Fault::NotPlaced),
-        }
+        let Some(arena) = self.roster.at(seat) else {
+            return Reply::Refused(Fault::NotPlaced);
+        };
+        self.roster.unplace(seat);
+        Reply::Left(arena)
     }
 
     /// What is seen of an arena, or that there is none.
