@@ -7,3 +7,4 @@ mod Search
 mod Visits
 mod Stored
 mod Steps
+mod Order

@@ -1,6 +1,6 @@
 -- How the market keeps its arenas: a table by number, and for each level a list by stamp.
 use Rattle.std.specs.Prelude.{◌≡◌, ◌≢◌, ℕ, ◌-◌, ◌<◌, ◌≤◌, Bool, nat_lt, if◌then◌else◌, List, [], ◌∷◌, length, map, slice_index_or}
-use Rattle.std.specs.List.{All, AllPairs, filter, count_by}
+use Rattle.std.specs.List.{All, AllPairs, filter, flat_map, range_with_len, count_by}
 use Rattle.market_types.specs.declared.row.Row.{Row}
 use Rattle.market_types.specs.State.{Arena}
 use Rattle.market_types.specs.Claims.{request_of, is_mandated}
@@ -65,3 +65,11 @@ pub record IsStored (records : List Arena) (lists : List (List Row)) (count : �
   pub leveled : All (λ (a : Arena). (1 ≤ a.level) × (a.level ≤ 8)) records
   pub listed : IsListed lists (by_stamp records)
   pub enqueued : count ≡ count_by has_work records
+
+-- the arenas of so many levels from one on, level by level
+abbrev pub levels_from : ℕ → ℕ → List Arena → List Arena
+levels_from from n arenas = flat_map (λ level. at_level level arenas) (range_with_len from n)
+
+-- the arenas of the first levels, in order
+abbrev pub in_levels : ℕ → List Arena → List Arena
+in_levels levels arenas = levels_from 1 levels arenas

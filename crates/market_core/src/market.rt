@@ -7,6 +7,7 @@ ghost use Rattle.market_types.specs.Step.{limits_of};
 
 mod allot;
 mod apply;
+mod order;
 
 use crate::store::Arenas;
 use control_set::ControlSet;

@@ -6,7 +6,7 @@ ghost use Rattle.market_types.specs.Claims.{is_mandated};
 ghost use Rattle.market_types.specs.Allotment.{total_request, at_level, has_mandatory};
 ghost use Rattle.market_types.specs.Step.{arena_at, with_claim, without};
 ghost use Rattle.allotment.specs.Levels.{number_of};
-ghost use Rattle.market_core.specs.Store.{IsKept, newer, entry_of};
+ghost use Rattle.market_core.specs.Store.{IsKept, newer, entry_of, in_levels};
 ghost use Rattle.level_list.specs.Bits.{bits};
 
 
@@ -135,6 +135,44 @@ impl Arenas {
             Some(row) => (Some(row.arena), visits),
             None => (None, visits),
         }
+    }
+
+    /// How many arenas a level, 1 to 8, has.
+    fn count(&self, level: u32) -> usize
+        requires low { 1 ≤ level }
+        requires high { level ≤ 8 }
+        ensures exact { result ≡ length (at_level level self.now) }
+    {
+        self.lists[level as usize - 1].len()
+    }
+
+    /// The arena at a place, from 0 on, of a level, 1 to 8.
+    fn walk(&self, level: u32, place: usize) -> Option<ArenaRow>
+        requires low { 1 ≤ level }
+        requires high { level ≤ 8 }
+        requires within { place < length (at_level level self.now) }
+        ensures exact { result ≡ slice_get (at_level level self.now) place }
+        ensures there { IfSome result (λ row. arena_at row.number self.now ≡ Some row) }
+    {
+        let (row, _) = self.lists[level as usize - 1].walk(place);
+        self.get(row?.arena)
+    }
+
+    /// The arena at a place, from 0 on, of the levels up to one in order.
+    pub fn nth(&self, levels: u32, place: usize) -> Option<ArenaRow>
+        requires few { levels ≤ 8 }
+        ensures exact { result ≡ slice_get (in_levels levels self.now) place }
+        ensures there { IfSome result (λ row. arena_at row.number self.now ≡ Some row) }
+    {
+        let mut rest = place;
+        for level in 0..levels {
+            let count = self.count(level + 1);
+            if rest < count {
+                return self.walk(level + 1, rest);
+            }
+            rest -= count;
+        }
+        None
     }
 
     /// A new arena, newer than all others.

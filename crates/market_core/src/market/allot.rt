@@ -43,7 +43,7 @@ impl Market {
     }
 
     /// How workers are divided now.
-    fn divide(&self) -> (Division, u32)
+    pub(super) fn divide(&self) -> (Division, u32)
         ensures exact { IsDivisionOf self.now result.0 }
         ensures visits { result.1 ≤ extra_visits self.now }
         ensures few { result.1 ≤ 176 }
@@ -69,7 +69,7 @@ impl Market {
     }
 
     /// How many workers a living arena is allotted.
-    fn allot(&self, row: ArenaRow, division: &Division) -> (u32, u32)
+    pub(super) fn allot(&self, row: ArenaRow, division: &Division) -> (u32, u32)
         requires kept { IsKept self.now.arenas }
         requires there { arena_at row.number self.now.arenas ≡ Some row }
         requires divided { IsDivisionOf self.now division.now }
