@@ -141,3 +141,14 @@ walked level place arenas row apart (Some a) f g = ap (λ (r : Row). arena_at r.
 pub walk-found : (level place : ℕ) (arenas : List Arena) (row : Row) → IsApart arenas → Some row ≡ slice_get (entries level arenas) place → arena_at row.arena arenas ≡ slice_get (at_level level arenas) place
 walk-found level place arenas row apart e =
     walked level place arenas row apart (slice_get (at_level level arenas) place) refl (e ∙ slice_get-map entry_of (at_level level arenas) place)
+
+pub get-none : (xs : List Arena) (k : ℕ) → slice_get xs k ≡ None → length xs ≤ k
+get-none [] k e = omega arith
+get-none (x ∷ xs) k e =
+    elim (cases_lt k (length (x ∷ xs))) [
+      | inl l ↦ absurd (some-none (get_or (x ∷ xs) k x) (sym (slice_get-get_or (x ∷ xs) k x l) ∙ e))
+      | inr g ↦ g
+    ]
+  where
+    some-none : (r : Arena) → Some r ≡ None → ⊥
+    some-none r h = cc
