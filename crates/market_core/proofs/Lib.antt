@@ -8,3 +8,4 @@ mod Visits
 mod Stored
 mod Steps
 mod Order
+mod Runs

@@ -4,9 +4,14 @@
 //! is what its arenas, controls and seats give as they stand, and depends on nothing that went before.
 #![tactic(auto)]
 
+mod calls;
 mod division;
 mod market;
 mod row;
 mod store;
 
+pub use calls::apply_all;
 pub use market::Market;
+
+#[cfg(test)]
+mod tests;

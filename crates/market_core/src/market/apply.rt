@@ -1,13 +1,14 @@
 //! What a command does.
 ghost use Rattle.std.specs.Prelude.{◌≡◌, ◌≤◌, ◌<◌, length, false, IsOk, IfOk, OnOk, OnErr};
-ghost use Rattle.market_types.specs.Step.{open_step, close_step, priority_step, resize_step, request_step, control_step, uncontrol_step, stay_from, leave_from, place_of, show_step};
-ghost use Rattle.market_core.specs.Visits.{most_visits};
+ghost use Rattle.market_types.specs.Step.{open_step, close_step, priority_step, resize_step, request_step, control_step, uncontrol_step, join_from, stay_from, leave_from, place_of, show_step, step};
+ghost use Rattle.market_core.specs.Memory.{takes_memory};
+ghost use Rattle.market_core.specs.Visits.{most_visits, looks_in_order};
 
 use super::Market;
 use crate::row::ArenaRow;
 use crate::store::Arenas;
 use arena_record::ArenaRecord;
-use market_types::{ArenaId, ControlId, Fault, Level, Reply, SeatNo};
+use market_types::{ArenaId, Cmd, ControlId, Fault, Level, Reply, SeatNo};
 use recall_hire::recall;
 use std::alloc::{AllocError, Global};
 
@@ -15,6 +16,54 @@ use std::alloc::{AllocError, Global};
 const LAST: u32 = 1_048_576;
 
 impl Market {
+    /// Does what a seat asks, or refuses it. Only Open, Control and Lists can give an `Err`, where there is no memory, and
+    /// after one the market is as before.
+    pub fn apply(&mut self, alloc: Global, seat: SeatNo, cmd: Cmd) -> Result<Reply, AllocError>
+        requires seat { seat < length self.old.seats }
+        ensures reply { IfOk result (λ reply. reply ≡ (step self.old seat cmd).0) }
+        ensures next { OnOk result (self.new ≡ (step self.old seat cmd).1) }
+        ensures unchanged { OnErr result (self.new ≡ self.old) }
+        ensures no_memory { takes_memory cmd ≡ false → IsOk result }
+        ensures same_seats { length self.new.seats ≡ length self.old.seats }
+    {
+        let (reply, _visits) = self.apply_counted(alloc, seat, cmd)?;
+        Ok(reply)
+    }
+
+    /// Does what `apply` does, and says how many nodes of the arenas' trees it entered: for every command but Join and
+    /// Lists no more than four times as many as the number of living arenas has binary digits, and one; where no worker
+    /// may be active, twice as many more for each level.
+    pub fn apply_counted(
+        &mut self,
+        alloc: Global,
+        seat: SeatNo,
+        cmd: Cmd,
+    ) -> Result<(Reply, u32), AllocError>
+        requires seat { seat < length self.old.seats }
+        ensures reply { IfOk result (λ answer. answer.0 ≡ (step self.old seat cmd).0) }
+        ensures next { OnOk result (self.new ≡ (step self.old seat cmd).1) }
+        ensures unchanged { OnErr result (self.new ≡ self.old) }
+        ensures no_memory { takes_memory cmd ≡ false → IsOk result }
+        ensures same_seats { length self.new.seats ≡ length self.old.seats }
+        ensures visits { looks_in_order cmd ≡ false → IfOk result (λ answer. answer.1 ≤ most_visits self.old) }
+    {
+        match cmd {
+            Cmd::Open(slots, reserved, level) => self.open(alloc, slots, reserved, level),
+            Cmd::Close(arena) => Ok(self.close(arena)),
+            Cmd::Priority(arena, level) => Ok(self.priority(arena, level)),
+            Cmd::Resize(arena, slots, reserved) => Ok(self.resize(arena, slots, reserved)),
+            Cmd::Request(arena, workers, mandatory) => Ok(self.request(arena, workers, mandatory)),
+            Cmd::Control(value) => Ok((self.control(value)?, 0)),
+            Cmd::Uncontrol(control) => Ok((self.uncontrol(control), 0)),
+            Cmd::Join => Ok((self.join(seat), 0)),
+            Cmd::Stay => Ok(self.stay(seat)),
+            Cmd::Leave => Ok((self.leave(seat), 0)),
+            Cmd::Show(arena) => Ok(self.show(arena)),
+            Cmd::Lists => Ok((Reply::Listed(self.lists(alloc)?), 0)),
+            Cmd::Limit => Ok((Reply::Limits(self.limits()), 0)),
+        }
+    }
+
     /// A new arena, before all others.
     fn open(
         &mut self,
@@ -25,6 +74,7 @@ impl Market {
     ) -> Result<(Reply, u32), AllocError>
         ensures reply { IfOk result (λ answer. answer.0 ≡ (open_step self.old slots reserved level).0) }
         ensures next { OnOk result (self.new ≡ (open_step self.old slots reserved level).1) }
+        ensures same_seats { length self.new.seats ≡ length self.old.seats }
         ensures unchanged { OnErr result (self.new ≡ self.old) }
         ensures visits { IfOk result (λ answer. answer.1 ≤ most_visits self.old) }
     {
@@ -56,6 +106,7 @@ impl Market {
     fn close(&mut self, arena: ArenaId) -> (Reply, u32)
         ensures reply { result.0 ≡ (close_step self.old arena).0 }
         ensures next { self.new ≡ (close_step self.old arena).1 }
+        ensures same_seats { length self.new.seats ≡ length self.old.seats }
         ensures visits { result.1 ≤ most_visits self.old }
     {
         if self.arenas.get(arena).is_none() {
@@ -73,6 +124,7 @@ impl Market {
     fn priority(&mut self, arena: ArenaId, level: Level) -> (Reply, u32)
         ensures reply { result.0 ≡ (priority_step self.old arena level).0 }
         ensures next { self.new ≡ (priority_step self.old arena level).1 }
+        ensures same_seats { length self.new.seats ≡ length self.old.seats }
         ensures visits { result.1 ≤ most_visits self.old }
     {
         if level.get() > self.levels {
@@ -93,6 +145,7 @@ impl Market {
     fn resize(&mut self, arena: ArenaId, slots: u32, reserved: u32) -> (Reply, u32)
         ensures reply { result.0 ≡ (resize_step self.old arena slots reserved).0 }
         ensures next { self.new ≡ (resize_step self.old arena slots reserved).1 }
+        ensures same_seats { length self.new.seats ≡ length self.old.seats }
         ensures visits { result.1 ≤ most_visits self.old }
     {
         if let Err(fault) = ArenaRecord::new(slots, reserved) {
@@ -113,6 +166,7 @@ impl Market {
     fn request(&mut self, arena: ArenaId, workers: i32, mandatory: i32) -> (Reply, u32)
         ensures reply { result.0 ≡ (request_step self.old arena workers mandatory).0 }
         ensures next { self.new ≡ (request_step self.old arena workers mandatory).1 }
+        ensures same_seats { length self.new.seats ≡ length self.old.seats }
         ensures visits { result.1 ≤ most_visits self.old }
     {
         let Some(row) = self.arenas.get(arena) else {
@@ -130,6 +184,7 @@ impl Market {
     fn control(&mut self, value: u32) -> Result<Reply, AllocError>
         ensures reply { IfOk result (λ reply. reply ≡ (control_step self.old value).0) }
         ensures next { OnOk result (self.new ≡ (control_step self.old value).1) }
+        ensures same_seats { length self.new.seats ≡ length self.old.seats }
         ensures unchanged { OnErr result (self.new ≡ self.old) }
     {
         let made = self.controls.make(value)?;
@@ -143,6 +198,7 @@ impl Market {
     fn uncontrol(&mut self, control: ControlId) -> Reply
         ensures reply { result ≡ (uncontrol_step self.old control).0 }
         ensures next { self.new ≡ (uncontrol_step self.old control).1 }
+        ensures same_seats { length self.new.seats ≡ length self.old.seats }
     {
         match self.controls.remove(control) {
             Ok(()) => Reply::Uncontrolled,
@@ -150,11 +206,29 @@ impl Market {
         }
     }
 
+    /// An unplaced seat goes to the first arena in need of a worker.
+    fn join(&mut self, seat: SeatNo) -> Reply
+        requires seat { seat < length self.old.seats }
+        ensures reply { result ≡ (join_from self.old seat (place_of self.old seat)).0 }
+        ensures next { self.new ≡ (join_from self.old seat (place_of self.old seat)).1 }
+        ensures same_seats { length self.new.seats ≡ length self.old.seats }
+    {
+        if let Some(arena) = self.roster.at(seat) {
+            return Reply::Refused(Fault::AlreadyPlaced(arena));
+        }
+        let Some(arena) = self.in_need() else {
+            return Reply::Idle;
+        };
+        self.roster.place(seat, arena);
+        Reply::Placed(arena)
+    }
+
     /// The seat stays at its arena, unless that has a worker too many.
     fn stay(&mut self, seat: SeatNo) -> (Reply, u32)
         requires seat { seat < length self.old.seats }
         ensures reply { result.0 ≡ (stay_from self.old seat (place_of self.old seat)).0 }
         ensures next { self.new ≡ (stay_from self.old seat (place_of self.old seat)).1 }
+        ensures same_seats { length self.new.seats ≡ length self.old.seats }
         ensures visits { result.1 ≤ most_visits self.old }
     {
         let Some(arena) = self.roster.at(seat) else {
@@ -173,6 +247,7 @@ impl Market {
         requires seat { seat < length self.old.seats }
         ensures reply { result ≡ (leave_from self.old seat (place_of self.old seat)).0 }
         ensures next { self.new ≡ (leave_from self.old seat (place_of self.old seat)).1 }
+        ensures same_seats { length self.new.seats ≡ length self.old.seats }
     {
         let Some(arena) = self.roster.at(seat) else {
             return Reply::Refused(Fault::NotPlaced);

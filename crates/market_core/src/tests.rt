@@ -1,0 +1,101 @@
+//! What no clause says: that the market answers at all where memory is ample.
+use crate::{Market, apply_all};
+use market_types::{ArenaId, Call, Cmd, Fault, Level, LimitView, OpenFault, Reply, SeatNo};
+use std::rt::HostRuntime;
+
+/// What the first three arenas are allotted.
+fn allots(market: &Market) -> [u32; 3] {
+    let mut allots = [0; 3];
+    for i in 0..3 {
+        if let Some(view) = market.view(ArenaId::new(i as u32 + 1)) {
+            allots[i] = view.allot;
+        }
+    }
+    allots
+}
+
+#[test]
+fn three_arenas_share_seven(rt: HostRuntime) {
+    let alloc = rt.alloc();
+    let Ok(mut market) = Market::new(alloc, 8, 64, 4, 3) else {
+        panic!(&rt; "no market");
+    };
+    let Some(level) = Level::new(2) else {
+        panic!(&rt; "no level");
+    };
+    let seat = SeatNo::new(3);
+    for _ in 0..3 {
+        assert!(&rt; market.seats() == 4);
+        let opened = market.apply(alloc, seat, Cmd::Open(8, 1, level));
+        assert!(&rt; matches!(&opened, Ok(Reply::Opened(_))));
+    }
+    for arena in 1..4 {
+        assert!(&rt; market.seats() == 4);
+        let requested = market.apply(alloc, seat, Cmd::Request(ArenaId::new(arena), 5, 0));
+        assert!(&rt; matches!(&requested, Ok(Reply::Requested(5))));
+    }
+    assert!(&rt; allots(&market) == [3, 2, 2]);
+}
+
+#[test]
+fn levels_are_served_in_order(rt: HostRuntime) {
+    let alloc = rt.alloc();
+    let Ok(mut market) = Market::new(alloc, 8, 64, 4, 8) else {
+        panic!(&rt; "no market");
+    };
+    let seat = SeatNo::new(0);
+    for number in 1..4 {
+        assert!(&rt; market.seats() == 4);
+        let Some(level) = Level::new(2 * number) else {
+            panic!(&rt; "no level");
+        };
+        let opened = market.apply(alloc, seat, Cmd::Open(8, 1, level));
+        assert!(&rt; opened.is_ok());
+        let requested = market.apply(alloc, seat, Cmd::Request(ArenaId::new(number), 6, 0));
+        assert!(&rt; requested.is_ok());
+    }
+    assert!(&rt; allots(&market) == [6, 1, 0]);
+}
+
+#[test]
+fn calls_are_answered_in_order(rt: HostRuntime) {
+    let alloc = rt.alloc();
+    let Ok(mut market) = Market::new(alloc, 1, 64, 1, 1) else {
+        panic!(&rt; "no market");
+    };
+    let seat = SeatNo::new(0);
+    let calls = [
+        Call {
+            seat,
+            cmd: Cmd::Limit,
+        },
+        Call {
+            seat,
+            cmd: Cmd::Show(ArenaId::new(1)),
+        },
+    ];
+    let Ok(replies) = apply_all(alloc, &mut market, &calls) else {
+        panic!(&rt; "no replies");
+    };
+    assert!(&rt; replies.len() == 2);
+    assert!(&rt;
+        matches!(
+            &replies[0],
+            Reply::Limits(LimitView {
+                value: 1,
+                limit: 0,
+                effective: 0
+            })
+        )
+    );
+    assert!(&rt; matches!(&replies[1], Reply::Refused(Fault::NoArena)));
+}
+
+#[test]
+fn numbers_out_of_range_open_nothing(rt: HostRuntime) {
+    let alloc = rt.alloc();
+    assert!(&rt; matches!(Market::new(alloc, 0, 0, 0, 0), Err(OpenFault::BadBase)));
+    assert!(&rt; matches!(Market::new(alloc, 8, 0, 0, 0), Err(OpenFault::BadHard)));
+    assert!(&rt; matches!(Market::new(alloc, 8, 64, 65, 9), Err(OpenFault::BadSeats)));
+    assert!(&rt; matches!(Market::new(alloc, 8, 64, 64, 9), Err(OpenFault::BadLevels)));
+}
