@@ -9,3 +9,4 @@ mod Stored
 mod Steps
 mod Order
 mod Runs
+mod Staffed

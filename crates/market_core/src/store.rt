@@ -158,6 +158,17 @@ impl Arenas {
         self.get(row?.arena)
     }
 
+    /// The arena at a place, from 0 on, of a level.
+    pub fn nth_of(&self, level: Level, place: usize) -> Option<ArenaRow>
+        ensures exact { result ≡ slice_get (at_level level self.now) place }
+        ensures there { IfSome result (λ row. arena_at row.number self.now ≡ Some row) }
+    {
+        if place >= self.count(level.get()) {
+            return None;
+        }
+        self.walk(level.get(), place)
+    }
+
     /// The arena at a place, from 0 on, of the levels up to one in order.
     pub fn nth(&self, levels: u32, place: usize) -> Option<ArenaRow>
         requires few { levels ≤ 8 }

@@ -1,6 +1,6 @@
 //! What the market allots.
-ghost use Rattle.std.specs.Prelude.{◌≡◌, ℕ, ◌+◌, ◌-◌, ◌*◌, ◌≤◌, ◌<◌, Some, None, length, option_map, slice_index, slice_index_or, ◌==◌, if◌then◌else◌};
-ghost use Rattle.market_types.specs.Allotment.{alloc, active, is_top, limit_of};
+ghost use Rattle.std.specs.Prelude.{◌≡◌, ℕ, ◌+◌, ◌-◌, ◌*◌, ◌≤◌, ◌<◌, Some, None, length, slice_get, option_map, slice_index, slice_index_or, ◌==◌, if◌then◌else◌};
+ghost use Rattle.market_types.specs.Allotment.{alloc, active, at_level, demand, is_top, limit_of};
 ghost use Rattle.market_types.specs.Step.{arena_at, view_of};
 ghost use Rattle.allotment.specs.Levels.{AreDemandsOf, ArePicksOf, IsLeveled, pick_of};
 ghost use Rattle.level_list.specs.Bits.{bits};
@@ -13,7 +13,7 @@ use super::Market;
 use crate::division::{Division, sum_of};
 use crate::row::ArenaRow;
 use allotment::{assign, bound_is_given_out, mandatory_pick, no_carry_to_keep, share, top_level};
-use market_types::{ArenaId, ArenaView};
+use market_types::{ArenaId, ArenaView, Level};
 use recall_hire::{hire, recall};
 
 impl Market {
@@ -121,6 +121,24 @@ impl Market {
         let row = self.arenas.get(arena)?;
         let (view, _) = self.see(row);
         Some(view)
+    }
+
+    /// What is seen of the arena at a place, from 0 on, of a level; `None` beyond its last, and where the market has no such
+    /// level. It takes no memory.
+    pub fn row(&self, level: Level, place: usize) -> Option<ArenaView>
+        ensures exact { result ≡ option_map (view_of self.now) (slice_get (at_level level self.now.arenas) place) }
+    {
+        let _ = self.arenas.len();
+        let row = self.arenas.nth_of(level, place)?;
+        let (view, _) = self.see(row);
+        Some(view)
+    }
+
+    /// What the arenas of a level ask for together; 0 where the market has no such level. It takes no memory.
+    pub fn demand(&self, level: Level) -> u64
+        ensures exact { result ≡ demand self.now level }
+    {
+        self.arenas.demand(level.get())
     }
 
     /// How many workers an arena is allotted; none where no living arena has this number.

@@ -2,6 +2,7 @@
 ghost use Rattle.std.specs.Prelude.{◌≡◌, ◌≤◌, ◌<◌, length, false, IsOk, IfOk, OnOk, OnErr};
 ghost use Rattle.market_types.specs.Step.{open_step, close_step, priority_step, resize_step, request_step, control_step, uncontrol_step, join_from, stay_from, leave_from, place_of, show_step, step};
 ghost use Rattle.market_core.specs.Memory.{takes_memory};
+ghost use Rattle.market_core.specs.Allotted.{IsStaffed};
 ghost use Rattle.market_core.specs.Visits.{most_visits, looks_in_order};
 
 use super::Market;
@@ -21,6 +22,7 @@ impl Market {
     pub fn apply(&mut self, alloc: Global, seat: SeatNo, cmd: Cmd) -> Result<Reply, AllocError>
         requires seat { seat < length self.old.seats }
         ensures reply { IfOk result (λ reply. reply ≡ (step self.old seat cmd).0) }
+        ensures staffed { IfOk result (λ reply. IsStaffed reply self.new) }
         ensures next { OnOk result (self.new ≡ (step self.old seat cmd).1) }
         ensures unchanged { OnErr result (self.new ≡ self.old) }
         ensures no_memory { takes_memory cmd ≡ false → IsOk result }
@@ -41,6 +43,7 @@ impl Market {
     ) -> Result<(Reply, u32), AllocError>
         requires seat { seat < length self.old.seats }
         ensures reply { IfOk result (λ answer. answer.0 ≡ (step self.old seat cmd).0) }
+        ensures staffed { IfOk result (λ answer. IsStaffed answer.0 self.new) }
         ensures next { OnOk result (self.new ≡ (step self.old seat cmd).1) }
         ensures unchanged { OnErr result (self.new ≡ self.old) }
         ensures no_memory { takes_memory cmd ≡ false → IsOk result }
@@ -73,6 +76,7 @@ impl Market {
         level: Level,
     ) -> Result<(Reply, u32), AllocError>
         ensures reply { IfOk result (λ answer. answer.0 ≡ (open_step self.old slots reserved level).0) }
+        ensures staffed { IfOk result (λ answer. IsStaffed answer.0 self.new) }
         ensures next { OnOk result (self.new ≡ (open_step self.old slots reserved level).1) }
         ensures same_seats { length self.new.seats ≡ length self.old.seats }
         ensures unchanged { OnErr result (self.new ≡ self.old) }
@@ -105,6 +109,7 @@ impl Market {
     /// The arena goes, unless a seat is placed at it.
     fn close(&mut self, arena: ArenaId) -> (Reply, u32)
         ensures reply { result.0 ≡ (close_step self.old arena).0 }
+        ensures staffed { IsStaffed result.0 self.new }
         ensures next { self.new ≡ (close_step self.old arena).1 }
         ensures same_seats { length self.new.seats ≡ length self.old.seats }
         ensures visits { result.1 ≤ most_visits self.old }
@@ -123,6 +128,7 @@ impl Market {
     /// The arena goes first, at this level.
     fn priority(&mut self, arena: ArenaId, level: Level) -> (Reply, u32)
         ensures reply { result.0 ≡ (priority_step self.old arena level).0 }
+        ensures staffed { IsStaffed result.0 self.new }
         ensures next { self.new ≡ (priority_step self.old arena level).1 }
         ensures same_seats { length self.new.seats ≡ length self.old.seats }
         ensures visits { result.1 ≤ most_visits self.old }
@@ -144,6 +150,7 @@ impl Market {
     /// The arena gets other slots, at its place.
     fn resize(&mut self, arena: ArenaId, slots: u32, reserved: u32) -> (Reply, u32)
         ensures reply { result.0 ≡ (resize_step self.old arena slots reserved).0 }
+        ensures staffed { IsStaffed result.0 self.new }
         ensures next { self.new ≡ (resize_step self.old arena slots reserved).1 }
         ensures same_seats { length self.new.seats ≡ length self.old.seats }
         ensures visits { result.1 ≤ most_visits self.old }
@@ -165,6 +172,7 @@ impl Market {
     /// Adds to what the arena asks for.
     fn request(&mut self, arena: ArenaId, workers: i32, mandatory: i32) -> (Reply, u32)
         ensures reply { result.0 ≡ (request_step self.old arena workers mandatory).0 }
+        ensures staffed { IsStaffed result.0 self.new }
         ensures next { self.new ≡ (request_step self.old arena workers mandatory).1 }
         ensures same_seats { length self.new.seats ≡ length self.old.seats }
         ensures visits { result.1 ≤ most_visits self.old }
@@ -183,6 +191,7 @@ impl Market {
     /// A new limit on parallelism.
     fn control(&mut self, value: u32) -> Result<Reply, AllocError>
         ensures reply { IfOk result (λ reply. reply ≡ (control_step self.old value).0) }
+        ensures staffed { IfOk result (λ reply. IsStaffed reply self.new) }
         ensures next { OnOk result (self.new ≡ (control_step self.old value).1) }
         ensures same_seats { length self.new.seats ≡ length self.old.seats }
         ensures unchanged { OnErr result (self.new ≡ self.old) }
@@ -197,6 +206,7 @@ impl Market {
     /// The control goes.
     fn uncontrol(&mut self, control: ControlId) -> Reply
         ensures reply { result ≡ (uncontrol_step self.old control).0 }
+        ensures staffed { IsStaffed result self.new }
         ensures next { self.new ≡ (uncontrol_step self.old control).1 }
         ensures same_seats { length self.new.seats ≡ length self.old.seats }
     {
@@ -210,6 +220,7 @@ impl Market {
     fn join(&mut self, seat: SeatNo) -> Reply
         requires seat { seat < length self.old.seats }
         ensures reply { result ≡ (join_from self.old seat (place_of self.old seat)).0 }
+        ensures staffed { IsStaffed result self.new }
         ensures next { self.new ≡ (join_from self.old seat (place_of self.old seat)).1 }
         ensures same_seats { length self.new.seats ≡ length self.old.seats }
     {
@@ -227,6 +238,7 @@ impl Market {
     fn stay(&mut self, seat: SeatNo) -> (Reply, u32)
         requires seat { seat < length self.old.seats }
         ensures reply { result.0 ≡ (stay_from self.old seat (place_of self.old seat)).0 }
+        ensures staffed { IsStaffed result.0 self.new }
         ensures next { self.new ≡ (stay_from self.old seat (place_of self.old seat)).1 }
         ensures same_seats { length self.new.seats ≡ length self.old.seats }
         ensures visits { result.1 ≤ most_visits self.old }
@@ -246,6 +258,7 @@ impl Market {
     fn leave(&mut self, seat: SeatNo) -> Reply
         requires seat { seat < length self.old.seats }
         ensures reply { result ≡ (leave_from self.old seat (place_of self.old seat)).0 }
+        ensures staffed { IsStaffed result self.new }
         ensures next { self.new ≡ (leave_from self.old seat (place_of self.old seat)).1 }
         ensures same_seats { length self.new.seats ≡ length self.old.seats }
     {
@@ -259,6 +272,7 @@ impl Market {
     /// What is seen of an arena, or that there is none.
     fn show(&self, arena: ArenaId) -> (Reply, u32)
         ensures reply { result.0 ≡ (show_step self.now arena).0 }
+        ensures staffed { IsStaffed result.0 self.now }
         ensures visits { result.1 ≤ most_visits self.now }
     {
         let Some(row) = self.arenas.get(arena) else {
