@@ -1,6 +1,12 @@
-mod Rows
+mod ByStamp
+mod Entries
+mod Found
+mod Table
+mod Allotted
+mod Search
+mod Visits
+mod Stored
 mod Steps
-mod Shares
-mod Views
+mod Order
 mod Runs
-mod Totals
+mod Staffed

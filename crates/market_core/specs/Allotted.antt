@@ -1,7 +1,9 @@
 use Rattle.std.specs.Prelude.{ℕ, ◌≤◌, sum_by}
 use Rattle.market_types.specs.State.{Arena, State}
 use Rattle.market_types.specs.Claims.{cap_of, request_of}
-use Rattle.market_types.specs.Allotment.{alloc}
+use Rattle.market_types.specs.Allotment.{alloc, active}
+use Rattle.market_types.specs.declared.reply.Reply.{Reply}
+use Rattle.market_types.specs.declared.reply.Reply.TheVariants.{Placed, Recalled}
 
 -- an arena is allotted no more than it asks for, asks for no more than it can use, and can use no more than its slots
 pub record IsWithin (s : State) (a : Arena) : Type 0 where
@@ -12,3 +14,9 @@ pub record IsWithin (s : State) (a : Arena) : Type 0 where
 -- what all arenas are allotted together
 abbrev pub total_alloc : State → ℕ
 total_alloc s = sum_by (λ (a : Arena). alloc s a.number) s.arenas
+
+-- after a worker was placed its arena has no more workers than it is allotted, and after one was recalled no fewer
+abbrev pub IsStaffed : Reply → State → Type 0
+IsStaffed (Placed a) s = active s a ≤ alloc s a
+IsStaffed (Recalled a) s = alloc s a ≤ active s a
+IsStaffed _ s = Unit {0}

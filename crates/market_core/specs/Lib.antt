@@ -1,4 +1,7 @@
-pub mod Sound
-pub mod Shown
+pub mod Store
 pub mod Memory
 pub mod Allotted
+pub mod Sound
+pub mod Shown
+pub mod Divided
+pub mod Visits

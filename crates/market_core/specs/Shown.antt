@@ -1,4 +1,3 @@
-use Rattle.std.specs.Prelude.{[], None, replicate}
 use Rattle.market_types.specs.State.{State}
 use Rattle.market_core.specs.declared.market.Market.TheInside.{Inside}
 use Rattle.market_core.specs.Sound.{IsSound}
@@ -10,11 +9,11 @@ shown m =
       base = m.base;
       hard = m.hard;
       levels = m.levels;
-      arenas = m.rows.items;
-      controls = [];
-      seats = replicate m.seats None;
+      arenas = m.arenas;
+      controls = m.controls.living;
+      seats = m.roster;
       next_arena = m.next_arena;
-      next_control = 1;
+      next_control = m.controls.next;
       next_stamp = m.next_stamp;
     }
 

@@ -1,5 +1,5 @@
-use Rattle.std.specs.Prelude.{◌≡◌, ℕ, ◌≤◌, ◌<◌, ◌==◌, length}
-use Rattle.std.specs.List.{All, count_by}
+use Rattle.std.specs.Prelude.{◌≡◌, ℕ, ◌≤◌, ◌<◌, length}
+use Rattle.std.specs.List.{All}
 use Rattle.market_types.specs.State.{Arena, State}
 use Rattle.allotment.specs.Levels.{IsLeveled}
 
@@ -9,8 +9,6 @@ pub record IsSound (s : State) : Type 0 where
   pub hard : (1 ≤ s.hard) × (s.hard ≤ 65535)
   pub seats : (1 ≤ length s.seats) × (length s.seats ≤ 64)
   pub levels : (1 ≤ s.levels) × (s.levels ≤ 8)
-  pub few : length s.arenas ≤ 1024
   pub numbered : All (λ (a : Arena). a.number < s.next_arena) s.arenas
-  pub unique : (n : ℕ) → count_by (λ (a : Arena). a.number == n) s.arenas ≤ 1
+  pub stamped : All (λ (a : Arena). a.stamp < s.next_stamp) s.arenas
   pub leveled : IsLeveled s
-  pub unmandated : All (λ (a : Arena). a.claim.mandatory ≡ 0) s.arenas

@@ -2,7 +2,6 @@
 ghost use Rattle.std.specs.Prelude.{◌≡◌, ◌<◌, length, take, IsTrue, IfOk, OnOk, OnErr};
 ghost use Rattle.std.specs.List.{All, SomeIndex};
 ghost use Rattle.market_types.specs.declared.command.Call.{Call};
-ghost use Rattle.market_types.specs.Commands.{is_served};
 ghost use Rattle.market_types.specs.History.{replies_to, state_after};
 
 use crate::market::Market;
@@ -10,14 +9,12 @@ use market_types::{Call, Reply};
 use std::alloc::{AllocError, Global};
 
 /// Applies calls in order, and gathers the replies: after any list of commands by any number of seats each reply is what
-/// the market gives as it then stands. The replies' places are reserved first. After an `Err` the calls before one of
-/// them are applied, and no other is.
+/// the market gives as it then stands. After an `Err` the calls before one of them are applied, and no other is.
 pub fn apply_all(
     alloc: Global,
     market: &mut Market,
     calls: &[Call],
 ) -> Result<Vec<Reply>, AllocError>
-    requires served { All (λ (call : Call). IsTrue (is_served call.cmd)) calls.now }
     requires seats { All (λ (call : Call). call.seat < length market.old.seats) calls.now }
     ensures replies { IfOk result (λ replies. replies.items ≡ replies_to market.old calls.now) }
     ensures market { OnOk result (market.new ≡ state_after market.old calls.now) }

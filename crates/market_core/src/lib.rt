@@ -5,9 +5,10 @@
 #![tactic(auto)]
 
 mod calls;
-mod demand;
+mod division;
 mod market;
 mod row;
+mod store;
 
 pub use calls::apply_all;
 pub use market::Market;

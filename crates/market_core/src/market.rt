@@ -2,16 +2,17 @@
 ghost use Rattle.std.specs.Prelude.{◌≡◌, ◌≤◌, ◌<◌, length, IfOk};
 ghost use Rattle.market_types.specs.State.{opening};
 ghost use Rattle.market_types.specs.Opening.{opened_market, MemoryAside};
-ghost use Rattle.market_types.specs.Allotment.{limit_of, bound_of};
+ghost use Rattle.market_types.specs.Allotment.{limit_of};
 ghost use Rattle.market_types.specs.Step.{limits_of};
-ghost use Rattle.market_core.specs.Allotted.{total_alloc};
 
+mod allot;
 mod apply;
-mod view;
+mod order;
 
-use crate::row::ArenaRow;
-use allotment::bound_is_given_out;
+use crate::store::Arenas;
+use control_set::ControlSet;
 use market_types::{LimitView, OpenFault};
+use recall_hire::Roster;
 use std::alloc::Global;
 use std::marker::Model;
 
@@ -21,10 +22,10 @@ use std::marker::Model;
 pub struct Market {
     base: u32,
     hard: u32,
-    seats: u8,
     levels: u32,
-    /// Newest first.
-    rows: Vec<ArenaRow>,
+    arenas: Arenas,
+    controls: ControlSet,
+    roster: Roster,
     next_arena: u32,
     next_stamp: u32,
 }
@@ -66,18 +67,22 @@ impl Market {
         if levels == 0 || levels > 8 {
             return Err(OpenFault::BadLevels);
         }
+        let Ok(roster) = Roster::new(alloc, seats) else {
+            return Err(OpenFault::Memory);
+        };
         Ok(Market {
             base,
             hard,
-            seats,
             levels,
-            rows: Vec::new(alloc),
+            arenas: Arenas::new(alloc),
+            controls: ControlSet::new(alloc),
+            roster,
             next_arena: 1,
             next_stamp: 1,
         })
     }
 
-    /// The value where no control lives, 1 to 65,536: the market's own limit on parallelism.
+    /// What the active value is where no control lives, 1 to 65,536.
     pub fn base(&self) -> u32
         ensures exact { result ≡ self.now.base }
         ensures low { 1 ≤ result }
@@ -86,7 +91,7 @@ impl Market {
         self.base
     }
 
-    /// How many workers may be active whatever the value is, 1 to 65,535.
+    /// How many workers may be active at most, 1 to 65,535.
     pub fn hard(&self) -> u32
         ensures exact { result ≡ self.now.hard }
         ensures low { 1 ≤ result }
@@ -101,7 +106,7 @@ impl Market {
         ensures low { 1 ≤ result }
         ensures high { result ≤ 64 }
     {
-        self.seats
+        self.roster.seats()
     }
 
     /// How many levels there are, 1 to 8.
@@ -113,19 +118,22 @@ impl Market {
         self.levels
     }
 
-    /// How many workers may be active, and why. Where some may be, all arenas together are allotted what they ask for and
-    /// may have; where none may be, one at most.
+    /// How many workers may be active, and why.
     pub fn limits(&self) -> LimitView
         ensures exact { result ≡ limits_of self.now }
-        ensures given_out { 0 < limit_of self.now → total_alloc self.now ≡ bound_of self.now }
-        ensures one_at_most { limit_of self.now ≡ 0 → total_alloc self.now ≤ 1 }
     {
-        bound_is_given_out();
         let limit = self.limit();
+        let effective = if limit > 0 {
+            limit
+        } else if self.arenas.has_mandatory() {
+            1
+        } else {
+            0
+        };
         LimitView {
-            value: self.base,
+            value: self.controls.active_value(self.base),
             limit,
-            effective: limit,
+            effective,
         }
     }
 
@@ -133,6 +141,6 @@ impl Market {
     fn limit(&self) -> u32
         ensures exact { result ≡ limit_of self.now }
     {
-        (self.base - 1).min(self.hard)
+        (self.controls.active_value(self.base) - 1).min(self.hard)
     }
 }

@@ -1,16 +1,16 @@
-//! An arena as the market keeps it, and where it stands.
-ghost use Rattle.std.specs.Prelude.{◌≡◌, ◌<◌, ◌≤◌, ◌==◌, length, None, slice_get, IfNone, IfSome};
-ghost use Rattle.std.specs.List.{position};
+//! An arena as the market keeps it, and where it stands among the others.
+ghost use Rattle.std.specs.Prelude.{◌≡◌, ◌≢◌, ◌<◌, ◌≤◌, length, None, slice_index_or, IfNone, IfSome};
+ghost use Rattle.std.specs.List.{All};
 ghost use Rattle.market_types.specs.State.{Arena};
-ghost use Rattle.market_types.specs.Claims.{request_of};
-ghost use Rattle.market_types.specs.Step.{arena_at};
+ghost use Rattle.market_types.specs.Claims.{request_of, is_mandated};
+ghost use Rattle.market_core.specs.Store.{IsByNumber, entry_of};
 
 use arena_record::ArenaRecord;
-use market_types::{ArenaId, Level};
+use market_types::{ArenaId, Level, Row};
 use std::marker::Model;
 
 /// An arena of the market.
-#[derive(Drop)]
+#[derive(Clone, Copy, Debug)]
 pub struct ArenaRow {
     arena: ArenaId,
     stamp: u32,
@@ -24,6 +24,8 @@ impl Model for ArenaRow {
     ghost Value = { Arena };
 
     ghost view = { λ r. record { number = r.arena; stamp = r.stamp; level = r.level; claim = r.claim } };
+
+    ghost inverse = { λ a. record { arena = a.number; stamp = a.stamp; level = a.level; claim = a.claim } };
 }
 
 impl ArenaRow {
@@ -40,54 +42,73 @@ impl ArenaRow {
     }
 
     /// Its number.
-    pub fn arena(&self) -> ArenaId
-        ensures { result ≡ self.now.number }
+    pub fn arena(self) -> ArenaId
+        ensures { result ≡ self.number }
     {
         self.arena
     }
 
+    /// The stamp of its last Open or Priority.
+    pub fn stamp(self) -> u32
+        ensures { result ≡ self.stamp }
+    {
+        self.stamp
+    }
+
     /// Its level.
-    pub fn level(&self) -> Level
-        ensures { result ≡ self.now.level }
+    pub fn level(self) -> Level
+        ensures { result ≡ self.level }
     {
         self.level
     }
 
-    /// How many workers it asks for.
-    pub fn request(&self) -> u32
-        ensures exact { result ≡ request_of self.now.claim }
-        ensures small { result ≤ 65535 }
-    {
-        self.claim.request()
-    }
-
     /// What it may use and has asked for.
-    pub fn claim(&self) -> ArenaRecord
-        ensures { result ≡ self.now.claim }
+    pub fn claim(self) -> ArenaRecord
+        ensures { result ≡ self.claim }
     {
         self.claim
     }
 
-    /// Its claim becomes this one.
-    pub fn set_claim(&mut self, claim: ArenaRecord)
-        ensures { self.new ≡ record self.old { claim = claim } }
+    /// The arena with another claim.
+    pub fn with_claim(self, claim: ArenaRecord) -> ArenaRow
+        ensures { result ≡ record self { claim = claim } }
     {
-        self.claim = claim;
+        ArenaRow { claim, ..self }
+    }
+
+    /// The arena at this level, with a new stamp.
+    pub fn promoted(self, stamp: u32, level: Level) -> ArenaRow
+        ensures { result ≡ record self { stamp = stamp; level = level } }
+    {
+        ArenaRow {
+            stamp,
+            level,
+            ..self
+        }
+    }
+
+    /// What the list of its level keeps of it.
+    pub fn entry(self) -> Row
+        ensures exact { result ≡ entry_of self }
+        ensures small { result.request ≤ 65535 }
+    {
+        Row {
+            stamp: self.stamp,
+            arena: self.arena,
+            request: self.claim.request(),
+            mandated: self.claim.mandated(),
+        }
     }
 }
 
-/// Where the arena stands among the rows.
-pub fn place_in(rows: &[ArenaRow], arena: ArenaId) -> Option<usize>
-    ensures missing { IfNone result (arena_at arena rows.now ≡ None) }
+/// Where the arena stands among rows with rising numbers.
+pub fn place_of(rows: &[ArenaRow], arena: ArenaId) -> Option<usize>
+    requires { IsByNumber rows.now }
+    ensures missing { IfNone result (All (λ (a : Arena). a.number ≢ arena) rows.now) }
     ensures there { IfSome result (λ place. place < length rows.now) }
-    ensures found { IfSome result (λ place. slice_get rows.now place ≡ arena_at arena rows.now) }
+    ensures found { IfSome result (λ place. (d : Arena) → (slice_index_or rows.now place d).number ≡ arena) }
 {
-    first_place(rows, arena)
-}
-
-/// The first place of the arena.
-fn first_place(rows: &[ArenaRow], arena: ArenaId) -> Option<usize>
-    ensures { result ≡ position (λ (a : Arena). a.number == arena) rows.now }
-{
-    rows.iter().position(|row| row.arena().get() == arena.get())
+    rows
+        .binary_search_by_key(&arena.get(), |row| row.arena().get())
+        .ok()
 }

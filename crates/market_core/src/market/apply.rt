@@ -1,101 +1,284 @@
 //! What a command does.
-ghost use Rattle.std.specs.Prelude.{◌≡◌, ◌≤◌, ◌<◌, pos, length, false, IsTrue, IsOk, IfOk, OnOk, OnErr};
-ghost use Rattle.market_types.specs.Commands.{is_served};
-ghost use Rattle.market_types.specs.Step.{open_step, request_step, show_step, step};
+ghost use Rattle.std.specs.Prelude.{◌≡◌, ◌≤◌, ◌<◌, length, false, IsOk, IfOk, OnOk, OnErr};
+ghost use Rattle.market_types.specs.Step.{open_step, close_step, priority_step, resize_step, request_step, control_step, uncontrol_step, join_from, stay_from, leave_from, place_of, show_step, step};
 ghost use Rattle.market_core.specs.Memory.{takes_memory};
+ghost use Rattle.market_core.specs.Allotted.{IsStaffed};
+ghost use Rattle.market_core.specs.Visits.{most_visits, looks_in_order};
 
 use super::Market;
-use crate::row::{ArenaRow, place_in};
+use crate::row::ArenaRow;
+use crate::store::Arenas;
 use arena_record::ArenaRecord;
-use market_types::{ArenaId, Cmd, Fault, Level, Reply, SeatNo};
+use market_types::{ArenaId, Cmd, ControlId, Fault, Level, Reply, SeatNo};
+use recall_hire::recall;
 use std::alloc::{AllocError, Global};
 
-/// The most arenas that live at a time.
-const MOST_ARENAS: usize = 1024;
-
 /// The last number of an arena, and the last stamp.
-const LAST_NUMBER: u32 = 1048576;
+const LAST: u32 = 1_048_576;
 
 impl Market {
-    /// Does what a seat asks, or refuses it: the first refusal that applies is the reply, and changes nothing. Only
-    /// commands that may take memory can give an `Err`, and after one the market is as before. The command is one that
-    /// the market serves, and the seat one that it has. Each command walks over the arenas at most.
+    /// Does what a seat asks, or refuses it. Only Open, Control and Lists can give an `Err`, where there is no memory, and
+    /// after one the market is as before.
     pub fn apply(&mut self, alloc: Global, seat: SeatNo, cmd: Cmd) -> Result<Reply, AllocError>
-        requires served { IsTrue (is_served cmd) }
         requires seat { seat < length self.old.seats }
         ensures reply { IfOk result (λ reply. reply ≡ (step self.old seat cmd).0) }
+        ensures staffed { IfOk result (λ reply. IsStaffed reply self.new) }
         ensures next { OnOk result (self.new ≡ (step self.old seat cmd).1) }
         ensures unchanged { OnErr result (self.new ≡ self.old) }
         ensures no_memory { takes_memory cmd ≡ false → IsOk result }
         ensures same_seats { length self.new.seats ≡ length self.old.seats }
     {
-        let _ = alloc;
+        let (reply, _visits) = self.apply_counted(alloc, seat, cmd)?;
+        Ok(reply)
+    }
+
+    /// Does what `apply` does, and says how many nodes of the arenas' trees it entered: for every command but Join and
+    /// Lists no more than four times as many as the number of living arenas has binary digits, and one; where no worker
+    /// may be active, twice as many more for each level.
+    pub fn apply_counted(
+        &mut self,
+        alloc: Global,
+        seat: SeatNo,
+        cmd: Cmd,
+    ) -> Result<(Reply, u32), AllocError>
+        requires seat { seat < length self.old.seats }
+        ensures reply { IfOk result (λ answer. answer.0 ≡ (step self.old seat cmd).0) }
+        ensures staffed { IfOk result (λ answer. IsStaffed answer.0 self.new) }
+        ensures next { OnOk result (self.new ≡ (step self.old seat cmd).1) }
+        ensures unchanged { OnErr result (self.new ≡ self.old) }
+        ensures no_memory { takes_memory cmd ≡ false → IsOk result }
+        ensures same_seats { length self.new.seats ≡ length self.old.seats }
+        ensures visits { looks_in_order cmd ≡ false → IfOk result (λ answer. answer.1 ≤ most_visits self.old) }
+    {
         match cmd {
-            Cmd::Open(slots, reserved, level) => self.open(slots, reserved, level),
+            Cmd::Open(slots, reserved, level) => self.open(alloc, slots, reserved, level),
+            Cmd::Close(arena) => Ok(self.close(arena)),
+            Cmd::Priority(arena, level) => Ok(self.priority(arena, level)),
+            Cmd::Resize(arena, slots, reserved) => Ok(self.resize(arena, slots, reserved)),
             Cmd::Request(arena, workers, mandatory) => Ok(self.request(arena, workers, mandatory)),
+            Cmd::Control(value) => Ok((self.control(value)?, 0)),
+            Cmd::Uncontrol(control) => Ok((self.uncontrol(control), 0)),
+            Cmd::Join => Ok((self.join(seat), 0)),
+            Cmd::Stay => Ok(self.stay(seat)),
+            Cmd::Leave => Ok((self.leave(seat), 0)),
             Cmd::Show(arena) => Ok(self.show(arena)),
-            Cmd::Limit => Ok(Reply::Limits(self.limits())),
-            _ => unreachable!(),
+            Cmd::Lists => Ok((Reply::Listed(self.lists(alloc)?), 0)),
+            Cmd::Limit => Ok((Reply::Limits(self.limits()), 0)),
         }
     }
 
     /// A new arena, before all others.
-    fn open(&mut self, slots: u32, reserved: u32, level: Level) -> Result<Reply, AllocError>
-        ensures reply { IfOk result (λ reply. reply ≡ (open_step self.old slots reserved level).0) }
+    fn open(
+        &mut self,
+        alloc: Global,
+        slots: u32,
+        reserved: u32,
+        level: Level,
+    ) -> Result<(Reply, u32), AllocError>
+        ensures reply { IfOk result (λ answer. answer.0 ≡ (open_step self.old slots reserved level).0) }
+        ensures staffed { IfOk result (λ answer. IsStaffed answer.0 self.new) }
         ensures next { OnOk result (self.new ≡ (open_step self.old slots reserved level).1) }
-        ensures unchanged { OnErr result (self.new ≡ self.old) }
         ensures same_seats { length self.new.seats ≡ length self.old.seats }
+        ensures unchanged { OnErr result (self.new ≡ self.old) }
+        ensures visits { IfOk result (λ answer. answer.1 ≤ most_visits self.old) }
     {
         let claim = match ArenaRecord::new(slots, reserved) {
             Ok(claim) => claim,
-            Err(fault) => return Ok(Reply::Refused(fault)),
+            Err(fault) => return Ok((Reply::Refused(fault), 0)),
         };
         if level.get() > self.levels {
-            return Ok(Reply::Refused(Fault::BadLevel));
+            return Ok((Reply::Refused(Fault::BadLevel), 0));
         }
-        if self.rows.len() >= MOST_ARENAS {
-            return Ok(Reply::Refused(Fault::TooManyArenas));
+        if self.arenas.len() >= Arenas::MOST {
+            return Ok((Reply::Refused(Fault::TooManyArenas), 0));
         }
-        if self.next_arena > LAST_NUMBER {
-            return Ok(Reply::Refused(Fault::OutOfNumbers));
+        if self.next_arena > LAST {
+            return Ok((Reply::Refused(Fault::OutOfNumbers), 0));
         }
-        if self.next_stamp > LAST_NUMBER {
-            return Ok(Reply::Refused(Fault::OutOfNumbers));
+        if self.next_stamp > LAST {
+            return Ok((Reply::Refused(Fault::OutOfNumbers), 0));
         }
         let arena = ArenaId::new(self.next_arena);
         let row = ArenaRow::new(arena, self.next_stamp, level, claim);
-        self.rows.insert(0, row)?;
+        let visits = self.arenas.push(alloc, row)?;
         self.next_arena += 1;
         self.next_stamp += 1;
-        Ok(Reply::Opened(arena))
+        Ok((Reply::Opened(arena), visits))
     }
 
-    /// Adds to what an arena asks for.
-    fn request(&mut self, arena: ArenaId, workers: i32, mandatory: i32) -> Reply
-        requires unmandated { mandatory ≡ pos 0 }
-        ensures reply { result ≡ (request_step self.old arena workers mandatory).0 }
+    /// The arena goes, unless a seat is placed at it.
+    fn close(&mut self, arena: ArenaId) -> (Reply, u32)
+        ensures reply { result.0 ≡ (close_step self.old arena).0 }
+        ensures staffed { IsStaffed result.0 self.new }
+        ensures next { self.new ≡ (close_step self.old arena).1 }
+        ensures same_seats { length self.new.seats ≡ length self.old.seats }
+        ensures visits { result.1 ≤ most_visits self.old }
+    {
+        if self.arenas.get(arena).is_none() {
+            return (Reply::Refused(Fault::NoArena), 0);
+        }
+        let active = self.roster.active(arena);
+        if active > 0 {
+            return (Reply::Refused(Fault::Busy(active)), 0);
+        }
+        let visits = self.arenas.remove(arena);
+        (Reply::Closed, visits)
+    }
+
+    /// The arena goes first, at this level.
+    fn priority(&mut self, arena: ArenaId, level: Level) -> (Reply, u32)
+        ensures reply { result.0 ≡ (priority_step self.old arena level).0 }
+        ensures staffed { IsStaffed result.0 self.new }
+        ensures next { self.new ≡ (priority_step self.old arena level).1 }
+        ensures same_seats { length self.new.seats ≡ length self.old.seats }
+        ensures visits { result.1 ≤ most_visits self.old }
+    {
+        if level.get() > self.levels {
+            return (Reply::Refused(Fault::BadLevel), 0);
+        }
+        let Some(row) = self.arenas.get(arena) else {
+            return (Reply::Refused(Fault::NoArena), 0);
+        };
+        if self.next_stamp > LAST {
+            return (Reply::Refused(Fault::OutOfNumbers), 0);
+        }
+        let visits = self.arenas.promote(row, self.next_stamp, level);
+        self.next_stamp += 1;
+        (Reply::Moved, visits)
+    }
+
+    /// The arena gets other slots, at its place.
+    fn resize(&mut self, arena: ArenaId, slots: u32, reserved: u32) -> (Reply, u32)
+        ensures reply { result.0 ≡ (resize_step self.old arena slots reserved).0 }
+        ensures staffed { IsStaffed result.0 self.new }
+        ensures next { self.new ≡ (resize_step self.old arena slots reserved).1 }
+        ensures same_seats { length self.new.seats ≡ length self.old.seats }
+        ensures visits { result.1 ≤ most_visits self.old }
+    {
+        if let Err(fault) = ArenaRecord::new(slots, reserved) {
+            return (Reply::Refused(fault), 0);
+        }
+        let Some(row) = self.arenas.get(arena) else {
+            return (Reply::Refused(Fault::NoArena), 0);
+        };
+        let mut claim = row.claim();
+        if claim.resize(slots, reserved).is_err() {
+            unreachable!();
+        }
+        let visits = self.arenas.set_claim(arena, claim);
+        (Reply::Resized(claim.request()), visits)
+    }
+
+    /// Adds to what the arena asks for.
+    fn request(&mut self, arena: ArenaId, workers: i32, mandatory: i32) -> (Reply, u32)
+        ensures reply { result.0 ≡ (request_step self.old arena workers mandatory).0 }
+        ensures staffed { IsStaffed result.0 self.new }
         ensures next { self.new ≡ (request_step self.old arena workers mandatory).1 }
         ensures same_seats { length self.new.seats ≡ length self.old.seats }
+        ensures visits { result.1 ≤ most_visits self.old }
     {
-        let Some(place) = place_in(&self.rows, arena) else {
-            return Reply::Refused(Fault::NoArena);
+        let Some(row) = self.arenas.get(arena) else {
+            return (Reply::Refused(Fault::NoArena), 0);
         };
-        let mut claim = self.rows[place].claim();
+        let mut claim = row.claim();
         if let Err(fault) = claim.add(workers, mandatory) {
-            return Reply::Refused(fault);
+            return (Reply::Refused(fault), 0);
         }
-        let row = &mut self.rows[place];
-        row.set_claim(claim);
-        Reply::Requested(claim.request())
+        let visits = self.arenas.set_claim(arena, claim);
+        (Reply::Requested(claim.request()), visits)
+    }
+
+    /// A new limit on parallelism.
+    fn control(&mut self, value: u32) -> Result<Reply, AllocError>
+        ensures reply { IfOk result (λ reply. reply ≡ (control_step self.old value).0) }
+        ensures staffed { IfOk result (λ reply. IsStaffed reply self.new) }
+        ensures next { OnOk result (self.new ≡ (control_step self.old value).1) }
+        ensures same_seats { length self.new.seats ≡ length self.old.seats }
+        ensures unchanged { OnErr result (self.new ≡ self.old) }
+    {
+        let made = self.controls.make(value)?;
+        match made {
+            Ok(control) => Ok(Reply::Controlled(control)),
+            Err(fault) => Ok(Reply::Refused(fault)),
+        }
+    }
+
+    /// The control goes.
+    fn uncontrol(&mut self, control: ControlId) -> Reply
+        ensures reply { result ≡ (uncontrol_step self.old control).0 }
+        ensures staffed { IsStaffed result self.new }
+        ensures next { self.new ≡ (uncontrol_step self.old control).1 }
+        ensures same_seats { length self.new.seats ≡ length self.old.seats }
+    {
+        match self.controls.remove(control) {
+            Ok(()) => Reply::Uncontrolled,
+            Err(fault) => Reply::Refused(fault),
+        }
+    }
+
+    /// An unplaced seat goes to the first arena in need of a worker.
+    fn join(&mut self, seat: SeatNo) -> Reply
+        requires seat { seat < length self.old.seats }
+        ensures reply { result ≡ (join_from self.old seat (place_of self.old seat)).0 }
+        ensures staffed { IsStaffed result self.new }
+        ensures next { self.new ≡ (join_from self.old seat (place_of self.old seat)).1 }
+        ensures same_seats { length self.new.seats ≡ length self.old.seats }
+    {
+        if let Some(arena) = self.roster.at(seat) {
+            return Reply::Refused(Fault::AlreadyPlaced(arena));
+        }
+        let Some(arena) = self.in_need() else {
+            return Reply::Idle;
+        };
+        self.roster.place(seat, arena);
+        Reply::Placed(arena)
+    }
+
+    /// The seat stays at its arena, unless that has a worker too many.
+    fn stay(&mut self, seat: SeatNo) -> (Reply, u32)
+        requires seat { seat < length self.old.seats }
+        ensures reply { result.0 ≡ (stay_from self.old seat (place_of self.old seat)).0 }
+        ensures staffed { IsStaffed result.0 self.new }
+        ensures next { self.new ≡ (stay_from self.old seat (place_of self.old seat)).1 }
+        ensures same_seats { length self.new.seats ≡ length self.old.seats }
+        ensures visits { result.1 ≤ most_visits self.old }
+    {
+        let Some(arena) = self.roster.at(seat) else {
+            return (Reply::Refused(Fault::NotPlaced), 0);
+        };
+        let (allotted, visits) = self.allotted(arena);
+        if recall(self.roster.active(arena), allotted) == 0 {
+            return (Reply::Stays(arena), visits);
+        }
+        self.roster.unplace(seat);
+        (Reply::Recalled(arena), visits)
+    }
+
+    /// The seat leaves its arena.
+    fn leave(&mut self, seat: SeatNo) -> Reply
+        requires seat { seat < length self.old.seats }
+        ensures reply { result ≡ (leave_from self.old seat (place_of self.old seat)).0 }
+        ensures staffed { IsStaffed result self.new }
+        ensures next { self.new ≡ (leave_from self.old seat (place_of self.old seat)).1 }
+        ensures same_seats { length self.new.seats ≡ length self.old.seats }
+    {
+        let Some(arena) = self.roster.at(seat) else {
+            return Reply::Refused(Fault::NotPlaced);
+        };
+        self.roster.unplace(seat);
+        Reply::Left(arena)
     }
 
     /// What is seen of an arena, or that there is none.
-    fn show(&self, arena: ArenaId) -> Reply
-        ensures { result ≡ (show_step self.now arena).0 }
+    fn show(&self, arena: ArenaId) -> (Reply, u32)
+        ensures reply { result.0 ≡ (show_step self.now arena).0 }
+        ensures staffed { IsStaffed result.0 self.now }
+        ensures visits { result.1 ≤ most_visits self.now }
     {
-        match self.view(arena) {
-            Some(view) => Reply::Shown(view),
-            None => Reply::Refused(Fault::NoArena),
-        }
+        let Some(row) = self.arenas.get(arena) else {
+            return (Reply::Refused(Fault::NoArena), 0);
+        };
+        let (view, visits) = self.see(row);
+        (Reply::Shown(view), visits)
     }
 }

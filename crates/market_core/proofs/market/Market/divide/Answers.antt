@@ -1,0 +1,28 @@
+use Rattle.std.proofs.Common.{arith, ap, sym, min, ◌≡◌, ◌∙◌, Option, ℕ}
+use Rattle.market_types.specs.State.{State}
+use Rattle.market_types.specs.Step.{limits_of}
+use Rattle.market_types.specs.Allotment.{bound_of, limit_of, effective_limit_of, total_request}
+use Rattle.market_types.specs.declared.reply.LimitView.{LimitView}
+use Rattle.allotment.specs.Levels.{pick_of}
+use Rattle.market_core.proofs.market.Market.divide.Goals as goal
+use Rattle.market_core.proofs.market.Market.divide.Goals.{then-limits-eq0, else-limits-eq0}
+
+pub returns-clause-exact : goal.returns-clause-exact
+returns-clause-exact c =
+    let s = c.args.self.now in
+    let limit : c.limits-limits.result.limit ≡ limit_of s = ap (λ (l : LimitView). l.limit) c.limits-limits.ensures.exact in
+    let effective : c.limits-limits.result.effective ≡ effective_limit_of s = ap (λ (l : LimitView). l.effective) c.limits-limits.ensures.exact in
+    let total : c.sum_of.result ≡ total_request s.arenas = c.sum_of.ensures.exact ∙ c.bound_is_given_out.ensures.asked s c.demands-demands.result c.demands-demands.ensures.leveled c.demands-demands.ensures.exact in
+    let bound : c.min-bound.result ≡ bound_of s = c.min-bound.ensures ∙ ap (λ n. min n c.from.result) total ∙ ap (λ n. min (total_request s.arenas) n) (c.from.ensures ∙ effective) in
+    record {
+      limit = limit;
+      bound = bound;
+      demands = c.demands-demands.ensures.exact;
+      small = c.demands-demands.ensures.small;
+      assigned = λ level low high. c.assign.ensures.in_market s c.demands-demands.ensures.exact (c.from-2.ensures ∙ bound) level low high;
+      within = c.assign.ensures.no_more_than_asked;
+      picked = λ none. elim c.if-limits-eq0.branch [
+        | then-limits-eq0 w ↦ ap (λ (p : Option ℕ × ℕ). p.0) w.picked-is ∙ w.mandatory_pick.ensures.in_market s w.picks-picks.ensures.exact
+        | else-limits-eq0 w ↦ absurd (w.if-limits-eq0.false (limit ∙ none))
+      ];
+    }

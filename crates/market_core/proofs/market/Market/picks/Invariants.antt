@@ -1,0 +1,18 @@
+use Rattle.std.proofs.Common.{◌≡◌, ℕ, ◌+◌, ◌*◌, ◌<◌, ◌≤◌, get_or, length, None}
+use Rattle.std.specs.List.{find}
+use Rattle.market_types.specs.State.{Arena}
+use Rattle.market_types.specs.Claims.{is_mandated}
+use Rattle.market_types.specs.Allotment.{at_level}
+use Rattle.allotment.specs.Levels.{number_of}
+use Rattle.level_list.specs.Bits.{bits}
+use Rattle.market_core.proofs.market.Market.picks.Given as goal
+
+-- the levels so far have their picks, and there is none above them
+abbrev pub invariant-loop-place : goal.invariant-loop-place
+invariant-loop-place l =
+    record {
+      exact : (k : ℕ) → k < l.place → get_or l.picks k None ≡ number_of (find (λ (a : Arena). is_mandated a.claim) (at_level (k + 1) l.self-inside.arenas));
+      above : (k : ℕ) → l.place ≤ k → get_or l.picks k None ≡ None;
+      visits : l.visits ≤ l.place * (2 * bits (length l.self-inside.arenas));
+      few : l.visits ≤ l.place * 22;
+    }

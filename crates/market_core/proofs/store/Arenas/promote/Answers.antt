@@ -1,0 +1,140 @@
+use Rattle.std.proofs.Common.{arith, refl, sym, ap, subst, ◌∙◌, ◌≡◌, ℕ, ◌+◌, ◌-◌, ◌*◌, ◌<◌, ◌≤◌, cond, ltb, length, List, get_or, Option, Some, None}
+use Rattle.std.specs.List.{All}
+use Rattle.std.proofs.lemmas.Option.{none-some, same_Some}
+use Rattle.level_list.specs.Rows.{without as without_row, row_at}
+use Rattle.level_list.specs.Bits.{bits}
+use Rattle.market_types.specs.State.{Claim, Arena}
+use Rattle.market_types.specs.declared.row.Row.{Row}
+use Rattle.market_types.specs.Step.{arena_at}
+use Rattle.market_core.specs.Store.{by_stamp, entry_of}
+use Rattle.market_core.proofs.ByStamp.{IsOlder}
+use Rattle.market_core.proofs.Stored.{missing-by_stamp, row-here, entry-here, level-here, all-visits, promoted-room, promoted-newest, promoted-visits, stored-promoted, view-promoted, list-visits}
+use Rattle.market_core.proofs.store.Arenas.promote.Goals as goal
+
+pub unreachable-requires : goal.unreachable-requires
+unreachable-requires c =
+    let missing = rw (c.deref.ensures.value, c.arena.ensures) at c.in_default.ensures.missing in
+    let there = rw (← c.self.view_is) at c.requires.there in
+    none-some c.args.row (sym (missing-by_stamp c.args.row.number c.self.inside.rows.items missing) ∙ there)
+
+pub unreachable-requires-in_default-taken : goal.unreachable-requires-in_default-taken
+unreachable-requires-in_default-taken c =
+    let s = c.self.inside in
+    let x = c.args.row in
+    let i = c.in-Some.place in
+    let within = rw c.deref.ensures.value at c.in-Some.ensures.there in
+    let found = rw (c.deref.ensures.value, c.arena.ensures) at c.in-Some.ensures.found in
+    let there = rw (← c.self.view_is) at c.requires.there in
+    let e = row-here x.number i s.rows.items x c.self.invariant.by_number within found there in
+    let level : c.get.result ≡ x.level = c.get.ensures.exact ∙ c.level.ensures in
+    let some = entry-here s.rows.items s.lists s.enqueued i x c.self.invariant within e (c.get.result - 1) c.index-self-get.result (ap (λ n. n - 1) level) in
+    none-some (entry_of x) (sym c.in_default-taken.is ∙ c.take-taken.ensures.taken ∙ ap (λ k. row_at k (get_or s.lists (c.get.result - 1) c.index-self-get.result)) c.stamp.ensures ∙ some)
+
+pub put-back-requires-clause-room : goal.put-back-requires-clause-room
+put-back-requires-clause-room c =
+    let s = c.self.inside in
+    let x = c.args.row in
+    let y : Arena = record x { stamp = c.args.stamp; level = c.args.level } in
+    let i = c.in-Some.place in
+    let within = rw c.deref.ensures.value at c.in-Some.ensures.there in
+    let found = rw (c.deref.ensures.value, c.arena.ensures) at c.in-Some.ensures.found in
+    let there = rw (← c.self.view_is) at c.requires.there in
+    let older = rw (← c.self.view_is) at c.requires.newest in
+    let e = row-here x.number i s.rows.items x c.self.invariant.by_number within found there in
+    let level : c.get.result ≡ x.level = c.get.ensures.exact ∙ c.level.ensures in
+    let rows = c.take-taken.ensures.rows ∙ ap (λ k. without_row k (get_or s.lists (c.get.result - 1) c.index-self-get.result)) c.stamp.ensures in
+    promoted-room s.rows.items s.lists s.enqueued i x c.self.invariant within e y older (omega arith, omega arith) (c.get.result - 1) (c.get-2.result - 1) c.index-self-get.result c.index-self-get-2.result _ _
+      (ap (λ n. n - 1) level) (ap (λ n. n - 1) c.get-2.ensures.exact) refl rows
+
+pub put-back-requires-clause-newest : goal.put-back-requires-clause-newest
+put-back-requires-clause-newest c =
+    let s = c.self.inside in
+    let x = c.args.row in
+    let y : Arena = record x { stamp = c.args.stamp; level = c.args.level } in
+    let i = c.in-Some.place in
+    let within = rw c.deref.ensures.value at c.in-Some.ensures.there in
+    let found = rw (c.deref.ensures.value, c.arena.ensures) at c.in-Some.ensures.found in
+    let there = rw (← c.self.view_is) at c.requires.there in
+    let older = rw (← c.self.view_is) at c.requires.newest in
+    let e = row-here x.number i s.rows.items x c.self.invariant.by_number within found there in
+    let level : c.get.result ≡ x.level = c.get.ensures.exact ∙ c.level.ensures in
+    let rows = c.take-taken.ensures.rows ∙ ap (λ k. without_row k (get_or s.lists (c.get.result - 1) c.index-self-get.result)) c.stamp.ensures in
+    promoted-newest s.rows.items s.lists s.enqueued i x c.self.invariant within e y older (omega arith, omega arith) (c.get.result - 1) (c.get-2.result - 1) c.index-self-get.result c.index-self-get-2.result _ _
+      (ap (λ n. n - 1) level) (ap (λ n. n - 1) c.get-2.ensures.exact) refl rows
+
+pub overflow_add-result : goal.overflow_add-result
+overflow_add-result c =
+    let s = c.self.inside in
+    let x = c.args.row in
+    let y : Arena = record x { stamp = c.args.stamp; level = c.args.level } in
+    let i = c.in-Some.place in
+    let within = rw c.deref.ensures.value at c.in-Some.ensures.there in
+    let found = rw (c.deref.ensures.value, c.arena.ensures) at c.in-Some.ensures.found in
+    let there = rw (← c.self.view_is) at c.requires.there in
+    let older = rw (← c.self.view_is) at c.requires.newest in
+    let e = row-here x.number i s.rows.items x c.self.invariant.by_number within found there in
+    let level : c.get.result ≡ x.level = c.get.ensures.exact ∙ c.level.ensures in
+    let rows = c.take-taken.ensures.rows ∙ ap (λ k. without_row k (get_or s.lists (c.get.result - 1) c.index-self-get.result)) c.stamp.ensures in
+    let within_level = level-here s.rows.items s.lists s.enqueued i x c.self.invariant within e in
+    let out : c.take-taken.result.1 ≤ 2 * bits (length (by_stamp s.rows.items)) =
+    list-visits s.rows.items s.lists s.enqueued c.self.invariant x.level (c.get.result - 1) c.index-self-get.result within_level.0 within_level.1 (ap (λ n. n - 1) level) c.take-taken.result.1 c.take-taken.ensures.visits in
+    let back : c.put-back.result ≤ 2 * bits (length (by_stamp s.rows.items)) + 1 =
+    promoted-visits s.rows.items s.lists s.enqueued i x c.self.invariant within e y older (omega arith, omega arith) (c.get.result - 1) (c.get-2.result - 1) c.index-self-get.result c.index-self-get-2.result _ _
+      (ap (λ n. n - 1) level) (ap (λ n. n - 1) c.get-2.ensures.exact) refl rows c.put-back.result c.put-back.ensures.visits in
+    omega (arith, all-visits s.rows.items s.lists s.enqueued c.self.invariant, out, back)
+
+pub invariant_of-self : goal.invariant_of-self
+invariant_of-self c =
+    let s = c.self.inside in
+    let x = c.args.row in
+    let y : Arena = record x { stamp = c.args.stamp; level = c.args.level } in
+    let i = c.in-Some.place in
+    let within = rw c.deref.ensures.value at c.in-Some.ensures.there in
+    let found = rw (c.deref.ensures.value, c.arena.ensures) at c.in-Some.ensures.found in
+    let there = rw (← c.self.view_is) at c.requires.there in
+    let older = rw (← c.self.view_is) at c.requires.newest in
+    let e = row-here x.number i s.rows.items x c.self.invariant.by_number within found there in
+    let level : c.get.result ≡ x.level = c.get.ensures.exact ∙ c.level.ensures in
+    let rows = c.take-taken.ensures.rows ∙ ap (λ k. without_row k (get_or s.lists (c.get.result - 1) c.index-self-get.result)) c.stamp.ensures in
+    let some = entry-here s.rows.items s.lists s.enqueued i x c.self.invariant within e (c.get.result - 1) c.index-self-get.result (ap (λ n. n - 1) level) in
+    let same : c.in-Some-taken.taken ≡ entry_of x =
+    same_Some c.in-Some-taken.taken (entry_of x) (sym c.in-Some-taken.is ∙ c.take-taken.ensures.taken ∙ ap (λ k. row_at k (get_or s.lists (c.get.result - 1) c.index-self-get.result)) c.stamp.ensures ∙ some) in
+    let fresh : record c.in-Some-taken.taken { stamp = c.args.stamp } ≡ entry_of y = ap (λ (r : Row). record r { stamp = c.args.stamp }) same in
+    let after = rw fresh at c.put-back.ensures.rows in
+    rw c.promoted.ensures
+    (stored-promoted s.rows.items s.lists s.enqueued i x c.self.invariant within e y older (omega arith, omega arith) (c.get.result - 1) (c.get-2.result - 1) c.index-self-get.result c.index-self-get-2.result _ _
+      (ap (λ n. n - 1) level) (ap (λ n. n - 1) c.get-2.ensures.exact) refl rows _ refl refl after)
+
+pub returns-clause-exact : goal.returns-clause-exact
+returns-clause-exact c =
+    let s = c.self.inside in
+    let x = c.args.row in
+    let y : Arena = record x { stamp = c.args.stamp; level = c.args.level } in
+    let i = c.in-Some.place in
+    let within = rw c.deref.ensures.value at c.in-Some.ensures.there in
+    let found = rw (c.deref.ensures.value, c.arena.ensures) at c.in-Some.ensures.found in
+    let there = rw (← c.self.view_is) at c.requires.there in
+    let older = rw (← c.self.view_is) at c.requires.newest in
+    let e = row-here x.number i s.rows.items x c.self.invariant.by_number within found there in
+    rw (c.promoted.ensures, ← c.self.view_is) (view-promoted s.rows.items s.lists s.enqueued i x c.self.invariant within e y older)
+
+pub returns-clause-visits : goal.returns-clause-visits
+returns-clause-visits c =
+    let s = c.self.inside in
+    let x = c.args.row in
+    let y : Arena = record x { stamp = c.args.stamp; level = c.args.level } in
+    let i = c.in-Some.place in
+    let within = rw c.deref.ensures.value at c.in-Some.ensures.there in
+    let found = rw (c.deref.ensures.value, c.arena.ensures) at c.in-Some.ensures.found in
+    let there = rw (← c.self.view_is) at c.requires.there in
+    let older = rw (← c.self.view_is) at c.requires.newest in
+    let e = row-here x.number i s.rows.items x c.self.invariant.by_number within found there in
+    let level : c.get.result ≡ x.level = c.get.ensures.exact ∙ c.level.ensures in
+    let rows = c.take-taken.ensures.rows ∙ ap (λ k. without_row k (get_or s.lists (c.get.result - 1) c.index-self-get.result)) c.stamp.ensures in
+    let within_level = level-here s.rows.items s.lists s.enqueued i x c.self.invariant within e in
+    let out : c.take-taken.result.1 ≤ 2 * bits (length (by_stamp s.rows.items)) =
+    list-visits s.rows.items s.lists s.enqueued c.self.invariant x.level (c.get.result - 1) c.index-self-get.result within_level.0 within_level.1 (ap (λ n. n - 1) level) c.take-taken.result.1 c.take-taken.ensures.visits in
+    let back : c.put-back.result ≤ 2 * bits (length (by_stamp s.rows.items)) + 1 =
+    promoted-visits s.rows.items s.lists s.enqueued i x c.self.invariant within e y older (omega arith, omega arith) (c.get.result - 1) (c.get-2.result - 1) c.index-self-get.result c.index-self-get-2.result _ _
+      (ap (λ n. n - 1) level) (ap (λ n. n - 1) c.get-2.ensures.exact) refl rows c.put-back.result c.put-back.ensures.visits in
+    rw (← c.self.view_is) (omega (arith, out, back))

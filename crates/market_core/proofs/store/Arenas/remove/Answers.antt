@@ -1,0 +1,46 @@
+use Rattle.std.proofs.Common.{arith, sym, ap, ◌∙◌, ◌≡◌, ◌+◌, ◌-◌, ◌<◌, ◌≤◌, cond, ltb, length, List, get_or}
+use Rattle.level_list.specs.Rows.{without as without_row}
+use Rattle.market_types.specs.State.{Claim, Arena}
+use Rattle.market_types.specs.Step.{without}
+use Rattle.market_core.specs.Store.{by_stamp}
+use Rattle.market_core.proofs.Stored.{removed-missing, level-here, counted-within, view-removed, stored-removed, list-visits}
+use Rattle.market_core.proofs.store.Arenas.remove.Goals as goal
+
+pub returns-in_default-clause-exact : goal.returns-in_default-clause-exact
+returns-in_default-clause-exact c =
+    let missing = rw c.deref.ensures.value at c.in_default.ensures.missing in
+    rw (← c.self.view_is) (sym (removed-missing c.args.arena c.self.inside.rows.items missing))
+
+pub invariant_of-self : goal.invariant_of-self
+invariant_of-self c =
+    let s = c.self.inside in
+    let x = c.remove-row.result in
+    let i = c.in-Some.place in
+    let there = rw c.deref.ensures.value at c.in-Some.ensures.there in
+    let level : c.get.result ≡ x.level = c.get.ensures.exact ∙ c.level.ensures in
+    let place = ap (λ n. n - 1) level in
+    let rows = c.take-taken.ensures.rows ∙ ap (λ k. without_row k (get_or s.lists (c.get.result - 1) c.index-self-get.result)) c.stamp.ensures in
+    let old : c.counted.result ≡ cond (ltb 0 x.claim.mandatory) 1 0 = c.counted.ensures ∙ ap (λ (q : Claim). cond (ltb 0 q.mandatory) 1 0) c.claim.ensures in
+    rw c.remove-row.ensures.items
+    (stored-removed s.rows.items s.lists s.enqueued i x c.self.invariant there c.remove-row.ensures.value (c.get.result - 1) c.index-self-get.result _ _ place rows
+      (omega (arith, counted-within s.rows.items s.lists s.enqueued i x c.self.invariant there c.remove-row.ensures.value, old)))
+
+pub returns-clause-exact : goal.returns-clause-exact
+returns-clause-exact c =
+    let s = c.self.inside in
+    let x = c.remove-row.result in
+    let i = c.in-Some.place in
+    let there = rw c.deref.ensures.value at c.in-Some.ensures.there in
+    let found = rw c.deref.ensures.value at c.in-Some.ensures.found in
+    let number : x.number ≡ c.args.arena = ap (λ (a : Arena). a.number) c.remove-row.ensures.value ∙ found x in
+    rw (c.remove-row.ensures.items, ← c.self.view_is)
+    (view-removed s.rows.items s.lists s.enqueued i x c.self.invariant there c.remove-row.ensures.value ∙ ap (λ k. without k (by_stamp s.rows.items)) number)
+
+pub returns-clause-visits : goal.returns-clause-visits
+returns-clause-visits c =
+    let s = c.self.inside in
+    let x = c.remove-row.result in
+    let there = rw c.deref.ensures.value at c.in-Some.ensures.there in
+    let level : c.get.result ≡ x.level = c.get.ensures.exact ∙ c.level.ensures in
+    let within = level-here s.rows.items s.lists s.enqueued c.in-Some.place x c.self.invariant there c.remove-row.ensures.value in
+    rw (← c.self.view_is) (list-visits s.rows.items s.lists s.enqueued c.self.invariant x.level (c.get.result - 1) c.index-self-get.result within.0 within.1 (ap (λ n. n - 1) level) c.take-taken.result.1 c.take-taken.ensures.visits)

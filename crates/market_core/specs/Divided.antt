@@ -1,0 +1,15 @@
+use Rattle.std.specs.Prelude.{◌≡◌, ℕ, ◌-◌, ◌*◌, ◌≤◌, slice_index}
+use Rattle.market_types.specs.State.{State}
+use Rattle.market_types.specs.Allotment.{limit_of, bound_of, assigned}
+use Rattle.allotment.specs.Levels.{AreDemandsOf, pick_of}
+use Rattle.market_core.specs.declared.division.Division.{Division}
+
+-- how the workers of a market are divided among its levels; where none may be active, who is served
+pub record IsDivisionOf (s : State) (d : Division) : Type 0 where
+  pub limit : d.limit ≡ limit_of s
+  pub bound : d.bound ≡ bound_of s
+  pub demands : AreDemandsOf s d.demands
+  pub small : (place : ℕ) → slice_index d.demands place ≤ 1024 * 65535
+  pub assigned : (level : ℕ) → 1 ≤ level → level ≤ s.levels → slice_index d.assigned (level - 1) ≡ assigned s level
+  pub within : (place : ℕ) → slice_index d.assigned place ≤ slice_index d.demands place
+  pub picked : limit_of s ≡ 0 → d.picked ≡ pick_of s

@@ -1,0 +1,21 @@
+-- How many nodes of the arenas' trees a command may enter.
+use Rattle.std.specs.Prelude.{ℕ, Bool, true, false, ◌+◌, ◌*◌, ◌==◌, length, if◌then◌else◌}
+use Rattle.market_types.specs.declared.command.Cmd.{Cmd}
+use Rattle.market_types.specs.declared.command.Cmd.TheVariants.{Join, Lists}
+use Rattle.market_types.specs.State.{State}
+use Rattle.market_types.specs.Allotment.{limit_of}
+use Rattle.level_list.specs.Bits.{bits}
+
+-- where no worker may be active, so many more, to find the arena whose enqueued work is served
+abbrev pub extra_visits : State → ℕ
+extra_visits s = if limit_of s == 0 then s.levels * (2 * bits (length s.arenas)) else 0
+
+-- the most that a command may enter, but for Join and Lists
+abbrev pub most_visits : State → ℕ
+most_visits s = 4 * bits (length s.arenas) + 1 + extra_visits s
+
+-- the command looks at the arenas in order
+abbrev pub looks_in_order : Cmd → Bool
+looks_in_order Join = true
+looks_in_order Lists = true
+looks_in_order _ = false

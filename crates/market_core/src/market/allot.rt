@@ -1,0 +1,169 @@
+//! What the market allots.
+ghost use Rattle.std.specs.Prelude.{◌≡◌, ℕ, ◌+◌, ◌-◌, ◌*◌, ◌≤◌, ◌<◌, Some, None, length, slice_get, option_map, slice_index, slice_index_or, ◌==◌, if◌then◌else◌};
+ghost use Rattle.market_types.specs.Allotment.{alloc, active, at_level, demand, is_top, limit_of};
+ghost use Rattle.market_types.specs.Step.{arena_at, view_of};
+ghost use Rattle.allotment.specs.Levels.{AreDemandsOf, ArePicksOf, IsLeveled, pick_of};
+ghost use Rattle.level_list.specs.Bits.{bits};
+ghost use Rattle.market_core.specs.Divided.{IsDivisionOf};
+ghost use Rattle.market_core.specs.Visits.{extra_visits};
+ghost use Rattle.market_types.specs.State.{State};
+ghost use Rattle.market_core.specs.Store.{IsKept};
+
+use super::Market;
+use crate::division::{Division, sum_of};
+use crate::row::ArenaRow;
+use allotment::{assign, bound_is_given_out, mandatory_pick, no_carry_to_keep, share, top_level};
+use market_types::{ArenaId, ArenaView, Level};
+use recall_hire::{hire, recall};
+
+impl Market {
+    /// What each level asks for, and 0 above the levels of the market.
+    fn demands(&self) -> [u64; 8]
+        ensures exact { AreDemandsOf self.now result }
+        ensures small { (place : ℕ) → slice_index result place ≤ 1024 * 65535 }
+        ensures leveled { IsLeveled self.now }
+    {
+        self.arenas.demands()
+    }
+
+    /// The first arena of each level that has enqueued work and asks for workers.
+    fn picks(&self) -> ([Option<ArenaId>; 8], u32)
+        ensures exact { ArePicksOf self.now result.0 }
+        ensures visits { result.1 ≤ self.now.levels * (2 * bits (length self.now.arenas)) }
+        ensures few { result.1 ≤ 176 }
+    {
+        let mut picks = [None; 8];
+        let mut visits = 0;
+        for place in 0..self.levels {
+            let (pick, more) = self.arenas.first_mandated(place + 1);
+            picks[place as usize] = pick;
+            visits += more;
+        }
+        (picks, visits)
+    }
+
+    /// How workers are divided now.
+    pub(super) fn divide(&self) -> (Division, u32)
+        ensures exact { IsDivisionOf self.now result.0 }
+        ensures visits { result.1 ≤ extra_visits self.now }
+        ensures few { result.1 ≤ 176 }
+    {
+        bound_is_given_out();
+        let limits = self.limits();
+        let demands = self.demands();
+        let bound = sum_of(&demands).min(u64::from(limits.effective)) as u32;
+        let (picked, visits) = if limits.limit == 0 {
+            let (picks, visits) = self.picks();
+            (mandatory_pick(&picks), visits)
+        } else {
+            (None, 0)
+        };
+        let division = Division {
+            limit: limits.limit,
+            bound,
+            demands,
+            assigned: assign(&demands, u64::from(bound)),
+            picked,
+        };
+        (division, visits)
+    }
+
+    /// How many workers a living arena is allotted.
+    pub(super) fn allot(&self, row: ArenaRow, division: &Division) -> (u32, u32)
+        requires kept { IsKept self.now.arenas }
+        requires there { arena_at row.number self.now.arenas ≡ Some row }
+        requires divided { IsDivisionOf self.now division.now }
+        ensures exact { result.0 ≡ alloc self.now row.number }
+        ensures visits { result.1 ≤ 2 * bits (length self.now.arenas) }
+        ensures few { result.1 ≤ 22 }
+    {
+        let _ = &self.arenas;
+        if division.limit == 0 {
+            return (division.picked_workers(row.arena()), 0);
+        }
+        no_carry_to_keep();
+        let request = u64::from(row.claim().request());
+        if request == 0 {
+            return (0, 0);
+        }
+        let level = row.level().get() as usize - 1;
+        let (before, visits) = self.arenas.before(row.level(), row.stamp());
+        let workers = share(division.assigned[level], division.demands[level], before, request);
+        (workers as u32, visits)
+    }
+
+    /// What is seen of a living arena.
+    pub(super) fn see(&self, row: ArenaRow) -> (ArenaView, u32)
+        requires kept { IsKept self.now.arenas }
+        requires there { arena_at row.number self.now.arenas ≡ Some row }
+        ensures exact { result.0 ≡ view_of self.now row }
+        ensures visits { result.1 ≤ 2 * bits (length self.now.arenas) + extra_visits self.now }
+    {
+        let (division, first) = self.divide();
+        let (allot, more) = self.allot(row, &division);
+        let active = self.roster.active(row.arena());
+        let view = ArenaView {
+            arena: row.arena(),
+            request: row.claim().request(),
+            allot,
+            top: is_top(row, &division.demands),
+            active,
+            recall: recall(active, allot),
+            hire: hire(active, allot),
+        };
+        (view, first + more)
+    }
+
+    /// What is seen of an arena, or `None` where no living arena has this number. It takes no memory.
+    pub fn view(&self, arena: ArenaId) -> Option<ArenaView>
+        ensures exact { result ≡ option_map (view_of self.now) (arena_at arena self.now.arenas) }
+    {
+        let row = self.arenas.get(arena)?;
+        let (view, _) = self.see(row);
+        Some(view)
+    }
+
+    /// What is seen of the arena at a place, from 0 on, of a level; `None` beyond its last, and where the market has no such
+    /// level. It takes no memory.
+    pub fn row(&self, level: Level, place: usize) -> Option<ArenaView>
+        ensures exact { result ≡ option_map (view_of self.now) (slice_get (at_level level self.now.arenas) place) }
+    {
+        let _ = self.arenas.len();
+        let row = self.arenas.nth_of(level, place)?;
+        let (view, _) = self.see(row);
+        Some(view)
+    }
+
+    /// What the arenas of a level ask for together; 0 where the market has no such level. It takes no memory.
+    pub fn demand(&self, level: Level) -> u64
+        ensures exact { result ≡ demand self.now level }
+    {
+        self.arenas.demand(level.get())
+    }
+
+    /// How many workers an arena is allotted; none where no living arena has this number.
+    pub(super) fn allotted(&self, arena: ArenaId) -> (u32, u32)
+        ensures exact { result.0 ≡ alloc self.now arena }
+        ensures visits { result.1 ≤ 2 * bits (length self.now.arenas) + extra_visits self.now }
+    {
+        let Some(row) = self.arenas.get(arena) else {
+            return (0, 0);
+        };
+        let (division, first) = self.divide();
+        let (allot, more) = self.allot(row, &division);
+        (allot, first + more)
+    }
+}
+
+/// The arena of the row is top priority.
+fn is_top(row: ArenaRow, demands: &[u64; 8]) -> bool
+    ensures { (s : State) → AreDemandsOf s demands.now → result ≡ is_top s row }
+{
+    if row.claim().request() == 0 {
+        return false;
+    }
+    match top_level(demands) {
+        Some(level) => level == row.level(),
+        None => false,
+    }
+}

@@ -1,0 +1,265 @@
+//! The living arenas: a table by number, and for each level a list by stamp.
+ghost use Rattle.std.specs.Prelude.{◌≡◌, ℕ, ◌-◌, slice_index, ◌+◌, ◌*◌, ◌<◌, ◌≤◌, ◌∷◌, [], None, Some, length, slice_get, nat_lt, if◌then◌else◌, option_map, IfNone, IfSome, IfOk, OnOk, OnErr};
+ghost use Rattle.std.specs.List.{All, find};
+ghost use Rattle.market_types.specs.State.{Arena};
+ghost use Rattle.market_types.specs.Claims.{is_mandated};
+ghost use Rattle.market_types.specs.Allotment.{total_request, at_level, has_mandatory};
+ghost use Rattle.market_types.specs.Step.{arena_at, with_claim, without};
+ghost use Rattle.allotment.specs.Levels.{number_of};
+ghost use Rattle.market_core.specs.Store.{IsKept, newer, entry_of, in_levels};
+ghost use Rattle.level_list.specs.Bits.{bits};
+
+
+use crate::row::{ArenaRow, place_of};
+use arena_record::ArenaRecord;
+use level_list::LevelList;
+use market_types::{ArenaId, Level, Row};
+use std::alloc::{AllocError, Global};
+use std::marker::Model;
+
+/// The living arenas, at most 1,024. Contracts see them as a list, the greatest stamp first.
+#[derive(Drop)]
+pub struct Arenas {
+    /// By rising number, so that a new arena goes to the end.
+    rows: Vec<ArenaRow>,
+    /// One for each level, level 1 first.
+    lists: [LevelList; 8],
+    /// How many arenas have enqueued work.
+    enqueued: u32,
+}
+
+impl Model for Arenas {
+    ghost use Rattle.std.specs.Prelude.{List};
+    ghost use Rattle.market_types.specs.State.{Arena};
+    ghost use Rattle.market_core.specs.Store.{by_stamp, IsStored};
+
+    ghost Value = { List Arena };
+
+    ghost view = { λ a. by_stamp a.rows.items };
+
+    ghost invariant = { λ a. IsStored a.rows.items a.lists a.enqueued };
+}
+
+impl Arenas {
+    /// The most arenas that live at a time.
+    pub const MOST: usize = 1024;
+
+    /// No arena lives.
+    pub fn new(alloc: Global) -> Self
+        ensures { result ≡ [] }
+    {
+        Arenas {
+            rows: Vec::new(alloc),
+            lists: [
+                LevelList::new(),
+                LevelList::new(),
+                LevelList::new(),
+                LevelList::new(),
+                LevelList::new(),
+                LevelList::new(),
+                LevelList::new(),
+                LevelList::new(),
+            ],
+            enqueued: 0,
+        }
+    }
+
+    /// How many arenas live.
+    pub fn len(&self) -> usize
+        ensures exact { result ≡ length self.now }
+        ensures kept { IsKept self.now }
+    {
+        self.rows.len()
+    }
+
+    /// The arena of this number.
+    pub fn get(&self, arena: ArenaId) -> Option<ArenaRow>
+        ensures exact { result ≡ arena_at arena self.now }
+        ensures number { IfSome result (λ row. row.number ≡ arena) }
+        ensures kept { IsKept self.now }
+    {
+        let place = place_of(&self.rows, arena)?;
+        Some(self.rows[place])
+    }
+
+    /// Some arena has enqueued work.
+    pub fn has_mandatory(&self) -> bool
+        ensures { result ≡ has_mandatory self.now }
+    {
+        self.enqueued > 0
+    }
+
+    /// What the arenas of a level, 1 to 8, ask for.
+    pub fn demand(&self, level: u32) -> u64
+        requires low { 1 ≤ level }
+        requires high { level ≤ 8 }
+        ensures exact { result ≡ total_request (at_level level self.now) }
+        ensures small { result ≤ 1024 * 65535 }
+    {
+        self.lists[level as usize - 1].demand()
+    }
+
+    /// What the arenas of a level ask for that are newer than this stamp.
+    pub fn before(&self, level: Level, stamp: u32) -> (u64, u32)
+        ensures exact { result.0 ≡ total_request (at_level level (newer stamp self.now)) }
+        ensures visits { result.1 ≤ 2 * bits (length self.now) }
+        ensures few { result.1 ≤ 22 }
+    {
+        self.lists[level.get() as usize - 1].before(stamp)
+    }
+
+    /// What each level asks for, level 1 first.
+    pub fn demands(&self) -> [u64; 8]
+        ensures exact { (level : ℕ) → 1 ≤ level → level ≤ 8
+            → slice_index result (level - 1) ≡ total_request (at_level level self.now) }
+        ensures small { (place : ℕ) → slice_index result place ≤ 1024 * 65535 }
+        ensures size { length result ≡ 8 }
+    {
+        let mut demands = [0; 8];
+        for place in 0..8 {
+            demands[place] = self.demand(place as u32 + 1);
+        }
+        demands
+    }
+
+    /// The first arena of a level, 1 to 8, that has enqueued work and asks for workers.
+    pub fn first_mandated(&self, level: u32) -> (Option<ArenaId>, u32)
+        requires low { 1 ≤ level }
+        requires high { level ≤ 8 }
+        ensures exact { result.0 ≡ number_of (find (λ (a : Arena). is_mandated a.claim) (at_level level self.now)) }
+        ensures visits { result.1 ≤ 2 * bits (length self.now) }
+        ensures few { result.1 ≤ 22 }
+    {
+        let (row, visits) = self.lists[level as usize - 1].first_mandated();
+        match row {
+            Some(row) => (Some(row.arena), visits),
+            None => (None, visits),
+        }
+    }
+
+    /// How many arenas a level, 1 to 8, has.
+    fn count(&self, level: u32) -> usize
+        requires low { 1 ≤ level }
+        requires high { level ≤ 8 }
+        ensures exact { result ≡ length (at_level level self.now) }
+    {
+        self.lists[level as usize - 1].len()
+    }
+
+    /// The arena at a place, from 0 on, of a level, 1 to 8.
+    fn walk(&self, level: u32, place: usize) -> Option<ArenaRow>
+        requires low { 1 ≤ level }
+        requires high { level ≤ 8 }
+        requires within { place < length (at_level level self.now) }
+        ensures exact { result ≡ slice_get (at_level level self.now) place }
+        ensures there { IfSome result (λ row. arena_at row.number self.now ≡ Some row) }
+    {
+        let (row, _) = self.lists[level as usize - 1].walk(place);
+        self.get(row?.arena)
+    }
+
+    /// The arena at a place, from 0 on, of a level.
+    pub fn nth_of(&self, level: Level, place: usize) -> Option<ArenaRow>
+        ensures exact { result ≡ slice_get (at_level level self.now) place }
+        ensures there { IfSome result (λ row. arena_at row.number self.now ≡ Some row) }
+    {
+        if place >= self.count(level.get()) {
+            return None;
+        }
+        self.walk(level.get(), place)
+    }
+
+    /// The arena at a place, from 0 on, of the levels up to one in order.
+    pub fn nth(&self, levels: u32, place: usize) -> Option<ArenaRow>
+        requires few { levels ≤ 8 }
+        ensures exact { result ≡ slice_get (in_levels levels self.now) place }
+        ensures there { IfSome result (λ row. arena_at row.number self.now ≡ Some row) }
+    {
+        let mut rest = place;
+        for level in 0..levels {
+            let count = self.count(level + 1);
+            if rest < count {
+                return self.walk(level + 1, rest);
+            }
+            rest -= count;
+        }
+        None
+    }
+
+    /// A new arena, newer than all others.
+    pub fn push(&mut self, alloc: Global, row: ArenaRow) -> Result<u32, AllocError>
+        requires room { length self.old < 1024 }
+        requires newest { All (λ (a : Arena). a.stamp < row.stamp) self.old }
+        requires last { All (λ (a : Arena). a.number < row.number) self.old }
+        ensures pushed { OnOk result (self.new ≡ row ∷ self.old) }
+        ensures unchanged { OnErr result (self.new ≡ self.old) }
+        ensures visits { IfOk result (λ visits. visits ≤ 2 * bits (length self.old) + 1) }
+    {
+        self.rows.reserve(1)?;
+        let list = &mut self.lists[row.level().get() as usize - 1];
+        let visits = list.push(alloc, row.entry())?;
+        self.rows.push_reserved(row);
+        self.enqueued += counted(row.claim());
+        Ok(visits)
+    }
+
+    /// The arena asks for something else.
+    pub fn set_claim(&mut self, arena: ArenaId, claim: ArenaRecord) -> u32
+        ensures exact { self.new ≡ with_claim arena claim self.old }
+        ensures visits { result ≤ 2 * bits (length self.old) }
+    {
+        let Some(place) = place_of(&self.rows, arena) else {
+            return 0;
+        };
+        let old = self.rows[place];
+        let new = old.with_claim(claim);
+        self.rows[place] = new;
+        self.enqueued = self.enqueued - counted(old.claim()) + counted(claim);
+        let entry = new.entry();
+        let list = &mut self.lists[old.level().get() as usize - 1];
+        list.set(entry.stamp, entry.request, entry.mandated)
+    }
+
+    /// The arena goes.
+    pub fn remove(&mut self, arena: ArenaId) -> u32
+        ensures exact { self.new ≡ without arena self.old }
+        ensures visits { result ≤ 2 * bits (length self.old) }
+    {
+        let Some(place) = place_of(&self.rows, arena) else {
+            return 0;
+        };
+        let row = self.rows.remove(place);
+        self.enqueued -= counted(row.claim());
+        let list = &mut self.lists[row.level().get() as usize - 1];
+        let (_taken, visits) = list.take(row.stamp());
+        visits
+    }
+
+    /// The arena goes first at this level, with a new stamp.
+    pub fn promote(&mut self, row: ArenaRow, stamp: u32, level: Level) -> u32
+        requires there { arena_at row.number self.old ≡ Some row }
+        requires newest { All (λ (a : Arena). a.stamp < stamp) self.old }
+        ensures exact { self.new ≡ record row { stamp = stamp; level = level } ∷ without row.number self.old }
+        ensures visits { result ≤ 4 * bits (length self.old) + 1 }
+    {
+        let Some(place) = place_of(&self.rows, row.arena()) else {
+            unreachable!();
+        };
+        let from = &mut self.lists[row.level().get() as usize - 1];
+        let (taken, out) = from.take(row.stamp());
+        let Some(taken) = taken else {
+            unreachable!();
+        };
+        let to = &mut self.lists[level.get() as usize - 1];
+        let back = to.put(taken, stamp);
+        self.rows[place] = row.promoted(stamp, level);
+        out + back
+    }
+}
+
+/// 1 where there is enqueued work.
+fn counted(claim: ArenaRecord) -> u32
+    ensures { result ≡ (if nat_lt 0 claim.mandatory then 1 else 0) }
+{
+    if claim.mandatory() > 0 { 1 } else { 0 }
+}
