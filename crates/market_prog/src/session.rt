@@ -1,8 +1,7 @@
 //! A market that a script speaks to.
-ghost use Rattle.std.specs.Prelude.{◌≡◌, ℕ, ◌+◌, ◌<◌, ◌≤◌, ◌^◌, [], length, nat_lt, if◌then◌else◌, None, IsTrue, IfSome, OnOk, OnErr, true};
+ghost use Rattle.std.specs.Prelude.{◌≡◌, ℕ, ◌+◌, ◌<◌, ◌≤◌, ◌^◌, [], length, nat_lt, if◌then◌else◌, None, IfSome, OnOk, OnErr, true};
 ghost use Rattle.std.specs.Io.KnownBytes.{Appends};
 ghost use Rattle.market_types.specs.Devices.{WritesFront};
-ghost use Rattle.market_types.specs.Commands.{is_served};
 ghost use Rattle.market_types.specs.Reading.{line_reading};
 ghost use Rattle.market_types.specs.Script.{joined, answer_of, answer_to, is_silent};
 ghost use Rattle.market_prog.specs.Sessions.{so_far};
@@ -35,7 +34,6 @@ impl Session {
     fn read_call(&self, line: &[u8]) -> Option<(SeatNo, Cmd)>
         ensures exact { result ≡ (if nat_lt 256 (length line.now) then None else line_reading (length self.now.market.seats) self.now.market.levels line.now) }
         ensures seat { IfSome result (λ call. call.0 < length self.now.market.seats) }
-        ensures served { IfSome result (λ call. IsTrue (is_served call.1)) }
     {
         if line.len() > LONGEST_LINE {
             return None;
@@ -47,7 +45,6 @@ impl Session {
     fn reply_to(&mut self, call: Option<(SeatNo, Cmd)>) -> Result<(), AllocError>
         requires few { self.old.unread + 1 < 2 ^ 64 }
         requires seat { IfSome call (λ c. c.0 < length self.old.market.seats) }
-        requires served { IfSome call (λ c. IsTrue (is_served c.1)) }
         ensures told { OnOk result (so_far self.new ≡ joined (so_far self.old) (λ s. answer_to s call)) }
         ensures few { OnOk result (self.new.unread ≤ self.old.unread + 1) }
     {

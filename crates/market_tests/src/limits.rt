@@ -1,6 +1,5 @@
 //! The market at its limits.
 ghost use Rattle.std.specs.Prelude.{◌≡◌, ◌<◌, length, IsTrue};
-ghost use Rattle.market_types.specs.Commands.{is_served};
 
 use market_core::{Market, apply_all};
 use market_types::{ArenaId, Call, Cmd, Fault, Level, OpenFault, Reply, SeatNo};
@@ -10,7 +9,6 @@ use std::rt::HostRuntime;
 
 /// The market's answer to seat 0.
 fn answer(rt: &impl Abort, alloc: Global, market: &mut Market, cmd: Cmd) -> Reply
-    requires served { IsTrue (is_served cmd) }
 {
     let _ = market.seats();
     let Ok(reply) = market.apply(alloc, SeatNo::new(0), cmd) else {

@@ -8,7 +8,7 @@ use Rattle.std.specs.Str.Parse.{digits_value}
 use Rattle.std.specs.List.{slice_split}
 use Rattle.market_types.specs.declared.command.Cmd.{Cmd}
 use Rattle.market_types.specs.declared.command.Cmd.TheVariants.{Open, Close, Priority, Resize, Request, Control as ControlBy, Uncontrol, Join, Stay, Leave, Show, Lists, Limit}
-use Rattle.market_types.specs.Commands.{is_served, is_zero}
+use Rattle.market_types.specs.Commands.{is_zero}
 use Rattle.market_types.specs.Texts.{has_name, level_name, cmd_text}
 
 -- ---- spellings
@@ -187,15 +187,11 @@ command_of levels (word ∷ more) =
     else if bytes_eq word (codes "limit") then alone Limit more
     else None
 
--- the command, where the market serves it today
-abbrev pub if_served : Cmd → Option Cmd
-if_served cmd = if is_served cmd then Some cmd else None
-
 -- ---- whole lines
 
 -- the command that a text spells
 unfoldable pub reading : ℕ → List ℕ → Option Cmd
-reading levels text = option_and_then if_served (command_of levels (slice_split is_space text))
+reading levels text = command_of levels (slice_split is_space text)
 
 -- a seat below the number of seats
 abbrev pub in_seats : ℕ → ℕ → Option ℕ
@@ -205,7 +201,7 @@ in_seats seats n = if nat_lt n seats then Some n else None
 abbrev pub call_of : ℕ → ℕ → List (List ℕ) → Option (ℕ × Cmd)
 call_of seats levels [] = None
 call_of seats levels (word ∷ more) =
-    option_and_then (λ seat. option_map (λ (cmd : Cmd). (seat, cmd)) (option_and_then if_served (command_of levels more)))
+    option_and_then (λ seat. option_map (λ (cmd : Cmd). (seat, cmd)) (command_of levels more))
     (option_and_then (in_seats seats) (number word))
 
 -- the seat and the command that a line of a script spells

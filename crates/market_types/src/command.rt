@@ -1,6 +1,6 @@
 //! What a seat can ask of the market.
 ghost use Rattle.std.specs.Prelude.{◌≡◌};
-ghost use Rattle.market_types.specs.Commands.{moves_seat, is_served};
+ghost use Rattle.market_types.specs.Commands.{moves_seat};
 
 use crate::level::Level;
 use crate::number::{ArenaId, ControlId, SeatNo};
@@ -43,17 +43,6 @@ impl Cmd {
     {
         match self {
             Cmd::Join | Cmd::Stay | Cmd::Leave => true,
-            _ => false,
-        }
-    }
-
-    /// The market serves the command today: Open, Request with no enqueued work, Show and Limit.
-    pub fn is_served(self) -> bool
-        ensures exact { result ≡ is_served self }
-    {
-        match self {
-            Cmd::Open(_, _, _) | Cmd::Show(_) | Cmd::Limit => true,
-            Cmd::Request(_, _, mandatory) => mandatory == 0,
             _ => false,
         }
     }

@@ -1,8 +1,7 @@
 //! Commands read from their texts.
-ghost use Rattle.std.specs.Prelude.{◌≡◌, ◌<◌, IfSome, true};
-ghost use Rattle.market_types.specs.Commands.{is_served};
+ghost use Rattle.std.specs.Prelude.{◌≡◌, ◌<◌, IfSome};
 ghost use Rattle.market_types.specs.Fields.{fields_left};
-ghost use Rattle.market_types.specs.Reading.{alone, command_of, if_served, line_reading, of_number, open_of, priority_of, reading, request_of, resize_of};
+ghost use Rattle.market_types.specs.Reading.{alone, command_of, line_reading, of_number, open_of, priority_of, reading, request_of, resize_of};
 
 use crate::command::Cmd;
 use crate::field::{cut_field, middle_level, read_level, read_number, read_seat, read_signed};
@@ -14,30 +13,20 @@ use crate::number::{ArenaId, ControlId, SeatNo};
 pub fn read_line(line: &[u8], seats: u8, levels: u32) -> Option<(SeatNo, Cmd)>
     ensures exact { result ≡ line_reading seats levels line.now }
     ensures seated { IfSome result (λ call. call.0 < seats) }
-    ensures served { IfSome result (λ call. is_served call.1 ≡ true) }
 {
     let (field, more) = cut_field(line);
     let seat = read_seat(field, seats)?;
-    let cmd = if_served(read_command(more, levels)?)?;
+    let cmd = read_command(more, levels)?;
     Some((seat, cmd))
 }
 
-/// The command that a text spells in a market of so many levels, as `open 8 1 normal`. None for every other text, and
-/// for a command that the market does not serve. Takes no memory.
+/// The command that a text spells in a market of so many levels, as `open 8 1 normal`. None for every other text.
+/// Takes no memory.
 #[tactic(auto, unfolding(crate::specs::Reading::reading))]
 pub fn read_cmd(text: &[u8], levels: u32) -> Option<Cmd>
     ensures exact { result ≡ reading levels text.now }
-    ensures served { IfSome result (λ cmd. is_served cmd ≡ true) }
 {
-    if_served(read_command(Some(text), levels)?)
-}
-
-/// The command, where the market serves it.
-fn if_served(cmd: Cmd) -> Option<Cmd>
-    ensures exact { result ≡ if_served cmd }
-    ensures served { IfSome result (λ cmd. is_served cmd ≡ true) }
-{
-    Some(cmd).filter(|cmd| cmd.is_served())
+    read_command(Some(text), levels)
 }
 
 /// The command that a text spells.
