@@ -2,7 +2,8 @@
 ghost use Rattle.std.specs.Prelude.{◌≡◌, ◌≤◌, ◌<◌, length, IfOk};
 ghost use Rattle.market_types.specs.State.{opening};
 ghost use Rattle.market_types.specs.Opening.{opened_market, MemoryAside};
-ghost use Rattle.market_types.specs.Allotment.{limit_of};
+ghost use Rattle.market_types.specs.Allotment.{limit_of, bound_of};
+ghost use Rattle.market_core.specs.Allotted.{total_alloc};
 ghost use Rattle.market_types.specs.Step.{limits_of};
 
 mod allot;
@@ -10,6 +11,7 @@ mod apply;
 mod order;
 
 use crate::store::Arenas;
+use allotment::bound_is_given_out;
 use control_set::ControlSet;
 use market_types::{LimitView, OpenFault};
 use recall_hire::Roster;
@@ -118,14 +120,19 @@ impl Market {
         self.levels
     }
 
-    /// How many workers may be active, and why.
+    /// How many workers may be active, and why. Where some may be, all arenas together are allotted what they ask for and
+    /// may have; where none may be, one at most.
     pub fn limits(&self) -> LimitView
         ensures exact { result ≡ limits_of self.now }
+        ensures given_out { 0 < limit_of self.now → total_alloc self.now ≡ bound_of self.now }
+        ensures one_at_most { limit_of self.now ≡ 0 → total_alloc self.now ≤ 1 }
     {
+        bound_is_given_out();
+        let enqueued = self.arenas.has_mandatory();
         let limit = self.limit();
         let effective = if limit > 0 {
             limit
-        } else if self.arenas.has_mandatory() {
+        } else if enqueued {
             1
         } else {
             0

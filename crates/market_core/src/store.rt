@@ -84,7 +84,8 @@ impl Arenas {
 
     /// Some arena has enqueued work.
     pub fn has_mandatory(&self) -> bool
-        ensures { result ≡ has_mandatory self.now }
+        ensures exact { result ≡ has_mandatory self.now }
+        ensures kept { IsKept self.now }
     {
         self.enqueued > 0
     }

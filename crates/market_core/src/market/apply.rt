@@ -40,6 +40,26 @@ impl Market {
         alloc: Global,
         seat: SeatNo,
         cmd: Cmd,
+    ) -> Result<(Reply, u64), AllocError>
+        requires seat { seat < length self.old.seats }
+        ensures reply { IfOk result (λ answer. answer.0 ≡ (step self.old seat cmd).0) }
+        ensures staffed { IfOk result (λ answer. IsStaffed answer.0 self.new) }
+        ensures next { OnOk result (self.new ≡ (step self.old seat cmd).1) }
+        ensures unchanged { OnErr result (self.new ≡ self.old) }
+        ensures no_memory { takes_memory cmd ≡ false → IsOk result }
+        ensures same_seats { length self.new.seats ≡ length self.old.seats }
+        ensures visits { looks_in_order cmd ≡ false → IfOk result (λ answer. answer.1 ≤ most_visits self.old) }
+    {
+        let (reply, visits) = self.serve(alloc, seat, cmd)?;
+        Ok((reply, u64::from(visits)))
+    }
+
+    /// The command's own function.
+    fn serve(
+        &mut self,
+        alloc: Global,
+        seat: SeatNo,
+        cmd: Cmd,
     ) -> Result<(Reply, u32), AllocError>
         requires seat { seat < length self.old.seats }
         ensures reply { IfOk result (λ answer. answer.0 ≡ (step self.old seat cmd).0) }
