@@ -59,8 +59,13 @@ count_at-behind number workers rest (a ∷ arenas) h =
     let P : Arena → Type 0 = λ (b : Arena). has_number number b ≡ false in
     let apart : eqb number a.number ≡ false = ne_eqb number a.number (λ e. both_ways (eqb a.number number) (All-head P a arenas h) (eq-eqb a.number number (sym e))) in
     let here : count_at a.number ((number, workers) ∷ rest) ≡ count_at a.number rest = rw apart refl in
-    omega (arith, here, sum_by-cons (λ (b : Arena). count_at b.number ((number, workers) ∷ rest)) a arenas, sum_by-cons (λ (b : Arena). count_at b.number rest) a arenas,
-      count_at-behind number workers rest arenas (All-tail P a arenas h))
+    omega (
+      arith,
+      here,
+      sum_by-cons (λ (b : Arena). count_at b.number ((number, workers) ∷ rest)) a arenas,
+      sum_by-cons (λ (b : Arena). count_at b.number rest) a arenas,
+      count_at-behind number workers rest arenas (All-tail P a arenas h),
+    )
 
 -- arenas of different numbers are allotted what stands beside their numbers
 sum-counts : (K D : ℕ → ℕ) (carry : ℕ) (arenas : List Arena) → ((n : ℕ) → count_by (has_number n) arenas ≤ 1)
@@ -72,8 +77,14 @@ sum-counts K D carry (a ∷ arenas) h =
     let others : IsMissing a.number arenas = missing-count a.number arenas (omega (arith, h a.number, count-yes a.number a arenas (eq-eqb a.number a.number refl))) in
     let fewer : (n : ℕ) → count_by (has_number n) arenas ≤ 1 = λ n. omega (arith, h n, sum_by-cons (λ (b : Arena). cond (has_number n b) 1 0) a arenas) in
     let here : count_at a.number ((a.number, own) ∷ rest) ≡ own = rw (eq-eqb a.number a.number refl) refl in
-    omega (arith, here, sum_by-cons (λ (b : Arena). count_at b.number ((a.number, own) ∷ rest)) a arenas, sum_by-cons workers_of (a.number, own) rest,
-      count_at-behind a.number own rest arenas others, sum-counts K D (carry_past K D carry a) arenas fewer)
+    omega (
+      arith,
+      here,
+      sum_by-cons (λ (b : Arena). count_at b.number ((a.number, own) ∷ rest)) a arenas,
+      sum_by-cons workers_of (a.number, own) rest,
+      count_at-behind a.number own rest arenas others,
+      sum-counts K D (carry_past K D carry a) arenas fewer,
+    )
 
 -- where workers may be active, all allotments together are what is carried through all arenas
 pub total-carried : (s : State) → IsApart s.arenas → IsLeveled s → 0 < limit_of s → total_alloc s ≡ sum_by workers_of (carried (assigned s) (demand s) 0 (in_order s))
@@ -141,7 +152,7 @@ found-same n row arenas f =
     let P : Arena → Type 0 = λ (b : Arena). has_number n b ≡ true → b ≡ row in
     let other : (b : Arena) → has_number n b ≡ false → P b = λ b unlike like. absurd (both_ways (has_number n b) unlike like) in
     rw f.split (All-append P f.before (row ∷ f.after) (All-weaker (λ (b : Arena). has_number n b ≡ false) P other f.before f.missing_before)
-      (All-cons P row f.after (λ _. refl) (All-weaker (λ (b : Arena). has_number n b ≡ false) P other f.after f.missing_after)))
+    (All-cons P row f.after (λ _. refl) (All-weaker (λ (b : Arena). has_number n b ≡ false) P other f.after f.missing_after)))
 
 All-levels : (P : Arena → Type 0) (arenas : List Arena) (levels : List ℕ) → All P arenas → All P (flat_map (λ level. at_level level arenas) levels)
 All-levels P arenas [] h = All-nil P
@@ -169,8 +180,12 @@ all_to-few n w row (x ∷ xs) few h =
 
 pub picked-few : (s : State) (n : ℕ) (row : Arena) → Found n row s.arenas → limit_of s ≡ 0 → alloc s n ≤ request_of row.claim
 picked-few s n row f none =
-    omega (arith, alloc-picked s n none, all_to-few n (bound_of s) row (in_order s) (bound-one s none)
-      (All-levels (λ (b : Arena). has_number n b ≡ true → b ≡ row) s.arenas (levels_of s) (found-same n row s.arenas f)))
+    omega (
+      arith,
+      alloc-picked s n none,
+      all_to-few n (bound_of s) row (in_order s) (bound-one s none)
+          (All-levels (λ (b : Arena). has_number n b ≡ true → b ≡ row) s.arenas (levels_of s) (found-same n row s.arenas f)),
+    )
 
 clamp-within : (z : ℤ) (cap : ℕ) → clamp_total z cap ≤ cap
 clamp-within (pos n) cap = omega arith

@@ -9,7 +9,6 @@ ghost use Rattle.allotment.specs.Levels.{number_of};
 ghost use Rattle.market_core.specs.Store.{IsKept, newer, entry_of, in_levels};
 ghost use Rattle.level_list.specs.Bits.{bits};
 
-
 use crate::row::{ArenaRow, place_of};
 use arena_record::ArenaRecord;
 use level_list::LevelList;

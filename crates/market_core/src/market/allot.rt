@@ -91,7 +91,8 @@ impl Market {
         }
         let level = row.level().get() as usize - 1;
         let (before, visits) = self.arenas.before(row.level(), row.stamp());
-        let workers = share(division.assigned[level], division.demands[level], before, request);
+        let (given, asked) = (division.assigned[level], division.demands[level]);
+        let workers = share(given, asked, before, request);
         (workers as u32, visits)
     }
 

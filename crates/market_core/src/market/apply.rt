@@ -55,12 +55,7 @@ impl Market {
     }
 
     /// The command's own function.
-    fn serve(
-        &mut self,
-        alloc: Global,
-        seat: SeatNo,
-        cmd: Cmd,
-    ) -> Result<(Reply, u32), AllocError>
+    fn serve(&mut self, alloc: Global, seat: SeatNo, cmd: Cmd) -> Result<(Reply, u32), AllocError>
         requires seat { seat < length self.old.seats }
         ensures reply { IfOk result (λ answer. answer.0 ≡ (step self.old seat cmd).0) }
         ensures staffed { IfOk result (λ answer. IsStaffed answer.0 self.new) }
@@ -153,7 +148,7 @@ impl Market {
         ensures same_seats { length self.new.seats ≡ length self.old.seats }
         ensures visits { result.1 ≤ most_visits self.old }
     {
-        if level.get() > self.levels {
+        if self.levels < level.get() {
             return (Reply::Refused(Fault::BadLevel), 0);
         }
         let Some(row) = self.arenas.get(arena) else {

@@ -68,7 +68,7 @@ returns-clause-exact c =
     let row = c.args.row in
     let some : 0 < limit_of s = omega (arith, c.requires.divided.limit, c.if-division-eq0.false) in
     c.share-workers.ensures.workers_of (assigned s) (demand s) (newer row.stamp s.arenas) row
-      (record { assigned_is = given here; demand_is = demanded here; request_is = asked here }) (before here)
+    (record { assigned_is = given here; demand_is = demanded here; request_is = asked here }) (before here)
     ∙ sym (alloc-found s row.number row (found-here here) (level-within here) some (c.no_carry_to_keep.ensures.after_a_level s (assigned s)))
 
 pub returns-then-division-eq0-clause-no_more_than_asked : goal.returns-then-division-eq0-clause-no_more_than_asked
