@@ -84,7 +84,7 @@ impl Market {
         })
     }
 
-    /// What the active value is where no control lives, 1 to 65,536.
+    /// The value where no control lives, 1 to 65,536: the market's own limit on parallelism.
     pub fn base(&self) -> u32
         ensures exact { result ≡ self.now.base }
         ensures low { 1 ≤ result }
@@ -93,7 +93,7 @@ impl Market {
         self.base
     }
 
-    /// How many workers may be active at most, 1 to 65,535.
+    /// How many workers may be active whatever the value is, 1 to 65,535.
     pub fn hard(&self) -> u32
         ensures exact { result ≡ self.now.hard }
         ensures low { 1 ≤ result }

@@ -119,7 +119,8 @@ impl Market {
         (view, first + more)
     }
 
-    /// What is seen of an arena, or `None` where no living arena has this number. It takes no memory.
+    /// What is seen of an arena, or `None` where no living arena has this number. An arena is allotted no more than it
+    /// asks for, asks for no more than it can use, and can use no more than its slots. It takes no memory.
     pub fn view(&self, arena: ArenaId) -> Option<ArenaView>
         ensures exact { result ≡ option_map (view_of self.now) (arena_at arena self.now.arenas) }
         ensures within { IfSome (arena_at arena self.now.arenas) (IsWithin self.now) }

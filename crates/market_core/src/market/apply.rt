@@ -17,8 +17,10 @@ use std::alloc::{AllocError, Global};
 const LAST: u32 = 1_048_576;
 
 impl Market {
-    /// Does what a seat asks, or refuses it. Only Open, Control and Lists can give an `Err`, where there is no memory, and
-    /// after one the market is as before.
+    /// Does what a seat asks, or refuses it: the first refusal that applies is the reply, and changes nothing. Only Open,
+    /// Control and Lists can give an `Err`, where there is no memory, and after one the market is as before. The seat is one
+    /// that the market has. After a worker was placed its arena has no more than it is allotted, and after one was recalled
+    /// no fewer.
     pub fn apply(&mut self, alloc: Global, seat: SeatNo, cmd: Cmd) -> Result<Reply, AllocError>
         requires seat { seat < length self.old.seats }
         ensures reply { IfOk result (λ reply. reply ≡ (step self.old seat cmd).0) }
