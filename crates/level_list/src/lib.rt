@@ -11,3 +11,6 @@ mod list;
 
 pub use list::LevelList;
 pub use prefix_tree::Taken;
+
+#[cfg(test)]
+mod tests;

@@ -12,7 +12,7 @@ use std::marker::Model;
 /// see it as the list of its rows, newest first.
 ///
 /// A call on `n` rows enters at most twice as many nodes as `n` has binary digits, and one more where it puts a row
-/// in. The last part of its answer is their number.
+/// in. The last part of its answer is their number. Only `push` takes memory.
 #[derive(Drop)]
 pub struct LevelList {
     rows: Tree,
@@ -115,7 +115,8 @@ impl LevelList {
         self.rows.set(stamp, request, mandated)
     }
 
-    /// Adds a row that is newer than all others at the front, where there is memory for it.
+    /// Adds a row that is newer than all others at the front. An error is want of memory, and leaves the rows as they
+    /// were.
     pub fn push(&mut self, alloc: Global, row: Row) -> Result<u32, AllocError>
         requires room { length self.old < 1024 }
         requires request { row.request ≤ 65535 }
@@ -127,8 +128,8 @@ impl LevelList {
         self.rows.insert(alloc, row)
     }
 
-    /// Adds a row that was taken out of a list at the front, under a stamp that is newer than all others. Takes no
-    /// memory.
+    /// Adds a row that was taken out of a list, this one or another, at the front, under a stamp that is newer than all
+    /// others.
     pub fn put(&mut self, taken: Taken, stamp: u32) -> u32
         requires room { length self.old < 1024 }
         requires newest { All (λ older. older.stamp < stamp) self.old }
@@ -140,7 +141,7 @@ impl LevelList {
         self.rows.put_node(taken, stamp)
     }
 
-    /// Takes the row with that stamp out, None where no row has it. Takes no memory.
+    /// Takes the row with that stamp out, None where no row has it.
     pub fn take(&mut self, stamp: u32) -> (Option<Taken>, u32)
         ensures taken { result.0 ≡ row_at stamp self.old }
         ensures rows { self.new ≡ without stamp self.old }

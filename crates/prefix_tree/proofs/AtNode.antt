@@ -1,6 +1,6 @@
 -- What is known of a side's value d once its topmost node n is seen.
 use Rattle.std.specs.List.{slice_get}
-use Rattle.std.proofs.Common.{refl, ◌≡◌, ℕ, suc, ◌+◌, ◌-◌, ◌<◌, ◌≤◌, true, false, List, ◌∷◌, ◌++◌, length, Box, sym, ap, ◌∙◌, subst, Option, Some, arith, length-append}
+use Rattle.std.proofs.Common.{refl, ◌≡◌, ℕ, suc, ◌+◌, ◌<◌, ◌≤◌, true, false, List, ◌∷◌, ◌++◌, length, Box, sym, ap, ◌∙◌, subst, Option, Some, arith}
 use Rattle.std.specs.declared.alloc.Global.{Global}
 use Rattle.market_types.specs.declared.row.Row.{Row}
 use Rattle.prefix_tree.specs.Rows.{IsPassedAt, requests, requests_above, first_mandated}
@@ -29,50 +29,66 @@ at_node {root} {d} {b} {n} view_is sound is same =
     let e : (rows_in b.value, b.value.height) ≡ d = ap (λ z. (rows_of z, height_of z)) (sym is) ∙ view_is in
     subst (AtNode d) (sym same) (subst (λ z. AtNode z b.value) e (whole_node (subst IsSound is sound)))
 
+-- the sum above a stamp below the node: all on the left, the node, and on the right
 pub right_above : {d : List Row × ℕ} {n : Node} → AtNode d n → (s : ℕ) → s < n.row.stamp → requests_above s d.0 ≡ requests n.left.0 + n.row.request + requests_above s n.right.0
 right_above {d} {n} f s h = rw f.rows (above_right s n.left.0 n.row n.right.0 f.sound.ordered h)
 
+-- above a stamp over the node: on the left
 pub left_above : {d : List Row × ℕ} {n : Node} → AtNode d n → (s : ℕ) → n.row.stamp < s → requests_above s d.0 ≡ requests_above s n.left.0
 left_above {d} {n} f s h = rw f.rows (above_left s n.left.0 n.row n.right.0 f.sound.ordered h)
 
+-- above the node's own stamp: all on the left
 pub here_above : {d : List Row × ℕ} {n : Node} → AtNode d n → (s : ℕ) → n.row.stamp ≡ s → requests_above s d.0 ≡ requests n.left.0
 here_above {d} {n} f s h = rw f.rows (above_here s n.left.0 n.row n.right.0 f.sound.ordered h)
 
+-- the first mandated row is on the left if one is mandated there
 pub left_mandated : {d : List Row × ℕ} {n : Node} → AtNode d n → 0 < mandates n.left.0 → first_mandated d.0 ≡ first_mandated n.left.0
 left_mandated {d} {n} f h = rw f.rows (first-left n.left.0 (n.row ∷ n.right.0) h)
 
+-- else the node's own
 pub here_mandated : {d : List Row × ℕ} {n : Node} → AtNode d n → mandates n.left.0 ≡ 0 → n.row.mandated ≡ true → first_mandated d.0 ≡ Some n.row
 here_mandated {d} {n} f h g = rw f.rows (first-here n.left.0 (n.row ∷ n.right.0) h ∙ rw g)
 
+-- else on the right
 pub right_mandated : {d : List Row × ℕ} {n : Node} → AtNode d n → mandates n.left.0 ≡ 0 → n.row.mandated ≡ false → first_mandated d.0 ≡ first_mandated n.right.0
 right_mandated {d} {n} f h g = rw f.rows (first-here n.left.0 (n.row ∷ n.right.0) h ∙ rw g)
 
+-- a low place is on the left
 pub left_get : {d : List Row × ℕ} {n : Node} → AtNode d n → (i : ℕ) → i < length n.left.0 → slice_get d.0 i ≡ slice_get n.left.0 i
 left_get {d} {n} f i h = rw f.rows (get_left i n.left.0 (n.row ∷ n.right.0) h)
 
+-- that after the left side is the node
 pub here_get : {d : List Row × ℕ} {n : Node} → AtNode d n → (i : ℕ) → i ≡ length n.left.0 → slice_get d.0 i ≡ Some n.row
 here_get {d} {n} f i h = rw f.rows (get_here i n.left.0 n.row n.right.0 h)
 
+-- a later one is on the right
 pub right_get : {d : List Row × ℕ} {n : Node} → AtNode d n → (i j : ℕ) → i ≡ length n.left.0 + 1 + j → slice_get d.0 i ≡ slice_get n.right.0 j
 right_get {d} {n} f i j h = rw f.rows (get_right i j n.left.0 n.row n.right.0 h)
 
+-- a sum that is passed on the left is passed there
 pub left_passed : {d : List Row × ℕ} {n : Node} → AtNode d n → (s p : ℕ) → IsPassedAt s p n.left.0 → IsPassedAt s p d.0
 left_passed {d} {n} f s p h = rw f.rows (passed_left s p n.left.0 (n.row ∷ n.right.0) h)
 
+-- a sum that the node passes is passed at the node
 pub here_passed : {d : List Row × ℕ} {n : Node} → AtNode d n → (s : ℕ) → requests n.left.0 ≤ s → s < requests n.left.0 + n.row.request → IsPassedAt s (length n.left.0) d.0
 here_passed {d} {n} f s h g = rw f.rows (passed_here s n.left.0 n.row n.right.0 h g)
 
+-- what is left of a sum is passed on the right
 pub right_passed : {d : List Row × ℕ} {n : Node} → AtNode d n → (s t p k : ℕ) → requests n.left.0 + n.row.request + t ≡ s → length n.left.0 + suc p ≡ k → IsPassedAt t p n.right.0 → IsPassedAt s k d.0
 right_passed {d} {n} f s t p k e i h = rw f.rows (passed_right s t p k n.left.0 n.row n.right.0 e i h)
 
+-- all requests: those of both sides and the node
 pub node_requests : {d : List Row × ℕ} {n : Node} → AtNode d n → requests d.0 ≡ requests n.left.0 + requests n.right.0 + n.row.request
 node_requests {d} {n} f = rw f.rows (requests-node n.left.0 n.row n.right.0)
 
+-- the place of a stamp over the node: on the left
 pub left_place : {d : List Row × ℕ} {n : Node} → AtNode d n → (k s : ℕ) → n.row.stamp < s → place_from k s d.0 ≡ place_from k s n.left.0
 left_place {d} {n} f k s h = rw f.rows (place_left k s n.left.0 n.row n.right.0 f.sound.ordered h)
 
+-- of the node's own: after the left side
 pub here_place : {d : List Row × ℕ} {n : Node} → AtNode d n → (k s : ℕ) → n.row.stamp ≡ s → place_from k s d.0 ≡ Some (k + length n.left.0)
 here_place {d} {n} f k s h = rw f.rows (place_here k s n.left.0 n.row n.right.0 f.sound.ordered h)
 
+-- of a stamp below the node: on the right
 pub right_place : {d : List Row × ℕ} {n : Node} → AtNode d n → (k s j : ℕ) → s < n.row.stamp → j ≡ k + length n.left.0 + 1 → place_from k s d.0 ≡ place_from j s n.right.0
 right_place {d} {n} f k s j h e = rw (f.rows, e) (place_right k s n.left.0 n.row n.right.0 f.sound.ordered h)

@@ -1,6 +1,5 @@
 -- A node after the row of a stamp at or below it was set.
 use Rattle.std.proofs.Common.{◌≡◌, Bool, ℕ, ◌+◌, ◌-◌, ◌<◌, ◌≤◌, ◌^◌, List, [], ◌∷◌, ◌++◌, length, refl, ap, sym, ◌∙◌, arith, eqb, true, false, cond}
-use Rattle.std.specs.Prelude.{max}
 use Rattle.std.proofs.lemmas.Bool.{eqb-true}
 use Rattle.market_types.specs.declared.row.Row.{Row}
 use Rattle.prefix_tree.specs.declared.node.Node.{Node}
@@ -8,7 +7,7 @@ use Rattle.prefix_tree.specs.Rows.{IsNewestFirst, requests, set_row}
 use Rattle.prefix_tree.specs.Nodes.{mandates, one_if, rows_in, IsSoundNode, IsSmall}
 use Rattle.prefix_tree.proofs.Ordered.{newest-tail, under_here, absent_above, parts}
 use Rattle.prefix_tree.proofs.AtNode.{AtNode, whole_node, node_requests}
-use Rattle.prefix_tree.proofs.Readings.{requests-cons, requests-node, mandates-node, mandates-le, length-node}
+use Rattle.prefix_tree.proofs.Readings.{requests-cons, requests-node, mandates-node}
 use Rattle.prefix_tree.proofs.Changes.{set-none, set_left, set_right, set_here, set-newest, set-length}
 
 -- a request that is set adds at most itself
@@ -77,6 +76,7 @@ fits_right s q m {d} {b} t a k h e =
     let le : requests t.0 ≤ requests b.right.0 + q = rw e (set-requests-le s q m b.right.0 (parts b.left.0 b.row b.right.0 g.ordered).right) in
     omega (arith, g.summed.sum, requests-node b.left.0 b.row b.right.0, node_requests a, k.sum)
 
+-- nor on the left
 pub fits_left : (s q : ℕ) (m : Bool) {d : List Row × ℕ} {b : Node} (t : List Row × ℕ) → AtNode d b → IsSmall d → q < 2 ^ 31 → t.0 ≡ set_row s q m b.left.0 → b.sum - requests b.left.0 + requests t.0 < 2 ^ 32
 fits_left s q m {d} {b} t a k h e =
     let g = a.sound in

@@ -1,7 +1,7 @@
 //! Rows by descending stamp in a balanced tree, which adds up the requests of all rows that are newer than one in a
 //! few steps, where a list walks them all.
 //!
-//! A [`Tree`] holds at most 1,024 rows of one stamp each. Its contracts see it as the list of its rows, newest first;
+//! A [`Tree`] holds at most 1,024 rows, no two of one stamp. Its contracts see it as the list of its rows, newest first;
 //! a row that was taken out is a [`Taken`], which keeps its memory, so that putting it back takes none.
 //!
 //! Each node holds its row and, of all rows at and below it, the sum of their requests, their number, and how many of
@@ -37,3 +37,6 @@ mod tree;
 
 pub use taken::Taken;
 pub use tree::Tree;
+
+#[cfg(test)]
+mod tests;

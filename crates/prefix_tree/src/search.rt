@@ -116,20 +116,20 @@ impl Side {
         ensures place { result.0 ≡ place_of stamp self.now.0 }
         ensures visits { result.1 ≤ self.now.1 }
     {
-        let mut place = 0usize;
+        let mut newer = 0usize;
         let mut visits = 0;
         let mut side = self;
         while let Some(node) = &side.root {
             let node: &Node = node;
             visits = visit(visits);
             if stamp < node.row.stamp {
-                place += node.left.count() as usize + 1;
+                newer += node.left.count() as usize + 1;
                 side = &node.right;
             } else if node.row.stamp < stamp {
                 side = &node.left;
             } else {
-                place += node.left.count() as usize;
-                return (Some(place), visits);
+                newer += node.left.count() as usize;
+                return (Some(newer), visits);
             }
         }
         (None, visits)

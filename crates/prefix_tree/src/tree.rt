@@ -16,7 +16,7 @@ use std::mem;
 /// as the list of its rows, newest first.
 ///
 /// A call on `n` rows enters at most twice as many nodes as `n` has binary digits, and one more where it puts a row
-/// in. The last part of its answer is their number.
+/// in. The last part of its answer is their number. Only `insert` takes memory.
 #[derive(Drop)]
 pub struct Tree {
     root: Side,
@@ -62,7 +62,7 @@ impl Tree {
         self.len() == 0
     }
 
-    /// The sum of all requests.
+    /// The sum of all requests, in workers.
     pub fn total(&self) -> u64
         ensures exact { result ≡ requests self.now }
         ensures most { result ≤ 1024 * 65535 }
@@ -123,7 +123,7 @@ impl Tree {
         self.root.set(stamp, request, mandated)
     }
 
-    /// Adds a row, where there is memory for it.
+    /// Adds a row. An error is want of memory, and leaves the rows as they were.
     pub fn insert(&mut self, alloc: Global, row: Row) -> Result<u32, AllocError>
         requires room { length self.old < 1024 }
         requires request { row.request ≤ 65535 }
@@ -136,7 +136,7 @@ impl Tree {
         Ok(self.put(node))
     }
 
-    /// Adds a row that was taken out of a tree, under a stamp that may be new. Takes no memory.
+    /// Adds a row that was taken out of a tree, this one or another, under a stamp that may be new.
     pub fn put_node(&mut self, taken: Taken, stamp: u32) -> u32
         requires room { length self.old < 1024 }
         requires absent { IsAbsent stamp self.old }
@@ -150,7 +150,7 @@ impl Tree {
         self.put(node)
     }
 
-    /// Takes the row with that stamp out, None where no row has it. Takes no memory.
+    /// Takes the row with that stamp out, None where no row has it.
     pub fn take_node(&mut self, stamp: u32) -> (Option<Taken>, u32)
         ensures taken { result.0 ≡ row_at stamp self.old }
         ensures rows { self.new ≡ without stamp self.old }

@@ -1,0 +1,243 @@
+//! What no clause says: worked rows, bounds at a full tree, and a long random run beside a plain list.
+ghost use Rattle.std.specs.Prelude.{◌≡◌, ◌≤◌, ◌<◌};
+
+use crate::Tree;
+use market_types::{ArenaId, Row};
+use std::alloc::{AllocError, Global};
+use std::process::Abort;
+use std::test::Fail;
+
+/// The row of an arena with the number of its stamp.
+fn row(stamp: u32, request: u32, mandated: bool) -> Row
+    ensures stamp { result.stamp ≡ stamp }
+    ensures request { result.request ≡ request }
+{
+    Row {
+        stamp,
+        arena: ArenaId::new(stamp),
+        request,
+        mandated,
+    }
+}
+
+/// Inserts a row where its stamp is new and there is room, and says whether it did.
+fn insert(tree: &mut Tree, alloc: Global, row: Row) -> Result<bool, AllocError>
+    requires { row.request ≤ 65535 }
+{
+    if tree.len() >= Tree::MOST {
+        return Ok(false);
+    }
+    let (place, _visits) = tree.place_of(row.stamp);
+    if let Some(_) = place {
+        return Ok(false);
+    }
+    tree.insert(alloc, row)?;
+    Ok(true)
+}
+
+#[test]
+fn walks_newest_first(rt: HostRuntime) -> Result<(), Fail> {
+    let mut tree = Tree::new();
+    assert_eq!(rt; tree.sum_before(2), (0, 0));
+    assert_eq!(rt; tree.set(2, 1, true), 0);
+    assert_eq!(rt; tree.walk(0), (None, 0));
+    assert_eq!(rt; tree.first_mandated(), (None, 0));
+    assert_eq!(rt; tree.take_node(2).1, 0);
+    for stamp in [1, 2, 3] {
+        assert!(rt; insert(&mut tree, rt.alloc(), row(stamp, 5, stamp < 3))?);
+    }
+    for (place, stamp) in [(0, 3), (1, 2), (2, 1)] {
+        assert_eq!(rt; tree.walk(place).0, Some(row(stamp, 5, stamp < 3)));
+    }
+    assert_eq!(rt; tree.walk(3).0, None);
+    assert_eq!(rt; tree.sum_before(2).0, 5);
+    assert_eq!(rt; tree.total(), 15);
+    assert_eq!(rt; tree.len(), 3);
+    assert_eq!(rt; tree.first_mandated().0, Some(row(2, 5, true)));
+    for (sum, place) in [
+        (0, Some(0)),
+        (4, Some(0)),
+        (5, Some(1)),
+        (14, Some(2)),
+        (15, None),
+    ] {
+        assert_eq!(rt; tree.place_of_sum(sum).0, place, "at {sum}");
+    }
+    Ok(())
+}
+
+#[test]
+fn visits_few_nodes_of_a_full_tree(rt: HostRuntime) -> Result<(), Fail> {
+    let mut tree = Tree::new();
+    assert_eq!(rt; tree.insert(rt.alloc(), row(1, 65535, false))?, 1);
+    for stamp in 2..=1024u32 {
+        assert!(rt; insert(&mut tree, rt.alloc(), row(stamp, 65535, false))?);
+    }
+    assert_eq!(rt; tree.len(), Tree::MOST);
+    assert_eq!(rt; tree.total(), 1024 * 65535);
+    for stamp in 1..=1024u32 {
+        let (before, visits) = tree.sum_before(stamp);
+        assert_eq!(rt; before, u64::from(1024 - stamp) * 65535);
+        assert!(rt; 1 <= visits && visits <= 22);
+        assert!(rt; tree.set(stamp, 65535, true) <= 22);
+    }
+    Ok(())
+}
+
+/// Numbers that look random, the same each time.
+#[derive(Drop)]
+struct Random {
+    state: u64,
+}
+
+impl Random {
+    /// A number below `bound`.
+    fn below(&mut self, bound: u32) -> u32
+        requires { 0 < bound }
+        ensures { result < bound }
+    {
+        self.state = self.state.wrapping_add(0x9E37_79B9_7F4A_7C15);
+        let mixed = (self.state ^ (self.state >> 30)).wrapping_mul(0xBF58_476D_1CE4_E5B9);
+        ((mixed >> 32) % u64::from(bound)) as u32
+    }
+}
+
+/// The same rows in a tree and in a list without order.
+#[derive(Drop)]
+struct Pair {
+    tree: Tree,
+    list: Vec<Row>,
+}
+
+impl Pair {
+    /// The requests of the rows above a stamp, and how many they are, by a walk over all.
+    fn above(&self, stamp: u32) -> (u64, usize) {
+        let (mut sum, mut count) = (0u64, 0usize);
+        for row in &self.list {
+            if row.stamp > stamp {
+                sum = sum.wrapping_add(u64::from(row.request));
+                count = count.wrapping_add(1);
+            }
+        }
+        (sum, count)
+    }
+
+    /// The newest mandated row, by a walk over all.
+    fn newest_mandated(&self) -> Option<Row> {
+        self.list
+            .iter()
+            .filter(|row| row.mandated)
+            .max_by_key(|row| row.stamp)
+            .copied()
+    }
+
+    /// Inserts a row on both sides.
+    fn insert(
+        &mut self,
+        alloc: Global,
+        stamp: u32,
+        request: u32,
+        mandated: bool,
+    ) -> Result<(), AllocError>
+        requires { request ≤ 65535 }
+    {
+        if insert(&mut self.tree, alloc, row(stamp, request, mandated))? {
+            self.list.push(row(stamp, request, mandated))?;
+        }
+        Ok(())
+    }
+
+    /// Takes a row out and puts it back under another stamp if that is new, on both sides, and says whether they agree.
+    fn take_and_put(&mut self, stamp: u32, new: u32) -> Result<bool, AllocError> {
+        let (taken, _visits) = self.tree.take_node(stamp);
+        let place = self.list.iter().position(|row| row.stamp == stamp);
+        let Some(taken) = taken else {
+            return Ok(place.is_none());
+        };
+        let Some(place) = place else {
+            return Ok(false);
+        };
+        let old = self.list.swap_remove(place);
+        if taken.row() != old {
+            return Ok(false);
+        }
+        if let (None, _) = self.tree.place_of(new) {
+            self.tree.put_node(taken, new);
+            self.list.push(Row { stamp: new, ..old })?;
+        }
+        Ok(true)
+    }
+
+    /// Sets a row on both sides.
+    fn set(&mut self, stamp: u32, request: u32, mandated: bool)
+        requires { request ≤ 65535 }
+    {
+        self.tree.set(stamp, request, mandated);
+        if let Some(place) = self.list.iter().position(|row| row.stamp == stamp) {
+            self.list[place].request = request;
+            self.list[place].mandated = mandated;
+        }
+    }
+
+    /// Takes a row out on both sides.
+    fn take(&mut self, stamp: u32) {
+        self.tree.take_node(stamp);
+        if let Some(place) = self.list.iter().position(|row| row.stamp == stamp) {
+            self.list.swap_remove(place);
+        }
+    }
+
+    /// Reads both sides at a stamp and at a sum.
+    fn compare(&self, rt: &impl Abort, stamp: u32, sum: u64) {
+        let (before, newer) = self.above(stamp);
+        let (total, rows) = self.above(0);
+        assert_eq!(rt; self.tree.sum_before(stamp).0, before);
+        assert_eq!(rt; self.tree.total(), total);
+        assert_eq!(rt; self.tree.len(), rows);
+        assert_eq!(rt; self.tree.first_mandated().0, self.newest_mandated());
+        match self.list.iter().find(|row| row.stamp == stamp) {
+            None => assert_eq!(rt; self.tree.place_of(stamp).0, None),
+            Some(row) => {
+                assert_eq!(rt; self.tree.place_of(stamp).0, Some(newer));
+                assert_eq!(rt; self.tree.walk(newer).0, Some(*row));
+            }
+        }
+        match self.tree.place_of_sum(sum).0 {
+            None => assert!(rt; total <= sum),
+            Some(place) => self.compare_row(rt, place, sum),
+        }
+    }
+
+    /// Reads both sides at a place where the requests pass a sum.
+    fn compare_row(&self, rt: &impl Abort, place: usize, sum: u64) {
+        match self.tree.walk(place).0 {
+            None => assert!(rt; false, "no row at {place}"),
+            Some(row) => {
+                let (before, newer) = self.above(row.stamp);
+                assert_eq!(rt; newer, place);
+                assert!(rt; before <= sum && sum < before.wrapping_add(u64::from(row.request)));
+            }
+        }
+    }
+}
+
+#[test]
+fn agrees_with_a_plain_list(rt: HostRuntime) -> Result<(), Fail> {
+    let mut random = Random { state: 1 };
+    let mut pair = Pair {
+        tree: Tree::new(),
+        list: Vec::new(rt.alloc()),
+    };
+    for _ in 0..4000 {
+        let (stamp, request) = (1 + random.below(300), random.below(9));
+        match random.below(8) {
+            0 | 1 | 2 => pair.insert(rt.alloc(), stamp, request, random.below(20) == 0)?,
+            3 => pair.take(stamp),
+            4 | 5 => assert!(rt; pair.take_and_put(stamp, 1 + random.below(300))?),
+            _ => pair.set(stamp, request, random.below(20) == 0),
+        }
+        pair.compare(&rt, 1 + random.below(300), u64::from(random.below(2000)));
+    }
+    assert!(rt; pair.tree.len() > 50);
+    Ok(())
+}
