@@ -1,3 +1,4 @@
 mod Carries
-mod Sums
 mod Levels
+mod Next
+mod Sums

@@ -11,7 +11,7 @@ mod carry;
 mod law;
 mod level;
 
-pub use carry::{carry_share, share};
+pub use carry::{carry_share, share, sum_before_next};
 pub use law::{bound_is_given_out, no_carry_to_keep};
 pub use level::{assign, mandatory_pick, top_level};
 

@@ -75,3 +75,23 @@ fn a_worker_goes_to_the_first_arena_in_need(rt: HostRuntime) {
     assert_eq!(rt; first_in_need(&Table { rows: &rows[..2] }), None);
     assert_eq!(rt; first_in_need(&Table { rows: &[] }), None);
 }
+
+/// A refused growth changes nothing: what is asked for again is what was due.
+#[test]
+fn refused_growth_changes_nothing(rt: HostRuntime) -> Result<(), AllocError> {
+    let mut roster = match Roster::new(rt.alloc(), 64) {
+        Ok(roster) => roster,
+        Err(_) => Roster::new(rt.alloc(), 64)?,
+    };
+    roster.place(SeatNo::new(63), ArenaId::new(1));
+    assert_eq!(rt; roster.active(ArenaId::new(1)), 1);
+    let rows = [row(1, 1, 2); 40];
+    let table = Table { rows: &rows };
+    let listed = match lists(rt.alloc(), &table) {
+        Ok(listed) => listed,
+        Err(_) => lists(rt.alloc(), &table)?,
+    };
+    assert_eq!(rt; listed.recalls.len(), 40);
+    assert!(rt; listed.hires.is_empty());
+    Ok(())
+}
