@@ -8,7 +8,7 @@ use Rattle.std.proofs.lemmas.List.Elements.{All-nil, All-cons, All-append, All-f
 use Rattle.std.proofs.lemmas.List.Sums.{sum_by-cons, sum_by-append}
 use Rattle.market_types.specs.State.{Arena, State}
 use Rattle.market_types.specs.Claims.{request_of, is_mandated}
-use Rattle.market_types.specs.Allotment.{total_request, at_level, share_of, carry_past, carry_after, carried, count_at, assigned, demand, alloc, all_to, bound_of, limit_of, mandatory_pick, in_order, levels_of}
+use Rattle.market_types.specs.Allotment.{total_request, at_level, share_of, carry_past, carry_after, carried, count_at, assigned, demand, alloc, all_to, bound_of, limit_of, mandatory_pick, in_order, levels_of, is_just}
 use Rattle.market_types.specs.Step.{arena_at}
 use Rattle.allotment.specs.Levels.{AreDemandsOf, IsLeveled, number_of}
 use Rattle.market_core.specs.Store.{newer}
@@ -185,3 +185,7 @@ all_to_number (Some m) w n = cond (eqb m n) w 0
 pub all_to-number : (picked : Option Arena) (w n : ℕ) → all_to picked w n ≡ all_to_number (number_of picked) w n
 all_to-number None w n = refl
 all_to-number (Some a) w n = refl
+
+pub just-all : (o : Option ℕ) (w n : ℕ) → cond (is_just n o) w 0 ≡ all_to_number o w n
+just-all None w n = refl
+just-all (Some m) w n = refl

@@ -111,7 +111,7 @@ pub found-levels : (n : ℕ) (a : Arena) (arenas : List Arena) → Found n a are
 found-levels n a arenas f =
     let other : (b : Arena) → has_number n b ≡ false → LevelsAt n a.level b = λ b unlike like. absurd (both n b unlike like) in
     rw f.split (All-append (LevelsAt n a.level) f.before (a ∷ f.after) (All-weaker (λ (b : Arena). has_number n b ≡ false) (LevelsAt n a.level) other f.before f.missing_before)
-      (All-cons (LevelsAt n a.level) a f.after (λ _. refl) (All-weaker (λ (b : Arena). has_number n b ≡ false) (LevelsAt n a.level) other f.after f.missing_after)))
+    (All-cons (LevelsAt n a.level) a f.after (λ _. refl) (All-weaker (λ (b : Arena). has_number n b ≡ false) (LevelsAt n a.level) other f.after f.missing_after)))
   where
     both : (n : ℕ) (b : Arena) → has_number n b ≡ false → has_number n b ≡ true → ⊥
     both n b unlike like = cc

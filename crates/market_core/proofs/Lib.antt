@@ -10,3 +10,4 @@ mod Steps
 mod Order
 mod Runs
 mod Staffed
+mod Totals

@@ -203,7 +203,7 @@ module _ (xs : List Arena) (lists : List (List Row)) (n i : ℕ) (x : Arena) (h 
         leveled = All-set IsLevel xs i y level h.leveled;
         listed = rw (sorted, p) (listed-set lists (by_stamp xs) (with_claim x.number c (by_stamp xs)) x.level rows h.listed level.0 level.1
             (right ∙ ap change (h.listed.entries x.level d level.0 level.1)
-              ∙ sym (entries-with_claim x.level x.number x.stamp c (by_stamp xs) matches))
+            ∙ sym (entries-with_claim x.level x.number x.stamp c (by_stamp xs) matches))
             (λ k apart. entries-with_claim_other k x.number x.level c (by_stamp xs) levels apart));
         enqueued =
             let sums : sum_by w (set xs i y) + w (get_or xs i x) ≡ sum_by w xs + w y = sum_by-set w xs i y x within in

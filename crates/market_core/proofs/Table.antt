@@ -89,7 +89,7 @@ pub table-claimed : (xs : List Arena) (i : ℕ) (x : Arena) (c : Claim) → IsBy
 table-claimed xs i x c rising within e =
     let front = take i xs in let back = drop (i + 1) xs in
     ap by_stamp (set-split xs i x (record x { claim = c }) within e ∙ sym (claims-split x.number c front x back refl (missing-front xs i x rising within e) (missing-back xs i x rising within e))
-      ∙ ap (with_claim x.number c) (sym (split-at xs i x within e)))
+    ∙ ap (with_claim x.number c) (sym (split-at xs i x within e)))
     ∙ by_stamp-map (λ (b : Arena). cond (has_number x.number b) (record b { claim = c }) b) xs (keeps-stamp x.number c)
 
 -- an arena goes
@@ -112,6 +112,7 @@ table-promoted xs i x y rising within e older =
     All-front : (P : Arena → Type 0) (xs ys : List Arena) → All P (xs ++ ys) → All P xs
     All-front P [] ys h = All-nil P
     All-front P (x ∷ xs) ys h = All-cons P x xs (All-head P x (xs ++ ys) h) (All-front P xs ys (All-tail P x (xs ++ ys) h))
+
     All-back : (P : Arena → Type 0) (xs ys : List Arena) → All P (xs ++ ys) → All P ys
     All-back P [] ys h = h
     All-back P (x ∷ xs) ys h = All-back P xs ys (All-tail P x (xs ++ ys) h)
@@ -149,7 +150,7 @@ apart-insert x (b ∷ bs) h apart =
           let other : b.number ≢ x.number = λ f. All-head (λ (c : Arena). x.number ≢ c.number) b bs h (sym f) in
           rw (le-ltb b.stamp x.stamp g)
           (AllPairs-cons R b (insert_arena x bs) (All-insert (R b) x bs other (AllPairs-head R b bs apart))
-            (apart-insert x bs (All-tail (λ (c : Arena). x.number ≢ c.number) b bs h) (AllPairs-tail R b bs apart)))
+          (apart-insert x bs (All-tail (λ (c : Arena). x.number ≢ c.number) b bs h) (AllPairs-tail R b bs apart)))
     ]
 
 pub apart-by_stamp : (xs : List Arena) → IsByNumber xs → IsApart (by_stamp xs)
@@ -158,7 +159,7 @@ apart-by_stamp (x ∷ xs) rising =
     let S : Arena → Arena → Type 0 = λ (a b : Arena). a.number < b.number in
     apart-insert x (by_stamp xs)
     (All-by_stamp (λ (b : Arena). x.number ≢ b.number) xs
-      (All-weaker (λ (b : Arena). x.number < b.number) (λ (b : Arena). x.number ≢ b.number) (λ b l f. omega arith) xs (AllPairs-head S x xs rising)))
+    (All-weaker (λ (b : Arena). x.number < b.number) (λ (b : Arena). x.number ≢ b.number) (λ b l f. omega arith) xs (AllPairs-head S x xs rising)))
     (apart-by_stamp xs (AllPairs-tail S x xs rising))
 
 -- changed claims keep the order by stamp

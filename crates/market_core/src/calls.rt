@@ -1,5 +1,5 @@
 //! Lists of commands.
-ghost use Rattle.std.specs.Prelude.{◌≡◌, ◌<◌, length, take, IsTrue, IfOk, OnOk, OnErr};
+ghost use Rattle.std.specs.Prelude.{◌≡◌, ◌<◌, length, take, IfOk, OnOk, OnErr};
 ghost use Rattle.std.specs.List.{All, SomeIndex};
 ghost use Rattle.market_types.specs.declared.command.Call.{Call};
 ghost use Rattle.market_types.specs.History.{replies_to, state_after};
@@ -9,7 +9,8 @@ use market_types::{Call, Reply};
 use std::alloc::{AllocError, Global};
 
 /// Applies calls in order, and gathers the replies: after any list of commands by any number of seats each reply is what
-/// the market gives as it then stands. After an `Err` the calls before one of them are applied, and no other is.
+/// the market gives as it then stands. The replies' places are reserved first. After an `Err` the calls before one of
+/// them are applied, and no other is.
 pub fn apply_all(
     alloc: Global,
     market: &mut Market,

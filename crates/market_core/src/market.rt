@@ -2,7 +2,8 @@
 ghost use Rattle.std.specs.Prelude.{◌≡◌, ◌≤◌, ◌<◌, length, IfOk};
 ghost use Rattle.market_types.specs.State.{opening};
 ghost use Rattle.market_types.specs.Opening.{opened_market, MemoryAside};
-ghost use Rattle.market_types.specs.Allotment.{limit_of};
+ghost use Rattle.market_types.specs.Allotment.{limit_of, bound_of};
+ghost use Rattle.market_core.specs.Allotted.{total_alloc};
 ghost use Rattle.market_types.specs.Step.{limits_of};
 
 mod allot;
@@ -10,6 +11,7 @@ mod apply;
 mod order;
 
 use crate::store::Arenas;
+use allotment::bound_is_given_out;
 use control_set::ControlSet;
 use market_types::{LimitView, OpenFault};
 use recall_hire::Roster;
@@ -82,7 +84,7 @@ impl Market {
         })
     }
 
-    /// What the active value is where no control lives, 1 to 65,536.
+    /// The value where no control lives, 1 to 65,536: the market's own limit on parallelism.
     pub fn base(&self) -> u32
         ensures exact { result ≡ self.now.base }
         ensures low { 1 ≤ result }
@@ -91,7 +93,7 @@ impl Market {
         self.base
     }
 
-    /// How many workers may be active at most, 1 to 65,535.
+    /// How many workers may be active whatever the value is, 1 to 65,535.
     pub fn hard(&self) -> u32
         ensures exact { result ≡ self.now.hard }
         ensures low { 1 ≤ result }
@@ -118,14 +120,19 @@ impl Market {
         self.levels
     }
 
-    /// How many workers may be active, and why.
+    /// How many workers may be active, and why. Where some may be, all arenas together are allotted what they ask for and
+    /// may have; where none may be, one at most.
     pub fn limits(&self) -> LimitView
         ensures exact { result ≡ limits_of self.now }
+        ensures given_out { 0 < limit_of self.now → total_alloc self.now ≡ bound_of self.now }
+        ensures one_at_most { limit_of self.now ≡ 0 → total_alloc self.now ≤ 1 }
     {
+        bound_is_given_out();
+        let enqueued = self.arenas.has_mandatory();
         let limit = self.limit();
         let effective = if limit > 0 {
             limit
-        } else if self.arenas.has_mandatory() {
+        } else if enqueued {
             1
         } else {
             0

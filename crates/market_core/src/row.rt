@@ -108,7 +108,6 @@ pub fn place_of(rows: &[ArenaRow], arena: ArenaId) -> Option<usize>
     ensures there { IfSome result (λ place. place < length rows.now) }
     ensures found { IfSome result (λ place. (d : Arena) → (slice_index_or rows.now place d).number ≡ arena) }
 {
-    rows
-        .binary_search_by_key(&arena.get(), |row| row.arena().get())
+    rows.binary_search_by_key(&arena.get(), |row| row.arena().get())
         .ok()
 }

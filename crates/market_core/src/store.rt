@@ -9,7 +9,6 @@ ghost use Rattle.allotment.specs.Levels.{number_of};
 ghost use Rattle.market_core.specs.Store.{IsKept, newer, entry_of, in_levels};
 ghost use Rattle.level_list.specs.Bits.{bits};
 
-
 use crate::row::{ArenaRow, place_of};
 use arena_record::ArenaRecord;
 use level_list::LevelList;
@@ -84,7 +83,8 @@ impl Arenas {
 
     /// Some arena has enqueued work.
     pub fn has_mandatory(&self) -> bool
-        ensures { result ≡ has_mandatory self.now }
+        ensures exact { result ≡ has_mandatory self.now }
+        ensures kept { IsKept self.now }
     {
         self.enqueued > 0
     }

@@ -1,5 +1,5 @@
 //! What the market allots.
-ghost use Rattle.std.specs.Prelude.{◌≡◌, ℕ, ◌+◌, ◌-◌, ◌*◌, ◌≤◌, ◌<◌, Some, None, length, slice_get, option_map, slice_index, slice_index_or, ◌==◌, if◌then◌else◌};
+ghost use Rattle.std.specs.Prelude.{◌≡◌, ℕ, ◌+◌, ◌-◌, ◌*◌, ◌≤◌, ◌<◌, Some, None, IfSome, length, slice_get, option_map, slice_index, slice_index_or, ◌==◌, if◌then◌else◌};
 ghost use Rattle.market_types.specs.Allotment.{alloc, active, at_level, demand, is_top, limit_of};
 ghost use Rattle.market_types.specs.Step.{arena_at, view_of};
 ghost use Rattle.allotment.specs.Levels.{AreDemandsOf, ArePicksOf, IsLeveled, pick_of};
@@ -7,6 +7,8 @@ ghost use Rattle.level_list.specs.Bits.{bits};
 ghost use Rattle.market_core.specs.Divided.{IsDivisionOf};
 ghost use Rattle.market_core.specs.Visits.{extra_visits};
 ghost use Rattle.market_types.specs.State.{State};
+ghost use Rattle.market_types.specs.Claims.{request_of};
+ghost use Rattle.market_core.specs.Allotted.{IsWithin};
 ghost use Rattle.market_core.specs.Store.{IsKept};
 
 use super::Market;
@@ -76,6 +78,7 @@ impl Market {
         ensures exact { result.0 ≡ alloc self.now row.number }
         ensures visits { result.1 ≤ 2 * bits (length self.now.arenas) }
         ensures few { result.1 ≤ 22 }
+        ensures no_more_than_asked { result.0 ≤ request_of row.claim }
     {
         let _ = &self.arenas;
         if division.limit == 0 {
@@ -88,7 +91,8 @@ impl Market {
         }
         let level = row.level().get() as usize - 1;
         let (before, visits) = self.arenas.before(row.level(), row.stamp());
-        let workers = share(division.assigned[level], division.demands[level], before, request);
+        let (given, asked) = (division.assigned[level], division.demands[level]);
+        let workers = share(given, asked, before, request);
         (workers as u32, visits)
     }
 
@@ -97,6 +101,7 @@ impl Market {
         requires kept { IsKept self.now.arenas }
         requires there { arena_at row.number self.now.arenas ≡ Some row }
         ensures exact { result.0 ≡ view_of self.now row }
+        ensures within { IsWithin self.now row }
         ensures visits { result.1 ≤ 2 * bits (length self.now.arenas) + extra_visits self.now }
     {
         let (division, first) = self.divide();
@@ -114,9 +119,11 @@ impl Market {
         (view, first + more)
     }
 
-    /// What is seen of an arena, or `None` where no living arena has this number. It takes no memory.
+    /// What is seen of an arena, or `None` where no living arena has this number. An arena is allotted no more than it
+    /// asks for, asks for no more than it can use, and can use no more than its slots. It takes no memory.
     pub fn view(&self, arena: ArenaId) -> Option<ArenaView>
         ensures exact { result ≡ option_map (view_of self.now) (arena_at arena self.now.arenas) }
+        ensures within { IfSome (arena_at arena self.now.arenas) (IsWithin self.now) }
     {
         let row = self.arenas.get(arena)?;
         let (view, _) = self.see(row);

@@ -17,8 +17,10 @@ use std::alloc::{AllocError, Global};
 const LAST: u32 = 1_048_576;
 
 impl Market {
-    /// Does what a seat asks, or refuses it. Only Open, Control and Lists can give an `Err`, where there is no memory, and
-    /// after one the market is as before.
+    /// Does what a seat asks, or refuses it: the first refusal that applies is the reply, and changes nothing. Only Open,
+    /// Control and Lists can give an `Err`, where there is no memory, and after one the market is as before. The seat is one
+    /// that the market has. After a worker was placed its arena has no more than it is allotted, and after one was recalled
+    /// no fewer.
     pub fn apply(&mut self, alloc: Global, seat: SeatNo, cmd: Cmd) -> Result<Reply, AllocError>
         requires seat { seat < length self.old.seats }
         ensures reply { IfOk result (λ reply. reply ≡ (step self.old seat cmd).0) }
@@ -40,7 +42,22 @@ impl Market {
         alloc: Global,
         seat: SeatNo,
         cmd: Cmd,
-    ) -> Result<(Reply, u32), AllocError>
+    ) -> Result<(Reply, u64), AllocError>
+        requires seat { seat < length self.old.seats }
+        ensures reply { IfOk result (λ answer. answer.0 ≡ (step self.old seat cmd).0) }
+        ensures staffed { IfOk result (λ answer. IsStaffed answer.0 self.new) }
+        ensures next { OnOk result (self.new ≡ (step self.old seat cmd).1) }
+        ensures unchanged { OnErr result (self.new ≡ self.old) }
+        ensures no_memory { takes_memory cmd ≡ false → IsOk result }
+        ensures same_seats { length self.new.seats ≡ length self.old.seats }
+        ensures visits { looks_in_order cmd ≡ false → IfOk result (λ answer. answer.1 ≤ most_visits self.old) }
+    {
+        let (reply, visits) = self.serve(alloc, seat, cmd)?;
+        Ok((reply, u64::from(visits)))
+    }
+
+    /// The command's own function.
+    fn serve(&mut self, alloc: Global, seat: SeatNo, cmd: Cmd) -> Result<(Reply, u32), AllocError>
         requires seat { seat < length self.old.seats }
         ensures reply { IfOk result (λ answer. answer.0 ≡ (step self.old seat cmd).0) }
         ensures staffed { IfOk result (λ answer. IsStaffed answer.0 self.new) }
@@ -133,7 +150,7 @@ impl Market {
         ensures same_seats { length self.new.seats ≡ length self.old.seats }
         ensures visits { result.1 ≤ most_visits self.old }
     {
-        if level.get() > self.levels {
+        if self.levels < level.get() {
             return (Reply::Refused(Fault::BadLevel), 0);
         }
         let Some(row) = self.arenas.get(arena) else {

@@ -1,11 +1,13 @@
-use Rattle.std.proofs.Common.{arith, refl, sym, ap, ◌∙◌, ◌≡◌, ℕ, ◌+◌, ◌-◌, ◌≤◌, ◌<◌, ◌*◌, length, get_or}
+use Rattle.std.proofs.Common.{arith, refl, sym, ap, ◌∙◌, ◌≡◌, ℕ, ◌+◌, ◌-◌, ◌≤◌, ◌<◌, ◌*◌, cond, length, get_or}
 use Rattle.market_types.specs.State.{Arena, State}
 use Rattle.market_types.specs.Claims.{request_of}
-use Rattle.market_types.specs.Allotment.{total_request, at_level, demand, assigned, limit_of, share_of, carry_after, alloc}
+use Rattle.market_types.specs.Allotment.{total_request, at_level, demand, assigned, limit_of, bound_of, mandatory_pick, is_just, share_of, carry_after, alloc}
+use Rattle.allotment.specs.Levels.{pick_of}
 use Rattle.market_core.specs.Sound.{IsSound}
 use Rattle.market_core.specs.Store.{newer}
 use Rattle.market_core.proofs.Found.{Found, found-at, All-found}
-use Rattle.market_core.proofs.Allotted.{alloc-found, request-within}
+use Rattle.market_core.proofs.Allotted.{alloc-found, alloc-picked, all_to-number, just-all, request-within}
+use Rattle.market_core.proofs.Totals.{picked-few}
 use Rattle.market_core.proofs.market.Market.allot.Goals as goal
 use Rattle.market_core.proofs.market.Market.allot.Goals.{After-before-before}
 
@@ -66,5 +68,24 @@ returns-clause-exact c =
     let row = c.args.row in
     let some : 0 < limit_of s = omega (arith, c.requires.divided.limit, c.if-division-eq0.false) in
     c.share-workers.ensures.workers_of (assigned s) (demand s) (newer row.stamp s.arenas) row
-      (record { assigned_is = given here; demand_is = demanded here; request_is = asked here }) (before here)
+    (record { assigned_is = given here; demand_is = demanded here; request_is = asked here }) (before here)
     ∙ sym (alloc-found s row.number row (found-here here) (level-within here) some (c.no_carry_to_keep.ensures.after_a_level s (assigned s)))
+
+pub returns-then-division-eq0-clause-no_more_than_asked : goal.returns-then-division-eq0-clause-no_more_than_asked
+returns-then-division-eq0-clause-no_more_than_asked c =
+    let s = c.args.self.now in
+    let row = c.args.row in
+    let none : limit_of s ≡ 0 = sym c.requires.divided.limit ∙ c.if-division-eq0.true in
+    let found = found-at row.number s.arenas row c.requires.kept.apart c.requires.kept.newest_first c.requires.there in
+    let few : alloc s row.number ≤ request_of row.claim = picked-few s row.number row found none in
+    let given : c.picked_workers.result ≡ alloc s row.number =
+    c.picked_workers.ensures ∙ ap (λ n. cond (is_just n c.args.division.now.picked) c.args.division.now.bound 0) c.arena.ensures
+    ∙ ap (λ o. cond (is_just row.number o) c.args.division.now.bound 0) (c.requires.divided.picked none)
+    ∙ ap (λ w. cond (is_just row.number (pick_of s)) w 0) c.requires.divided.bound
+    ∙ just-all (pick_of s) (bound_of s) row.number ∙ sym (all_to-number (mandatory_pick s) (bound_of s) row.number) ∙ sym (alloc-picked s row.number none) in
+    omega arith
+
+pub returns-clause-no_more_than_asked : goal.returns-clause-no_more_than_asked
+returns-clause-no_more_than_asked c =
+    let here = (goal.at.returns-clause-no_more_than_asked c).After-before-before in
+    omega (arith, c.share-workers.ensures.no_more_than_asked, asked here)

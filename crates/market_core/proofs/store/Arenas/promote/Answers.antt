@@ -44,7 +44,7 @@ put-back-requires-clause-room c =
     let level : c.get.result ≡ x.level = c.get.ensures.exact ∙ c.level.ensures in
     let rows = c.take-taken.ensures.rows ∙ ap (λ k. without_row k (get_or s.lists (c.get.result - 1) c.index-self-get.result)) c.stamp.ensures in
     promoted-room s.rows.items s.lists s.enqueued i x c.self.invariant within e y older (omega arith, omega arith) (c.get.result - 1) (c.get-2.result - 1) c.index-self-get.result c.index-self-get-2.result _ _
-      (ap (λ n. n - 1) level) (ap (λ n. n - 1) c.get-2.ensures.exact) refl rows
+    (ap (λ n. n - 1) level) (ap (λ n. n - 1) c.get-2.ensures.exact) refl rows
 
 pub put-back-requires-clause-newest : goal.put-back-requires-clause-newest
 put-back-requires-clause-newest c =
@@ -60,7 +60,7 @@ put-back-requires-clause-newest c =
     let level : c.get.result ≡ x.level = c.get.ensures.exact ∙ c.level.ensures in
     let rows = c.take-taken.ensures.rows ∙ ap (λ k. without_row k (get_or s.lists (c.get.result - 1) c.index-self-get.result)) c.stamp.ensures in
     promoted-newest s.rows.items s.lists s.enqueued i x c.self.invariant within e y older (omega arith, omega arith) (c.get.result - 1) (c.get-2.result - 1) c.index-self-get.result c.index-self-get-2.result _ _
-      (ap (λ n. n - 1) level) (ap (λ n. n - 1) c.get-2.ensures.exact) refl rows
+    (ap (λ n. n - 1) level) (ap (λ n. n - 1) c.get-2.ensures.exact) refl rows
 
 pub overflow_add-result : goal.overflow_add-result
 overflow_add-result c =
@@ -80,7 +80,7 @@ overflow_add-result c =
     list-visits s.rows.items s.lists s.enqueued c.self.invariant x.level (c.get.result - 1) c.index-self-get.result within_level.0 within_level.1 (ap (λ n. n - 1) level) c.take-taken.result.1 c.take-taken.ensures.visits in
     let back : c.put-back.result ≤ 2 * bits (length (by_stamp s.rows.items)) + 1 =
     promoted-visits s.rows.items s.lists s.enqueued i x c.self.invariant within e y older (omega arith, omega arith) (c.get.result - 1) (c.get-2.result - 1) c.index-self-get.result c.index-self-get-2.result _ _
-      (ap (λ n. n - 1) level) (ap (λ n. n - 1) c.get-2.ensures.exact) refl rows c.put-back.result c.put-back.ensures.visits in
+    (ap (λ n. n - 1) level) (ap (λ n. n - 1) c.get-2.ensures.exact) refl rows c.put-back.result c.put-back.ensures.visits in
     omega (arith, all-visits s.rows.items s.lists s.enqueued c.self.invariant, out, back)
 
 pub invariant_of-self : goal.invariant_of-self
@@ -103,7 +103,7 @@ invariant_of-self c =
     let after = rw fresh at c.put-back.ensures.rows in
     rw c.promoted.ensures
     (stored-promoted s.rows.items s.lists s.enqueued i x c.self.invariant within e y older (omega arith, omega arith) (c.get.result - 1) (c.get-2.result - 1) c.index-self-get.result c.index-self-get-2.result _ _
-      (ap (λ n. n - 1) level) (ap (λ n. n - 1) c.get-2.ensures.exact) refl rows _ refl refl after)
+    (ap (λ n. n - 1) level) (ap (λ n. n - 1) c.get-2.ensures.exact) refl rows _ refl refl after)
 
 pub returns-clause-exact : goal.returns-clause-exact
 returns-clause-exact c =
@@ -136,5 +136,5 @@ returns-clause-visits c =
     list-visits s.rows.items s.lists s.enqueued c.self.invariant x.level (c.get.result - 1) c.index-self-get.result within_level.0 within_level.1 (ap (λ n. n - 1) level) c.take-taken.result.1 c.take-taken.ensures.visits in
     let back : c.put-back.result ≤ 2 * bits (length (by_stamp s.rows.items)) + 1 =
     promoted-visits s.rows.items s.lists s.enqueued i x c.self.invariant within e y older (omega arith, omega arith) (c.get.result - 1) (c.get-2.result - 1) c.index-self-get.result c.index-self-get-2.result _ _
-      (ap (λ n. n - 1) level) (ap (λ n. n - 1) c.get-2.ensures.exact) refl rows c.put-back.result c.put-back.ensures.visits in
+    (ap (λ n. n - 1) level) (ap (λ n. n - 1) c.get-2.ensures.exact) refl rows c.put-back.result c.put-back.ensures.visits in
     rw (← c.self.view_is) (omega (arith, out, back))

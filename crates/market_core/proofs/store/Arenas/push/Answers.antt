@@ -31,7 +31,7 @@ invariant_of-self-2 c =
     let rows = c.in_ok-visits.ensures.rows ∙ ap (λ (r : Row). r ∷ get_or s.lists (c.get.result - 1) c.index-self-get.result) c.entry.ensures.exact in
     rw (c.push_reserved.ensures.items, c.in_ok-reserve.ensures.items)
     (stored-pushed s.rows.items s.lists s.enqueued c.args.row (c.get.result - 1) c.index-self-get.result _ _ c.self.invariant room older last (omega arith, omega arith) (ap (λ n. n - 1) level)
-      rows (ap (λ k. s.enqueued + k) (c.counted.ensures ∙ ap (λ (q : Claim). cond (ltb 0 q.mandatory) 1 0) c.claim.ensures)))
+    rows (ap (λ k. s.enqueued + k) (c.counted.ensures ∙ ap (λ (q : Claim). cond (ltb 0 q.mandatory) 1 0) c.claim.ensures)))
 
 pub returns-clause-pushed : goal.returns-clause-pushed
 returns-clause-pushed c =
@@ -44,4 +44,4 @@ returns-clause-visits c =
     let s = c.self.inside in
     let level : c.get.result ≡ c.args.row.level = c.get.ensures.exact ∙ c.level.ensures in
     rw (← c.self.view_is) (list-visits_one s.rows.items s.lists s.enqueued c.self.invariant c.args.row.level (c.get.result - 1) c.index-self-get.result (omega arith) (omega arith) (ap (λ n. n - 1) level)
-      c.in_ok-visits.visits c.in_ok-visits.ensures.visits.1)
+    c.in_ok-visits.visits c.in_ok-visits.ensures.visits.1)

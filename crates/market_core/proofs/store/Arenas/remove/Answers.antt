@@ -23,7 +23,7 @@ invariant_of-self c =
     let old : c.counted.result ≡ cond (ltb 0 x.claim.mandatory) 1 0 = c.counted.ensures ∙ ap (λ (q : Claim). cond (ltb 0 q.mandatory) 1 0) c.claim.ensures in
     rw c.remove-row.ensures.items
     (stored-removed s.rows.items s.lists s.enqueued i x c.self.invariant there c.remove-row.ensures.value (c.get.result - 1) c.index-self-get.result _ _ place rows
-      (omega (arith, counted-within s.rows.items s.lists s.enqueued i x c.self.invariant there c.remove-row.ensures.value, old)))
+    (omega (arith, counted-within s.rows.items s.lists s.enqueued i x c.self.invariant there c.remove-row.ensures.value, old)))
 
 pub returns-clause-exact : goal.returns-clause-exact
 returns-clause-exact c =

@@ -26,7 +26,7 @@ invariant_of-self c =
     let new : c.counted-2.result ≡ cond (ltb 0 c.args.claim.mandatory) 1 0 = c.counted-2.ensures in
     rw c.with_claim-new.ensures
     (stored-claimed s.rows.items s.lists s.enqueued i x c.self.invariant there c.index-old.ensures c.args.claim (c.get.result - 1) c.index-self-get.result _ _ place rows
-      (omega (arith, counted-within s.rows.items s.lists s.enqueued i x c.self.invariant there c.index-old.ensures, old, new)))
+    (omega (arith, counted-within s.rows.items s.lists s.enqueued i x c.self.invariant there c.index-old.ensures, old, new)))
 
 pub returns-clause-exact : goal.returns-clause-exact
 returns-clause-exact c =
