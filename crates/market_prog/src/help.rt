@@ -22,14 +22,33 @@ Standard input holds script lines, and standard output gets a reply line for eac
 the next line is waited for. A line is SEAT COMMAND, with one space between fields, SEAT being a
 number below --seats. The commands, with their replies:
 
-  open SLOTS [RESERVED [LEVEL]]  an arena is opened
-                                   arena A
-  request ARENA WORKERS          it asks for so many workers more, or fewer below 0
-                                   request Q
-  show ARENA                     what it is allotted
-                                   arena A request Q allot K top T active N recall R hire H
-  limit                          how many workers may be active
-                                   value V limit L effective E
+  open SLOTS [RESERVED [LEVEL]]     an arena is opened
+                                      arena A
+  close ARENA                       it goes, where no seat is placed at it
+                                      ok
+  priority ARENA LEVEL              it goes first in that level
+                                      ok
+  resize ARENA SLOTS RESERVED       it gets other slots
+                                      resized Q
+  request ARENA WORKERS [ENQUEUED]  it asks for so many workers more, or fewer below 0,
+                                    and has so much more work enqueued
+                                      request Q
+  control VALUE                     while it lives, fewer workers than VALUE are active
+                                      control C
+  uncontrol CONTROL                 it goes
+                                      ok
+  join                              the seat asks for an arena in need of a worker
+                                      placed A, or idle
+  stay                              it asks whether its arena still wants it
+                                      stays A, or recalled A
+  leave                             it leaves its arena
+                                      left A
+  show ARENA                        what it is allotted
+                                      arena A request Q allot K top T active N recall R hire H
+  lists                             arenas with workers too many, and with too few
+                                      recall A:COUNT,.. hire A:COUNT,..
+  limit                             how many workers may be active
+                                      value V limit L effective E
 
 RESERVED is 1 unless it is given. LEVEL is a number from 1, the level that is served first, or with
 three levels one of high, normal and low; unless it is given it is the middle one. A refused

@@ -8,8 +8,7 @@ use std::process::Abort;
 use std::rt::HostRuntime;
 
 /// The market's answer to seat 0.
-fn answer(rt: &impl Abort, alloc: Global, market: &mut Market, cmd: Cmd) -> Reply
-{
+fn answer(rt: &impl Abort, alloc: Global, market: &mut Market, cmd: Cmd) -> Reply {
     let _ = market.seats();
     let Ok(reply) = market.apply(alloc, SeatNo::new(0), cmd) else {
         panic!(rt; "no memory");
@@ -50,6 +49,63 @@ fn a_thousand_arenas_share_all_workers(rt: HostRuntime) {
     }
     let refused = answer(&rt, rt.alloc(), &mut market, Cmd::Open(65535, 0, normal));
     assert!(&rt; matches!(refused, Reply::Refused(Fault::TooManyArenas)));
+    let _ = market.seats();
+    let show = Cmd::Show(ArenaId::new(1));
+    let Ok((_, visits)) = market.apply_counted(rt.alloc(), SeatNo::new(0), show) else {
+        panic!(&rt; "no memory");
+    };
+    assert!(&rt; visits >= 1 && visits <= 45);
+}
+
+#[test]
+fn numbers_run_out(rt: HostRuntime) {
+    let Ok(mut market) = Market::new(rt.alloc(), 8, 64, 4, 3) else {
+        panic!(&rt; "no market");
+    };
+    let normal = level(&rt, 2);
+    for number in 1..1_048_577 {
+        let opened = answer(&rt, rt.alloc(), &mut market, Cmd::Open(8, 1, normal));
+        assert!(&rt; matches!(opened, Reply::Opened(_)));
+        let closed = answer(
+            &rt,
+            rt.alloc(),
+            &mut market,
+            Cmd::Close(ArenaId::new(number)),
+        );
+        assert!(&rt; matches!(closed, Reply::Closed));
+    }
+    let refused = answer(&rt, rt.alloc(), &mut market, Cmd::Open(8, 1, normal));
+    assert!(&rt; matches!(refused, Reply::Refused(Fault::OutOfNumbers)));
+}
+
+#[test]
+fn stamps_run_out(rt: HostRuntime) {
+    let Ok(mut market) = Market::new(rt.alloc(), 8, 64, 4, 3) else {
+        panic!(&rt; "no market");
+    };
+    let normal = level(&rt, 2);
+    let opened = answer(&rt, rt.alloc(), &mut market, Cmd::Open(8, 1, normal));
+    assert!(&rt; matches!(opened, Reply::Opened(_)));
+    let priority = Cmd::Priority(ArenaId::new(1), normal);
+    for _ in 0..1_048_575 {
+        let moved = answer(&rt, rt.alloc(), &mut market, priority);
+        assert!(&rt; matches!(moved, Reply::Moved));
+    }
+    let refused = answer(&rt, rt.alloc(), &mut market, priority);
+    assert!(&rt; matches!(refused, Reply::Refused(Fault::OutOfNumbers)));
+}
+
+#[test]
+fn at_most_256_controls_live(rt: HostRuntime) {
+    let Ok(mut market) = Market::new(rt.alloc(), 8, 64, 4, 3) else {
+        panic!(&rt; "no market");
+    };
+    for _ in 0..256 {
+        let made = answer(&rt, rt.alloc(), &mut market, Cmd::Control(5));
+        assert!(&rt; matches!(made, Reply::Controlled(_)));
+    }
+    let refused = answer(&rt, rt.alloc(), &mut market, Cmd::Control(5));
+    assert!(&rt; matches!(refused, Reply::Refused(Fault::TooManyControls)));
 }
 
 #[test]
