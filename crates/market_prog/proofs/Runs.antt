@@ -1,5 +1,5 @@
 -- A run, from its start up to some moment between two pieces.
-use Rattle.std.proofs.Common.{◌≡◌, ℕ, ◌+◌, ◌≤◌, ◌++◌, List, [], length, take, Bool, Option, refl, sym, ap, ◌∙◌, subst, arith, append_assoc, append-nil, length-append}
+use Rattle.std.proofs.Common.{◌≡◌, ℕ, ◌+◌, ◌≤◌, ◌++◌, List, [], length, take, Bool, false, Option, refl, sym, ap, ◌∙◌, subst, arith, append_assoc, append-nil, length-append}
 use Rattle.std.specs.Io.KnownBytes.{Consumes, Appends}
 use Rattle.std.proofs.KnownBytes.{Appends-trans, Appends-nil, Consumes-trans, Consumes-nil}
 use Rattle.market_types.specs.State.{State}
@@ -9,9 +9,10 @@ use Rattle.market_prog.specs.Ended.{ended_lines, open_line}
 use Rattle.market_prog.specs.Pieces.{front, after_ended, Takes}
 use Rattle.market_prog.specs.Run.{Answers, Stops, HandsOver, CauseOf, longest_input}
 use Rattle.market_prog.specs.declared.fault.RunFault.{RunFault}
+use Rattle.market_prog.specs.declared.fault.RunFault.TheVariants.{Memory}
 use Rattle.market_prog.proofs.Cut.{ended_lines-append, open_line-append, NoLf-open_line}
 use Rattle.market_prog.proofs.Told.{same_told, told_lines-append, told-open, told-cut, open-cut, told-taken}
-use Rattle.market_prog.proofs.Pieces.{WritesFront-after, WritesFront-longer}
+use Rattle.market_prog.proofs.Pieces.{WritesFront-none, WritesFront-after, WritesFront-longer}
 
 -- the script was read, and `out` was written; `pending` is what was told and not handed over
 pub record Running (start : State) (left left' taken taken' : Option (List ℕ)) (pending : Told) (carry : List ℕ) (total : ℕ) : Type 0 where
@@ -139,3 +140,9 @@ handed-over start left mid left' taken taken' p c total r none more =
       read = subst (λ xs. Consumes left left' xs) (append-nil r.script) (Consumes-trans left mid left' r.script [] r.read more);
       wrote = subst (λ xs. Appends taken taken' xs) (sym text) r.wrote;
     }
+
+-- want of memory before anything was read
+pub stops-begun : (start : State) (left taken : Option (List ℕ)) (source_failed sink_failed : Bool) → source_failed ≡ false → sink_failed ≡ false
+    → Stops start left left taken taken source_failed sink_failed Memory
+stops-begun start left taken source_failed sink_failed e f =
+    record { script = []; read = Consumes-nil left; wrote = WritesFront-none taken _; cause = (e, f) }
