@@ -31,7 +31,7 @@ fn a_thousand_arenas_share_all_workers(rt: HostRuntime) {
     let normal = level(&rt, 2);
     for number in 1..1025 {
         let opened = answer(&rt, rt.alloc(), &mut market, Cmd::Open(65535, 0, normal));
-        assert!(&rt; matches!(opened, Reply::Opened(arena) if arena == ArenaId::new(number)));
+        assert!(&rt; matches!(&opened, Reply::Opened(arena) if arena.get() == number));
         let asked = answer(
             &rt,
             rt.alloc(),
