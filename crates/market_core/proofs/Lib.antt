@@ -11,3 +11,5 @@ mod Order
 mod Runs
 mod Staffed
 mod Totals
+mod Searched
+mod InNeed
