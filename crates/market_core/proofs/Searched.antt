@@ -12,13 +12,14 @@ use Rattle.std.proofs.lemmas.Option.{slice_get-get_or, slice_get_within, get_or_
 use Rattle.market_types.specs.declared.row.Row.{Row}
 use Rattle.market_types.specs.State.{Arena, State}
 use Rattle.market_types.specs.Claims.{request_of}
-use Rattle.market_types.specs.Allotment.{at_level, total_request, share_of, carry_after, assigned, demand, alloc, limit_of}
+use Rattle.market_types.specs.Allotment.{at_level, total_request, share_of, carry_after, assigned, demand, alloc, active, limit_of}
 use Rattle.market_types.specs.Step.{arena_at}
 use Rattle.recall_hire.specs.declared.rows.Staffing.{Staffing}
-use Rattle.recall_hire.specs.Staffed.{row_of, rows_among, allotted_at, NoneAllotted}
-use Rattle.level_list.specs.Rows.{IsPassedAt as IsRowPassedAt}
+use Rattle.recall_hire.specs.Staffed.{row_of, rows_among, allotted_at, IsNext, NoneAllotted}
+use Rattle.level_list.specs.Passing.{Passing}
+use Rattle.level_list.specs.Rows.{IsPassing as IsRowPassing}
 use Rattle.market_core.specs.Divided.{rows_at}
-use Rattle.market_core.specs.Store.{IsKept, IsNewestFirst, IsPassedAt, newer, entry_of, entries}
+use Rattle.market_core.specs.Store.{IsKept, IsNewestFirst, IsPassedAt, IsPassing, newer, entry_of, entries}
 use Rattle.market_core.proofs.Found.{Found, found-at, All-found, newer-none, AllPairs-head, AllPairs-tail}
 use Rattle.market_core.proofs.Order.{level-at, get-none}
 use Rattle.market_core.proofs.Allotted.{alloc-found, request-within}
@@ -67,34 +68,6 @@ newer-before level p arenas a newest e =
 
 -- ---- what the arenas before a place ask for
 
--- a place of the level's list is one of the level
-pub walked-arena : (level place : ℕ) (arenas : List Arena) (row : Row) → Some row ≡ slice_get (entries level arenas) place
-    → (a : Arena) × (slice_get (at_level level arenas) place ≡ Some a) × (row.stamp ≡ a.stamp)
-walked-arena level place arenas row e = there (slice_get (at_level level arenas) place) refl (e ∙ slice_get-map entry_of (at_level level arenas) place)
-  where
-    some-none : (r : Row) → Some r ≡ None → ⊥
-    some-none r h = cc
-    there : (o : Option Arena) → slice_get (at_level level arenas) place ≡ o → Some row ≡ option_map entry_of o → (a : Arena) × (slice_get (at_level level arenas) place ≡ Some a) × (row.stamp ≡ a.stamp)
-    there None f g = absurd (some-none row g)
-    there (Some a) f g = (a, f, ap (λ (r : Row). r.stamp) (same_Some row (entry_of a) g))
-
-pub sum-before_row : (level place : ℕ) (arenas : List Arena) (row : Row) → IsNewestFirst arenas → Some row ≡ slice_get (entries level arenas) place
-    → total_request (at_level level (newer row.stamp arenas)) ≡ total_request (take place (at_level level arenas))
-sum-before_row level place arenas row newest e =
-    let found = walked-arena level place arenas row e in
-    ap (λ t. total_request (at_level level (newer t arenas))) found.2
-    ∙ ap total_request (newer-before level place arenas found.0 newest found.1)
-
--- beyond the last arena there is nobody
-pub walked-past : (level place : ℕ) (arenas : List Arena) → None ≡ slice_get (entries level arenas) place → take place (at_level level arenas) ≡ at_level level arenas
-walked-past level place arenas e = take_all place (at_level level arenas) (get-none (at_level level arenas) place (nothing (slice_get (at_level level arenas) place) (e ∙ slice_get-map entry_of (at_level level arenas) place)))
-  where
-    none-some : (r : Row) → ◌≡◌ {A = Option Row} None (Some r) → ⊥
-    none-some r h = cc
-    nothing : (o : Option Arena) → ◌≡◌ {A = Option Row} None (option_map entry_of o) → o ≡ None
-    nothing None h = refl
-    nothing (Some a) h = absurd (none-some (entry_of a) h)
-
 take-entries : (p : ℕ) (xs : List Arena) → take p (map entry_of xs) ≡ map entry_of (take p xs)
 take-entries zero [] = refl
 take-entries zero (x ∷ xs) = refl
@@ -140,16 +113,20 @@ sum-part zero xs = omega arith
 sum-part (suc p) [] = omega arith
 sum-part (suc p) (x ∷ xs) = omega (arith, request-cons x (take p xs), request-cons x xs, sum-part p xs)
 
--- a place of a level's list is passed where the arenas are
-pub passed-entries : (sum level : ℕ) (arenas : List Arena) (o : Option ℕ) (rows : List Row) → rows ≡ entries level arenas
-    → IfSome o (λ place. IsRowPassedAt sum place rows) → IfSome o (λ place. IsPassedAt sum place (at_level level arenas))
-passed-entries sum level arenas None rows e h = h
-passed-entries sum level arenas (Some place) rows e h =
-    let passed : IsRowPassedAt sum place (entries level arenas) = rw (← e) h in
+-- a row of a level's list is passed where its arena is
+pub passing-entries : (sum level : ℕ) (arenas : List Arena) (o : Option Passing) (rows : List Row) → rows ≡ entries level arenas
+    → IfSome o (λ passing. IsRowPassing sum passing rows) → IfSome o (λ passing. IsPassing sum passing (at_level level arenas))
+passing-entries sum level arenas None rows e h = h
+passing-entries sum level arenas (Some passing) rows e h =
+    let found : IsRowPassing sum passing (entries level arenas) = rw (← e) h in
     record {
-      in_range = omega (arith, passed.in_range, length-map (at_level level arenas) entry_of);
-      within = omega (arith, passed.within, requests-taken place level arenas);
-      beyond = omega (arith, passed.beyond, requests-taken (place + 1) level arenas);
+      at = record {
+        in_range = omega (arith, found.at.in_range, length-map (at_level level arenas) entry_of);
+        within = omega (arith, found.at.within, requests-taken passing.place level arenas);
+        beyond = omega (arith, found.at.beyond, requests-taken (passing.place + 1) level arenas);
+      };
+      row = sym (slice_get-map entry_of (at_level level arenas) passing.place) ∙ found.row;
+      before = found.before ∙ requests-taken passing.place level arenas;
     }
 
 -- ---- what the arena at a place is allotted
@@ -258,6 +235,9 @@ pub record Search (s : State) (level place given asked before sum : ℕ) : Type 
   pub nobody : (others request : ℕ) → before ≤ others → others + request ≤ sum → due given asked others request ≡ 0
   pub next : (others request : ℕ) → others ≤ sum → sum < others + request → 0 < due given asked others request
 
+same-staffing : (a b n m k l : ℕ) → a ≡ b → n ≡ m → k ≡ l → ◌≡◌ {A = Staffing} (record { arena = a; allotted = n; active = k }) (record { arena = b; allotted = m; active = l })
+same-staffing a b n m k l e f g = rw (e, f, g) refl
+
 due-same : (k m d e others request : ℕ) → k ≡ m → d ≡ e → due k d others request ≡ due m e others request
 due-same k m d e others request p q = rw (p, q) refl
 
@@ -276,30 +256,44 @@ module _ (s : State) (level place given asked before sum : ℕ) (h : Search s le
       row-due j a.0 a.1
       ∙ h.nobody (total_request (take j xs)) (request_of a.0.claim) (omega (arith, h.before_is, sum-more place j xs from)) (omega (arith, sum-with j xs a.0 a.1, sum-more (j + 1) to xs (omega arith)))
 
-  pub next-found : (o : Option ℕ) → IfSome o (λ p. IsPassedAt sum p (at_level level s.arenas)) → IfSome o (λ next. (place ≤ next) × (next < length (rows_at s level)))
-  next-found None passed = passed
-  next-found (Some p) passed =
+  pub next-none : (o : Option Passing) → IfNone o (total_request (at_level level s.arenas) ≤ sum) → o ≡ None → NoneAllotted (rows_at s level) place (length (rows_at s level))
+  next-none o most e =
       let xs = at_level level s.arenas in
-      let behind : place ≤ p = elim (cases_lt p place) [
-        | inl l ↦ absurd (omega (arith, passed.beyond, sum-more (p + 1) place xs (omega arith), h.before_is, h.not_behind))
-        | inr g ↦ g
-      ] in
-      (behind, omega (arith, passed.in_range, length-map xs (row_of s)))
+      let reached : total_request xs ≤ sum = rw e at most in
+      nobody-to (length (rows_at s level)) (omega (arith, length-map xs (row_of s))) (omega (arith, reached, sum-part (length (rows_at s level)) xs))
 
-  pub next-allotted : (o : Option ℕ) → IfSome o (λ p. IsPassedAt sum p (at_level level s.arenas)) → IfSome o (λ next. 0 < allotted_at (rows_at s level) next)
-  next-allotted None passed = passed
-  next-allotted (Some p) passed =
-      let xs = at_level level s.arenas in
-      let a = arena-there xs p passed.in_range in
-      let more : 0 < due given asked (total_request (take p xs)) (request_of a.0.claim) = h.next (total_request (take p xs)) (request_of a.0.claim) passed.within (omega (arith, passed.beyond, sum-with p xs a.0 a.1)) in
-      subst (λ n. 0 < n) (sym (row-due p a.0 a.1)) more
+  module _ (passing : Passing) (workers placed : ℕ) (found : IsPassing sum passing (at_level level s.arenas)) where
+    passed : (a : Arena) × (slice_get (at_level level s.arenas) passing.place ≡ Some a)
+    passed = arena-there (at_level level s.arenas) passing.place found.at.in_range
 
-  pub next-first : (o : Option ℕ) → IfSome o (λ p. IsPassedAt sum p (at_level level s.arenas)) → IfSome o (λ next. NoneAllotted (rows_at s level) place next)
-  next-first None passed = passed
-  next-first (Some p) passed = nobody-to p (omega (arith, passed.in_range)) passed.within
+    entry : entry_of passed.0 ≡ passing.row
+    entry = same_Some (entry_of passed.0) passing.row (sym (ap (option_map entry_of) passed.1) ∙ found.row)
 
-  pub next-none : (o : Option ℕ) → IfNone o (total_request (at_level level s.arenas) ≤ sum) → IfNone o (NoneAllotted (rows_at s level) place (length (rows_at s level)))
-  next-none None most =
-      let xs = at_level level s.arenas in
-      nobody-to (length (rows_at s level)) (omega (arith, length-map xs (row_of s))) (omega (arith, most, sum-part (length (rows_at s level)) xs))
-  next-none (Some p) most = most
+    pub passing-part : passing.before + passing.row.request ≤ asked
+    passing-part =
+        let xs = at_level level s.arenas in
+        let request : request_of passed.0.claim ≡ passing.row.request = ap (λ (r : Row). r.request) entry in
+        omega (arith, found.before, request, sum-with passing.place xs passed.0 passed.1, sum-part (passing.place + 1) xs, h.asked_is)
+
+    pub next-at : workers ≡ due given asked passing.before passing.row.request → placed ≡ active s passing.row.arena
+        → IsNext place (record { place = passing.place; row = record { arena = passing.row.arena; allotted = workers; active = placed } }) (rows_at s level)
+    next-at due_here placed_here =
+        let xs = at_level level s.arenas in
+        let a = passed.0 in
+        let request : request_of a.claim ≡ passing.row.request = ap (λ (r : Row). r.request) entry in
+        let number : a.number ≡ passing.row.arena = ap (λ (r : Row). r.arena) entry in
+        let workers_are : due given asked (total_request (take passing.place xs)) (request_of a.claim) ≡ workers =
+        ap (λ n. due given asked n (request_of a.claim)) (sym found.before) ∙ ap (due given asked passing.before) request ∙ sym due_here in
+        let allotted_is : alloc s a.number ≡ workers = sym (allotted-row s xs passing.place a passed.1) ∙ row-due passing.place a passed.1 ∙ workers_are in
+        let more : 0 < due given asked (total_request (take passing.place xs)) (request_of a.claim) =
+        h.next (total_request (take passing.place xs)) (request_of a.claim) found.at.within (omega (arith, found.at.beyond, sum-with passing.place xs a passed.1)) in
+        record {
+          not_behind = elim (cases_lt passing.place place) [
+            | inl l ↦ absurd (omega (arith, found.at.beyond, sum-more (passing.place + 1) place xs (omega arith), h.before_is, h.not_behind))
+            | inr g ↦ g
+          ];
+          row = slice_get-map (row_of s) xs passing.place ∙ ap (option_map (row_of s)) passed.1
+            ∙ ap Some (same-staffing a.number passing.row.arena (alloc s a.number) workers (active s a.number) placed number allotted_is (ap (active s) number ∙ sym placed_here));
+          allotted = subst (λ n. 0 < n) workers_are more;
+          first = nobody-to passing.place (omega (arith, found.at.in_range)) found.at.within;
+        }

@@ -6,12 +6,12 @@ ghost use Rattle.market_types.specs.Claims.{is_mandated};
 ghost use Rattle.market_types.specs.Allotment.{total_request, at_level, has_mandatory};
 ghost use Rattle.market_types.specs.Step.{arena_at, with_claim, without};
 ghost use Rattle.allotment.specs.Levels.{number_of};
-ghost use Rattle.market_core.specs.Store.{IsKept, IsPassedAt, newer, entry_of, in_levels};
+ghost use Rattle.market_core.specs.Store.{IsKept, IsPassing, newer, entry_of, in_levels};
 ghost use Rattle.level_list.specs.Bits.{bits};
 
 use crate::row::{ArenaRow, place_of};
 use arena_record::ArenaRecord;
-use level_list::LevelList;
+use level_list::{LevelList, Passing};
 use market_types::{ArenaId, Level, Row};
 use std::alloc::{AllocError, Global};
 use std::marker::Model;
@@ -197,29 +197,21 @@ impl Arenas {
         requires low { 1 ≤ level }
         requires high { level ≤ 8 }
         ensures exact { result.0 ≡ total_request (take place (at_level level self.now)) }
-        ensures few { result.1 ≤ 44 }
+        ensures few { result.1 ≤ 22 }
     {
-        let list = &self.lists[level as usize - 1];
-        if place == 0 {
-            return (0, 0);
-        }
-        let (row, first) = list.walk(place);
-        let Some(row) = row else {
-            return (list.demand(), first);
-        };
-        let (sum, more) = list.before(row.stamp);
-        (sum, first + more)
+        self.lists[level as usize - 1].sum_to(place)
     }
 
-    /// The place of a level, 1 to 8, up to and with which its arenas ask for more than `sum`, `None` where they never do.
-    pub fn place_of_sum(&self, level: u32, sum: u64) -> (Option<usize>, u32)
+    /// The first arena of a level, 1 to 8, up to and with which its arenas ask for more than `sum`, `None` where they
+    /// never do.
+    pub fn passing(&self, level: u32, sum: u64) -> (Option<Passing>, u32)
         requires low { 1 ≤ level }
         requires high { level ≤ 8 }
-        ensures some { IfSome result.0 (λ place. IsPassedAt sum place (at_level level self.now)) }
+        ensures some { IfSome result.0 (λ passing. IsPassing sum passing (at_level level self.now)) }
         ensures none { IfNone result.0 (total_request (at_level level self.now) ≤ sum) }
         ensures few { result.1 ≤ 22 }
     {
-        self.lists[level as usize - 1].place_of_sum(sum)
+        self.lists[level as usize - 1].passing(sum)
     }
 
     /// A new arena, newer than all others.

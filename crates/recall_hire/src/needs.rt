@@ -24,12 +24,10 @@ pub fn first_in_need<R: Rows>(rows: &R) -> (Option<ArenaId>, u32)
         let Some(next) = next else {
             return (None, visits);
         };
-        let (row, more) = rows.row(next);
-        visits = visits.saturating_add(more);
-        if hire(row.active, row.allotted) > 0 {
-            return (Some(row.arena), visits);
+        if hire(next.row.active, next.row.allotted) > 0 {
+            return (Some(next.row.arena), visits);
         }
-        place = next + 1;
+        place = next.place + 1;
     }
     (None, visits)
 }

@@ -1,7 +1,7 @@
 //! What arenas have of what they are allotted.
 ghost use Rattle.std.specs.Prelude.{◌≡◌, ℕ, ◌-◌, ◌<◌, ◌≤◌, List, length, slice_get, Some, IfSome, IfNone};
 ghost use Rattle.recall_hire.specs.declared.rows.Staffing.{Staffing};
-ghost use Rattle.recall_hire.specs.Staffed.{allotted_at, NoneAllotted};
+ghost use Rattle.recall_hire.specs.Staffed.{IsNext, NoneAllotted};
 
 use market_types::ArenaId;
 
@@ -13,6 +13,13 @@ pub struct Staffing {
     pub allotted: u32,
     /// How many seats are placed at it.
     pub active: u32,
+}
+
+/// A row that is allotted a worker, where a search came to it.
+#[derive(Clone, Copy, Debug, PartialEq, Eq)]
+pub struct Next {
+    pub place: usize,
+    pub row: Staffing,
 }
 
 /// How many of `active` workers are too many.
@@ -44,12 +51,9 @@ pub trait Rows {
         requires known { place < length (rows self.now) }
         ensures exact { slice_get (rows self.now) place ≡ Some result.0 };
 
-    /// The first place from `place` on whose row is allotted a worker. Looks at each row on the way, unless the rows
-    /// know better.
-    fn next_allotted(&self, place: usize) -> (Option<usize>, u32)
-        ensures found { IfSome result.0 (λ next. (place ≤ next) × (next < length (rows self.now))) }
-        ensures allotted { IfSome result.0 (λ next. 0 < allotted_at (rows self.now) next) }
-        ensures first { IfSome result.0 (λ next. NoneAllotted (rows self.now) place next) }
+    /// The first row from a place on that is allotted a worker. Looks at each row on the way, unless the rows know better.
+    fn next_allotted(&self, place: usize) -> (Option<Next>, u32)
+        ensures found { IfSome result.0 (λ next. IsNext place next (rows self.now)) }
         ensures none { IfNone result.0 (NoneAllotted (rows self.now) place (length (rows self.now))) }
     {
         let mut visits = 0_u32;
@@ -57,7 +61,7 @@ pub trait Rows {
             let (row, more) = self.row(next);
             visits = visits.saturating_add(more);
             if row.allotted > 0 {
-                return (Some(next), visits);
+                return (Some(Next { place: next, row }), visits);
             }
         }
         (None, visits)

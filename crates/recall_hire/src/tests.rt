@@ -72,9 +72,9 @@ fn a_worker_goes_to_the_first_arena_in_need(rt: HostRuntime) {
     let rows = [row(4, 0, 0), row(3, 1, 2), row(2, 5, 4), row(1, 2, 0)];
     assert_eq!(rt;
         first_in_need(&Table { rows: &rows }),
-        (Some(ArenaId::new(2)), 5)
+        (Some(ArenaId::new(2)), 3)
     );
-    assert_eq!(rt; first_in_need(&Table { rows: &rows[..2] }), (None, 3));
+    assert_eq!(rt; first_in_need(&Table { rows: &rows[..2] }), (None, 2));
     assert_eq!(rt; first_in_need(&Table { rows: &[] }), (None, 0));
 }
 

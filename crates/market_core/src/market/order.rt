@@ -2,16 +2,16 @@
 ghost use Rattle.std.specs.Prelude.{◌≡◌, ◌<◌, ◌≤◌, Some, length, slice_get, IfOk, IfSome, IfNone};
 ghost use Rattle.market_types.specs.Allotment.{limit_of};
 ghost use Rattle.market_types.specs.Step.{arena_at, counts_of};
-ghost use Rattle.recall_hire.specs.Staffed.{NoneAllotted, allotted_at, row_of, rows_of, need_of};
+ghost use Rattle.recall_hire.specs.Staffed.{IsNext, NoneAllotted, row_of, rows_of, need_of};
 ghost use Rattle.market_core.specs.Divided.{IsDivisionOf, IsSharedAt, rows_at};
 ghost use Rattle.market_core.specs.Store.{IsKept};
 
 use super::Market;
 use crate::division::Division;
 use crate::row::ArenaRow;
-use allotment::{no_carry_to_keep, sum_before_next};
+use allotment::{no_carry_to_keep, share, sum_before_next};
 use market_types::{ArenaId, Lists};
-use recall_hire::{Rows, Staffing, first_in_need, hire, lists};
+use recall_hire::{Next, Rows, Staffing, first_in_need, hire, lists};
 use std::alloc::{AllocError, Global};
 
 /// A market's arenas in order, and how its workers are divided.
@@ -54,7 +54,7 @@ impl Rows for LevelOrder<'_> {
         self.market.staffing_at(self.division, self.level, place)
     }
 
-    fn next_allotted(&self, place: usize) -> (Option<usize>, u32) {
+    fn next_allotted(&self, place: usize) -> (Option<Next>, u32) {
         self.market.next_at(self.division, self.level, place)
     }
 }
@@ -126,12 +126,10 @@ impl Market {
         (staffing, first + more)
     }
 
-    /// The first place from `place` on of a level whose arena is allotted a worker. Walks over no arena on the way.
-    fn next_at(&self, division: &Division, level: u32, place: usize) -> (Option<usize>, u32)
+    /// The first arena from a place of a level on that is allotted a worker. Walks over no arena on the way.
+    fn next_at(&self, division: &Division, level: u32, place: usize) -> (Option<Next>, u32)
         requires shared { IsSharedAt level self.now division.now }
-        ensures found { IfSome result.0 (λ next. (place ≤ next) × (next < length (rows_at self.now level))) }
-        ensures allotted { IfSome result.0 (λ next. 0 < allotted_at (rows_at self.now level) next) }
-        ensures first { IfSome result.0 (λ next. NoneAllotted (rows_at self.now level) place next) }
+        ensures found { IfSome result.0 (λ next. IsNext place next (rows_at self.now level)) }
         ensures none { IfNone result.0 (NoneAllotted (rows_at self.now level) place (length (rows_at self.now level))) }
     {
         no_carry_to_keep();
@@ -144,8 +142,24 @@ impl Market {
         }
         let (before, first) = self.arenas.sum_to(level, place);
         let sum = sum_before_next(given, asked, before);
-        let (next, more) = self.arenas.place_of_sum(level, sum);
-        (next, first + more)
+        let (passing, more) = self.arenas.passing(level, sum);
+        let visits = first + more;
+        let Some(passing) = passing else {
+            return (None, visits);
+        };
+        let asking = passing.row;
+        let workers = share(given, asked, passing.before, u64::from(asking.request));
+        let active = self.roster.active(asking.arena);
+        let row = Staffing {
+            arena: asking.arena,
+            allotted: workers as u32,
+            active,
+        };
+        let next = Next {
+            place: passing.place,
+            row,
+        };
+        (Some(next), visits)
     }
 
     /// The arena whose enqueued work is served, where it is allotted more workers than it has.

@@ -1,4 +1,5 @@
 use Rattle.std.proofs.Common.{◌≡◌, None, length, sym, ◌∙◌, arith, rules}
+use Rattle.std.proofs.lemmas.Option.{slice_get_within}
 use Rattle.recall_hire.proofs.Staffings.{NoneNeeds, needs-to, needs-more, need-found, need-none, need-in_market}
 use Rattle.recall_hire.proofs.needs.first_in_need.Goals as goal
 
@@ -16,22 +17,22 @@ returns-in_default-clause-in_market g c = λ s arenas e.
 pub returns-then-hire-gt0-clause-exact : goal.returns-then-hire-gt0-clause-exact
 returns-then-hire-gt0-clause-exact g c =
     let rows = g.R.Rows.rows c.args.rows.now in
-    sym (need-found rows c.in-Some.next c.row-row.result.0 (needs-to rows c.loop-place.place c.in-Some.next c.loop-place.invariant.searched (rw c.in-Some.is at c.next_allotted-next.ensures.first)) c.row-row.ensures.exact (omega arith))
+    sym (need-found rows c.in-Some.next.place c.in-Some.next.row (needs-to rows c.loop-place.place c.in-Some.next.place c.loop-place.invariant.searched (rw c.in-Some.is at c.next_allotted-next.ensures.found).first) (rw c.in-Some.is at c.next_allotted-next.ensures.found).row (omega arith))
 
 pub returns-then-hire-gt0-clause-in_market : goal.returns-then-hire-gt0-clause-in_market
 returns-then-hire-gt0-clause-in_market g c = λ s arenas e.
     let rows = g.R.Rows.rows c.args.rows.now in
-    sym (need-found rows c.in-Some.next c.row-row.result.0 (needs-to rows c.loop-place.place c.in-Some.next c.loop-place.invariant.searched (rw c.in-Some.is at c.next_allotted-next.ensures.first)) c.row-row.ensures.exact (omega arith))
+    sym (need-found rows c.in-Some.next.place c.in-Some.next.row (needs-to rows c.loop-place.place c.in-Some.next.place c.loop-place.invariant.searched (rw c.in-Some.is at c.next_allotted-next.ensures.found).first) (rw c.in-Some.is at c.next_allotted-next.ensures.found).row (omega arith))
     ∙ need-in_market s arenas rows e
 
 pub loop-place-preserved : goal.loop-place-preserved
 loop-place-preserved g c =
     let rows = g.R.Rows.rows c.args.rows.now in
     record {
-      within = omega (arith, (rw c.in-Some.is at c.next_allotted-next.ensures.found).1);
+      within = omega (arith, slice_get_within rows c.in-Some.next.place c.in-Some.next.row (rw c.in-Some.is at c.next_allotted-next.ensures.found).row);
       searched =
-          needs-more rows c.in-Some.next c.row-row.result.0
-          (needs-to rows c.loop-place.place c.in-Some.next c.loop-place.invariant.searched (rw c.in-Some.is at c.next_allotted-next.ensures.first)) c.row-row.ensures.exact (omega arith);
+          needs-more rows c.in-Some.next.place c.in-Some.next.row
+          (needs-to rows c.loop-place.place c.in-Some.next.place c.loop-place.invariant.searched (rw c.in-Some.is at c.next_allotted-next.ensures.found).first) (rw c.in-Some.is at c.next_allotted-next.ensures.found).row (omega arith);
     }
 
 pub returns-clause-exact : goal.returns-clause-exact

@@ -1,12 +1,12 @@
 use Rattle.std.proofs.Common.{arith, refl, sym, ap, subst, ◌∙◌, ◌≡◌, ℕ, ◌+◌, ◌-◌, ◌≤◌, ◌<◌, get_or, take}
 use Rattle.std.specs.Prelude.{IfSome, IfNone}
 use Rattle.market_types.specs.State.{State}
-use Rattle.market_types.specs.Allotment.{at_level, total_request, assigned, demand}
+use Rattle.market_types.specs.Allotment.{at_level, total_request, assigned, demand, active}
 use Rattle.market_core.specs.Sound.{IsSound}
-use Rattle.market_core.specs.Store.{IsKept, IsPassedAt}
-use Rattle.market_core.proofs.Searched.{Shared, Search, none-given, next-found, next-allotted, next-first, next-none}
+use Rattle.market_core.specs.Store.{IsKept, IsPassing}
+use Rattle.market_core.proofs.Searched.{Shared, Search, due, none-given, next-none, passing-part, next-at}
 use Rattle.market_core.proofs.market.Market.next_at.Goals as goal
-use Rattle.market_core.proofs.market.Market.next_at.Goals.{After-place_of_sum-next}
+use Rattle.market_core.proofs.market.Market.next_at.Goals.{After-passing-more}
 
 pub returns-then-given-eq0-clause-none : goal.returns-then-given-eq0-clause-none
 returns-then-given-eq0-clause-none c =
@@ -21,7 +21,7 @@ returns-then-given-eq0-clause-none c =
     } in
     none-given s c.args.level c.args.place shared (sym (c.requires.shared.divided.assigned c.args.level c.requires.shared.low c.requires.shared.high) ∙ c.if-given-eq0.true)
 
-module _ (c : After-place_of_sum-next) where
+module _ (c : After-passing-more) where
   sound : IsSound c.args.self.now
   sound = rw c.self.view_is at c.self.invariant
 
@@ -48,20 +48,26 @@ module _ (c : After-place_of_sum-next) where
         next = c.sum_before_next-sum.ensures.next;
       }
 
-  passed : IfSome c.place_of_sum-next.result.0 (λ place. IsPassedAt c.sum_before_next-sum.result place (at_level c.args.level c.args.self.now.arenas))
-  passed = subst (λ (s : State). IfSome c.place_of_sum-next.result.0 (λ place. IsPassedAt c.sum_before_next-sum.result place (at_level c.args.level s.arenas))) c.self.view_is c.place_of_sum-next.ensures.some
+  passed : IfSome c.passing-more.result.0 (λ passing. IsPassing c.sum_before_next-sum.result passing (at_level c.args.level c.args.self.now.arenas))
+  passed = subst (λ (s : State). IfSome c.passing-more.result.0 (λ passing. IsPassing c.sum_before_next-sum.result passing (at_level c.args.level s.arenas))) c.self.view_is c.passing-more.ensures.some
 
-  most : IfNone c.place_of_sum-next.result.0 (total_request (at_level c.args.level c.args.self.now.arenas) ≤ c.sum_before_next-sum.result)
-  most = subst (λ (s : State). IfNone c.place_of_sum-next.result.0 (total_request (at_level c.args.level s.arenas) ≤ c.sum_before_next-sum.result)) c.self.view_is c.place_of_sum-next.ensures.none
+  most : IfNone c.passing-more.result.0 (total_request (at_level c.args.level c.args.self.now.arenas) ≤ c.sum_before_next-sum.result)
+  most = subst (λ (s : State). IfNone c.passing-more.result.0 (total_request (at_level c.args.level s.arenas) ≤ c.sum_before_next-sum.result)) c.self.view_is c.passing-more.ensures.none
+
+pub returns-in_default-clause-none : goal.returns-in_default-clause-none
+returns-in_default-clause-none c =
+    let here = (goal.at.returns-in_default-clause-none c).After-passing-more in
+    next-none _ _ _ _ _ _ _ (search-from here) c.passing-more.result.0 (most here) c.in_default.is
+
+pub share-workers-requires-clause-part_of_demand : goal.share-workers-requires-clause-part_of_demand
+share-workers-requires-clause-part_of_demand c =
+    let here = (goal.at.share-workers-requires-clause-part_of_demand c).After-passing-more in
+    omega (arith, passing-part _ _ _ _ _ _ _ (search-from here) c.in-Some.passing 0 0 (rw c.in-Some.is at (passed here)), c.from.ensures)
 
 pub returns-clause-found : goal.returns-clause-found
-returns-clause-found c = next-found _ _ _ _ _ _ _ (search-from c) c.place_of_sum-next.result.0 (passed c)
-
-pub returns-clause-allotted : goal.returns-clause-allotted
-returns-clause-allotted c = next-allotted _ _ _ _ _ _ _ (search-from c) c.place_of_sum-next.result.0 (passed c)
-
-pub returns-clause-first : goal.returns-clause-first
-returns-clause-first c = next-first _ _ _ _ _ _ _ (search-from c) c.place_of_sum-next.result.0 (passed c)
-
-pub returns-clause-none : goal.returns-clause-none
-returns-clause-none c = next-none _ _ _ _ _ _ _ (search-from c) c.place_of_sum-next.result.0 (most c)
+returns-clause-found c =
+    let here = (goal.at.returns-clause-found c).After-passing-more in
+    let workers : c.share-workers.result ≡ due (get_or c.args.division.now.assigned (c.args.level - 1) 0) (get_or c.args.division.now.demands (c.args.level - 1) 0) c.in-Some.passing.before c.in-Some.passing.row.request =
+    c.share-workers.ensures.difference ∙ ap (due (get_or c.args.division.now.assigned (c.args.level - 1) 0) (get_or c.args.division.now.demands (c.args.level - 1) 0) c.in-Some.passing.before) c.from.ensures in
+    let placed : c.active-active.result ≡ active c.args.self.now c.in-Some.passing.row.arena = c.active-active.ensures.exact ∙ ap (λ (t : State). active t c.in-Some.passing.row.arena) c.self.view_is in
+    next-at _ _ _ _ _ _ _ (search-from here) c.in-Some.passing c.share-workers.result c.active-active.result (rw c.in-Some.is at (passed here)) workers placed
