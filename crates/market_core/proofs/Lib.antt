@@ -11,3 +11,4 @@ mod Order
 mod Runs
 mod Staffed
 mod Totals
+mod Assigned
