@@ -1,5 +1,5 @@
 -- What the arenas of a level are allotted together.
-use Rattle.std.proofs.Common.{◌≡◌, ◌≢◌, ℕ, zero, ◌+◌, ◌-◌, ◌*◌, ◌<◌, ◌≤◌, true, false, cond, eqb, Bool, List, [], ◌∷◌, ◌++◌, get_or, Option, Some, None, refl, sym, ap, ◌∙◌, arith, inl, inr, zero-add}
+use Rattle.std.proofs.Common.{◌≡◌, ◌≢◌, ℕ, ◌+◌, ◌-◌, ◌*◌, ◌<◌, ◌≤◌, true, false, cond, eqb, Bool, List, [], ◌∷◌, ◌++◌, get_or, Option, Some, None, refl, sym, ap, ◌∙◌, arith, inl, inr, zero-add}
 use Rattle.std.specs.Prelude.{slice_index}
 use Rattle.std.specs.List.{All, count_by, sum_by}
 use Rattle.std.proofs.lemmas.Bool.{cases_eq, cases_lt, eq-eqb, eqb-true, ne_eqb}
@@ -9,14 +9,14 @@ use Rattle.std.proofs.lemmas.List.Kept.{AllPairs-filter}
 use Rattle.std.proofs.lemmas.List.Sums.{sum_by-append, sum_by-cons}
 use Rattle.std.proofs.lemmas.Option.{slice_get-get_or}
 use Rattle.market_types.specs.State.{Arena, State}
-use Rattle.market_types.specs.Allotment.{at_level, carried, carry_after, count_at, assigned, demand, alloc, all_to, bound_of, limit_of, in_order, levels_of, mandatory_pick}
+use Rattle.market_types.specs.Allotment.{at_level, carried, carry_after, count_at, assigned, demand, alloc, bound_of, limit_of, in_order, levels_of, mandatory_pick}
 use Rattle.market_types.specs.Step.{arena_at}
 use Rattle.allotment.specs.Levels.{workers_of, pick_of, IsLeveled}
 use Rattle.market_core.specs.Allotted.{level_alloc}
 use Rattle.market_core.specs.declared.division.Division.{Division}
 use Rattle.market_core.specs.Divided.{IsDivisionOf}
 use Rattle.market_core.specs.Store.{IsApart, IsKept, IsNewestFirst}
-use Rattle.market_core.proofs.ByStamp.{has_number, IsMissing}
+use Rattle.market_core.proofs.ByStamp.{has_number}
 use Rattle.market_core.proofs.Found.{Found, found-at, All-found}
 use Rattle.market_core.proofs.Order.{level-at}
 use Rattle.market_core.proofs.Allotted.{alloc-shared, alloc-picked, all_to_number, all_to-number, at_level-above, at_level-own, at_level-other, count_at-found, level-in-range, missing-at}
@@ -58,12 +58,12 @@ level-carried s level apart newest leveled some whole =
     let given : Arena → ℕ = λ a. count_at a.number (carried K D 0 xs) in
     let same : All (λ (a : Arena). alloc s a.number ≡ given a) xs =
     λ k d within.
-      let a = get_or xs k d in
-      let there : arena_at a.number s.arenas ≡ Some a = level-members level s.arenas apart k d within in
-      let here : a.level ≡ level = eqb-true a.level level (filter_passes (λ (a : Arena). eqb a.level level) s.arenas k d within) in
-      let leveled' : (1 ≤ a.level) × (a.level ≤ s.levels) = All-found (λ (a : Arena). (1 ≤ a.level) × (a.level ≤ s.levels)) a.number s.arenas a there leveled in
-      alloc-shared s a.number some ∙ level-count s K D a (found-at a.number s.arenas a apart newest there) leveled' whole
-      ∙ ap (λ l. count_at a.number (carried K D 0 (at_level l s.arenas))) here in
+    let a = get_or xs k d in
+    let there : arena_at a.number s.arenas ≡ Some a = level-members level s.arenas apart k d within in
+    let here : a.level ≡ level = eqb-true a.level level (filter_passes (λ (a : Arena). eqb a.level level) s.arenas k d within) in
+    let leveled' : (1 ≤ a.level) × (a.level ≤ s.levels) = All-found (λ (a : Arena). (1 ≤ a.level) × (a.level ≤ s.levels)) a.number s.arenas a there leveled in
+    alloc-shared s a.number some ∙ level-count s K D a (found-at a.number s.arenas a apart newest there) leveled' whole
+    ∙ ap (λ l. count_at a.number (carried K D 0 (at_level l s.arenas))) here in
     sum-members (λ (a : Arena). alloc s a.number) given xs same
     ∙ sum-counts K D 0 xs (λ n. unique n xs (AllPairs-filter (λ (a b : Arena). a.number ≢ b.number) (λ (a : Arena). eqb a.level level) s.arenas apart))
 
@@ -139,4 +139,3 @@ level-unserved s level none picked =
     nothing : (xs : List Arena) → sum_by (λ (a : Arena). 0) xs ≡ 0
     nothing [] = refl
     nothing (x ∷ xs) = sum_by-cons (λ (a : Arena). 0) x xs ∙ zero-add (sum_by (λ (a : Arena). 0) xs) ∙ nothing xs
-

@@ -1,19 +1,19 @@
 -- What all arenas are allotted together, and that none is allotted more than it asks for.
-use Rattle.std.proofs.Common.{◌≡◌, ◌≢◌, ℕ, zero, suc, ◌+◌, ◌-◌, ◌*◌, ◌<◌, ◌≤◌, Bool, true, false, cond, eqb, ltb, min, ℤ, pos, negsuc, List, [], ◌∷◌, ◌++◌, Option, Some, None, refl, sym, ap, ◌∙◌, arith, inl, inr, zero-add}
+use Rattle.std.proofs.Common.{◌≡◌, ◌≢◌, ℕ, zero, suc, ◌+◌, ◌-◌, ◌*◌, ◌<◌, ◌≤◌, Bool, true, false, cond, eqb, ltb, ℤ, pos, negsuc, List, [], ◌∷◌, Option, Some, None, refl, sym, ap, ◌∙◌, arith, inl, inr, zero-add}
 use Rattle.std.specs.Prelude.{◌==◌, ◌&&◌}
-use Rattle.std.specs.List.{All, AllPairs, count_by, sum_by, find, flat_map, range_with_len}
-use Rattle.std.proofs.lemmas.Bool.{both_ways, cases_eq, cases_Bool, cases_lt, ne_eqb, eq-eqb, lt-ltb, le-ltb, ltb-true, and_parts}
+use Rattle.std.specs.List.{All, count_by, sum_by, find, flat_map}
+use Rattle.std.proofs.lemmas.Bool.{both_ways, cases_eq, cases_Bool, ne_eqb, eq-eqb, lt-ltb, le-ltb, ltb-true, and_parts}
 use Rattle.std.proofs.lemmas.List.Elements.{All-nil, All-cons, All-head, All-tail, All-append, All-filter, All-weaker}
-use Rattle.std.proofs.lemmas.List.Sums.{sum_by-cons, sum_by-append}
+use Rattle.std.proofs.lemmas.List.Sums.{sum_by-cons}
 use Rattle.market_types.specs.State.{Claim, Arena, State}
 use Rattle.market_types.specs.Claims.{cap_of, clamp_total, request_of, is_mandated}
-use Rattle.market_types.specs.Allotment.{at_level, share_of, carry_past, carried, count_at, assigned, demand, alloc, all_to, bound_of, limit_of, effective_limit_of, has_mandatory, mandatory_pick, in_order, levels_of, total_request}
+use Rattle.market_types.specs.Allotment.{at_level, share_of, carry_past, carried, count_at, assigned, demand, alloc, all_to, bound_of, limit_of, effective_limit_of, has_mandatory, mandatory_pick, in_order, levels_of}
 use Rattle.allotment.specs.Levels.{workers_of, IsLeveled}
 use Rattle.market_core.specs.Allotted.{IsWithin, total_alloc}
-use Rattle.market_core.specs.Store.{IsApart, levels_from, in_levels}
+use Rattle.market_core.specs.Store.{IsApart}
 use Rattle.market_core.proofs.ByStamp.{has_number, IsMissing}
 use Rattle.market_core.proofs.Found.{Found, AllPairs-head, AllPairs-tail}
-use Rattle.market_core.proofs.Allotted.{alloc-shared, alloc-picked}
+use Rattle.market_core.proofs.Allotted.{alloc-picked}
 use Rattle.market_core.proofs.Order.{sum-in_levels}
 
 -- ---- a number is used once

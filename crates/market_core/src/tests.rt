@@ -85,7 +85,11 @@ fn enqueued_work_is_served_at_its_level(rt: HostRuntime) {
         let opened = market.apply(alloc, seat, Cmd::Open(8, 1, level));
         assert!(&rt; opened.is_ok());
         let mandatory = if number > 1 { 1 } else { 0 };
-        let requested = market.apply(alloc, seat, Cmd::Request(ArenaId::new(number), 2, mandatory));
+        let requested = market.apply(
+            alloc,
+            seat,
+            Cmd::Request(ArenaId::new(number), 2, mandatory),
+        );
         assert!(&rt; requested.is_ok());
     }
     assert!(&rt; allots(&market) == [0, 1, 0]);

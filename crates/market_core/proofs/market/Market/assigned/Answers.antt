@@ -1,9 +1,8 @@
-use Rattle.std.proofs.Common.{arith, refl, sym, ap, subst, ◌∙◌, ◌≡◌, ◌-◌, ◌<◌, cond, eqb, true, false, Some, None}
+use Rattle.std.proofs.Common.{arith, refl, sym, ap, subst, ◌∙◌, ◌≡◌, ◌-◌, ◌<◌, eqb, true, false, Some, None}
 use Rattle.std.specs.Prelude.{slice_index}
 use Rattle.market_types.specs.State.{State}
-use Rattle.market_types.specs.Allotment.{assigned, bound_of, limit_of}
+use Rattle.market_types.specs.Allotment.{assigned, limit_of}
 use Rattle.market_types.specs.Step.{arena_at}
-use Rattle.allotment.specs.Levels.{pick_of}
 use Rattle.market_core.specs.Sound.{IsSound}
 use Rattle.market_core.specs.Store.{IsKept}
 use Rattle.market_core.proofs.Assigned.{level-shared, division-assigned, level-unserved, level-missing, level-picked}
