@@ -1,6 +1,6 @@
 //! Why the rule needs no carry to be kept, and that it gives out what there is. These functions do nothing: what they
 //! ensure holds wherever they are called.
-ghost use Rattle.std.specs.Prelude.{◌≡◌, ℕ, ◌+◌, ◌*◌, ◌/◌, ◌%◌, ◌<◌, ◌≤◌, List};
+ghost use Rattle.std.specs.Prelude.{◌≡◌, ℕ, ◌+◌, ◌-◌, ◌*◌, ◌/◌, ◌%◌, ◌<◌, ◌≤◌, List};
 ghost use Rattle.std.specs.List.{flat_map, sum, sum_by};
 ghost use Rattle.market_types.specs.State.{State, Arena};
 ghost use Rattle.market_types.specs.Claims.{request_of};
@@ -23,6 +23,10 @@ pub fn no_carry_to_keep()
         → share_of given asked (carry_after given asked 0 (at_level a.level before)) a
         ≡ (request_of a.claim * given a.level
         + given a.level * total_request (at_level a.level before) % asked a.level) / asked a.level }
+    ensures difference { (given asked : ℕ → ℕ) (before : List Arena) (a : Arena) → 0 < asked a.level
+        → share_of given asked (carry_after given asked 0 (at_level a.level before)) a
+        ≡ given a.level * (total_request (at_level a.level before) + request_of a.claim) / asked a.level
+        - given a.level * total_request (at_level a.level before) / asked a.level }
     ensures no_more_than_asked { (given asked : ℕ → ℕ) (before : List Arena) (a : Arena)
         → given a.level ≤ asked a.level
         → share_of given asked (carry_after given asked 0 (at_level a.level before)) a ≤ request_of a.claim }

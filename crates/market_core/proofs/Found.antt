@@ -119,7 +119,7 @@ newer-all : (t : ℕ) (xs : List Arena) → All (IsNewer t) xs → newer t xs �
 newer-all t [] h = refl
 newer-all t (x ∷ xs) h = rw (lt-ltb t x.stamp (All-head (IsNewer t) x xs h)) (ap (λ ys. x ∷ ys) (newer-all t xs (All-tail (IsNewer t) x xs h)))
 
-newer-none : (t : ℕ) (xs : List Arena) → All (λ (b : Arena). b.stamp ≤ t) xs → newer t xs ≡ []
+pub newer-none : (t : ℕ) (xs : List Arena) → All (λ (b : Arena). b.stamp ≤ t) xs → newer t xs ≡ []
 newer-none t [] h = refl
 newer-none t (x ∷ xs) h = rw (le-ltb t x.stamp (All-head (λ (b : Arena). b.stamp ≤ t) x xs h)) (newer-none t xs (All-tail (λ (b : Arena). b.stamp ≤ t) x xs h))
 

@@ -12,3 +12,5 @@ mod Runs
 mod Staffed
 mod Totals
 mod Assigned
+mod Searched
+mod InNeed

@@ -1,10 +1,10 @@
 -- How the market keeps its arenas: a table by number, and for each level a list by stamp.
-use Rattle.std.specs.Prelude.{◌≡◌, ◌≢◌, ℕ, ◌-◌, ◌<◌, ◌≤◌, Bool, nat_lt, if◌then◌else◌, List, [], ◌∷◌, length, map, slice_index_or}
+use Rattle.std.specs.Prelude.{◌≡◌, ◌≢◌, ℕ, ◌+◌, ◌-◌, ◌<◌, ◌≤◌, Bool, nat_lt, if◌then◌else◌, List, [], ◌∷◌, length, take, map, slice_index_or}
 use Rattle.std.specs.List.{All, AllPairs, filter, flat_map, range_with_len, count_by}
 use Rattle.market_types.specs.declared.row.Row.{Row}
 use Rattle.market_types.specs.State.{Arena}
 use Rattle.market_types.specs.Claims.{request_of, is_mandated}
-use Rattle.market_types.specs.Allotment.{at_level}
+use Rattle.market_types.specs.Allotment.{at_level, total_request}
 
 -- the arenas with one more, before the first that is older
 abbrev pub insert_arena : Arena → List Arena → List Arena
@@ -40,6 +40,12 @@ IsByNumber arenas = AllPairs (λ (a b : Arena). a.number < b.number) arenas
 -- no number is used twice
 abbrev pub IsApart : List Arena → Type 0
 IsApart arenas = AllPairs (λ (a b : Arena). a.number ≢ b.number) arenas
+
+-- the arenas before a place ask for the sum at most, and with the one there for more
+pub record IsPassedAt (sum place : ℕ) (arenas : List Arena) : Type 0 where
+  pub in_range : place < length arenas
+  pub within : total_request (take place arenas) ≤ sum
+  pub beyond : sum < total_request (take (place + 1) arenas)
 
 -- what holds of the living arenas: they are at most 1,024, each at a level that a market can have, newest first
 pub record IsKept (arenas : List Arena) : Type 0 where

@@ -1,5 +1,5 @@
 //! The living arenas: a table by number, and for each level a list by stamp.
-ghost use Rattle.std.specs.Prelude.{◌≡◌, ℕ, ◌-◌, slice_index, ◌+◌, ◌*◌, ◌<◌, ◌≤◌, ◌∷◌, [], None, Some, Ok, Err, length, slice_get, nat_lt, if◌then◌else◌, option_map, IsSome, OnSome, IfNone, IfSome, IfOk, IfErr, OnOk, OnErr};
+ghost use Rattle.std.specs.Prelude.{◌≡◌, ℕ, ◌-◌, slice_index, ◌+◌, ◌*◌, ◌<◌, ◌≤◌, ◌∷◌, [], None, Some, Ok, Err, length, take, slice_get, nat_lt, if◌then◌else◌, option_map, IsSome, OnSome, IfNone, IfSome, IfOk, IfErr, OnOk, OnErr};
 ghost use Rattle.std.specs.List.{All, find};
 ghost use Rattle.market_types.specs.State.{Arena};
 ghost use Rattle.market_types.specs.Claims.{is_mandated};
@@ -7,7 +7,7 @@ ghost use Rattle.market_types.specs.Allotment.{total_request, at_level, has_mand
 ghost use Rattle.market_types.specs.Step.{arena_at, with_claim, without};
 ghost use Rattle.allotment.specs.Levels.{number_of};
 ghost use Rattle.market_core.specs.Changed.{changed_at};
-ghost use Rattle.market_core.specs.Store.{IsKept, newer, entry_of, in_levels};
+ghost use Rattle.market_core.specs.Store.{IsKept, IsPassedAt, newer, entry_of, in_levels};
 ghost use Rattle.level_list.specs.Bits.{bits};
 
 use crate::change::Change;
@@ -140,7 +140,7 @@ impl Arenas {
     }
 
     /// How many arenas a level, 1 to 8, has.
-    fn count(&self, level: u32) -> usize
+    pub fn count(&self, level: u32) -> usize
         requires low { 1 ≤ level }
         requires high { level ≤ 8 }
         ensures exact { result ≡ length (at_level level self.now) }
@@ -148,16 +148,20 @@ impl Arenas {
         self.lists[level as usize - 1].len()
     }
 
-    /// The arena at a place, from 0 on, of a level, 1 to 8.
-    fn walk(&self, level: u32, place: usize) -> Option<ArenaRow>
+    /// The arena at a place, from 0 on, of a level, 1 to 8, that has so many.
+    pub fn walk(&self, level: u32, place: usize) -> (Option<ArenaRow>, u32)
         requires low { 1 ≤ level }
         requires high { level ≤ 8 }
         requires within { place < length (at_level level self.now) }
-        ensures exact { result ≡ slice_get (at_level level self.now) place }
-        ensures there { IfSome result (λ row. arena_at row.number self.now ≡ Some row) }
+        ensures exact { result.0 ≡ slice_get (at_level level self.now) place }
+        ensures there { IfSome result.0 (λ row. arena_at row.number self.now ≡ Some row) }
+        ensures few { result.1 ≤ 22 }
     {
-        let (row, _) = self.lists[level as usize - 1].walk(place);
-        self.get(row?.arena)
+        let (row, visits) = self.lists[level as usize - 1].walk(place);
+        let Some(row) = row else {
+            return (None, visits);
+        };
+        (self.get(row.arena), visits)
     }
 
     /// The arena at a place, from 0 on, of a level.
@@ -168,14 +172,16 @@ impl Arenas {
         if place >= self.count(level.get()) {
             return None;
         }
-        self.walk(level.get(), place)
+        let (row, _) = self.walk(level.get(), place);
+        row
     }
 
     /// The arena at a place, from 0 on, of the levels up to one in order.
-    pub fn nth(&self, levels: u32, place: usize) -> Option<ArenaRow>
+    pub fn nth(&self, levels: u32, place: usize) -> (Option<ArenaRow>, u32)
         requires few { levels ≤ 8 }
-        ensures exact { result ≡ slice_get (in_levels levels self.now) place }
-        ensures there { IfSome result (λ row. arena_at row.number self.now ≡ Some row) }
+        ensures exact { result.0 ≡ slice_get (in_levels levels self.now) place }
+        ensures there { IfSome result.0 (λ row. arena_at row.number self.now ≡ Some row) }
+        ensures few { result.1 ≤ 22 }
     {
         let mut rest = place;
         for level in 0..levels {
@@ -185,7 +191,37 @@ impl Arenas {
             }
             rest -= count;
         }
-        None
+        (None, 0)
+    }
+
+    /// What the arenas of a level, 1 to 8, before a place ask for together.
+    pub fn sum_to(&self, level: u32, place: usize) -> (u64, u32)
+        requires low { 1 ≤ level }
+        requires high { level ≤ 8 }
+        ensures exact { result.0 ≡ total_request (take place (at_level level self.now)) }
+        ensures few { result.1 ≤ 44 }
+    {
+        let list = &self.lists[level as usize - 1];
+        if place == 0 {
+            return (0, 0);
+        }
+        let (row, first) = list.walk(place);
+        let Some(row) = row else {
+            return (list.demand(), first);
+        };
+        let (sum, more) = list.before(row.stamp);
+        (sum, first + more)
+    }
+
+    /// The place of a level, 1 to 8, up to and with which its arenas ask for more than `sum`, `None` where they never do.
+    pub fn place_of_sum(&self, level: u32, sum: u64) -> (Option<usize>, u32)
+        requires low { 1 ≤ level }
+        requires high { level ≤ 8 }
+        ensures some { IfSome result.0 (λ place. IsPassedAt sum place (at_level level self.now)) }
+        ensures none { IfNone result.0 (total_request (at_level level self.now) ≤ sum) }
+        ensures few { result.1 ≤ 22 }
+    {
+        self.lists[level as usize - 1].place_of_sum(sum)
     }
 
     /// A new arena, newer than all others.

@@ -4,7 +4,7 @@ use Rattle.std.specs.List.{filter, find}
 use Rattle.std.specs.Option.{option_map}
 use Rattle.market_types.specs.State.{State, Arena}
 use Rattle.market_types.specs.Counts.{Counts}
-use Rattle.market_types.specs.Allotment.{in_order, alloc, active, need}
+use Rattle.market_types.specs.Allotment.{in_order, alloc, active, hire, need}
 use Rattle.recall_hire.specs.declared.rows.Staffing.{Staffing}
 
 -- how many workers a row has too many
@@ -46,9 +46,17 @@ NoneAllotted rows from to = (place : ℕ) → from ≤ place → place < to → 
 abbrev pub row_of : State → Arena → Staffing
 row_of s a = record { arena = a.number; allotted = alloc s a.number; active = active s a.number }
 
+-- the rows of arenas of a market
+abbrev pub rows_among : State → List Arena → List Staffing
+rows_among s arenas = map (row_of s) arenas
+
 -- the rows of a market
 abbrev pub rows_of : State → List Staffing
-rows_of s = map (row_of s) (in_order s)
+rows_of s = rows_among s (in_order s)
+
+-- the first of these arenas that a worker is needed at
+abbrev pub need_among : State → List Arena → Option ℕ
+need_among s arenas = option_map (λ (a : Arena). a.number) (find (λ (a : Arena). nat_lt 0 (hire s a.number)) arenas)
 
 -- the arena that a worker goes to next
 abbrev pub need_of : State → Option ℕ

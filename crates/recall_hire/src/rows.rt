@@ -29,7 +29,8 @@ pub fn hire(active: u32, allotted: u32) -> u32
     allotted.saturating_sub(active)
 }
 
-/// Arenas in the order in which they are served.
+/// Arenas in the order in which they are served. Rows that stand in trees say with each answer how many nodes they
+/// entered for it.
 pub trait Rows {
     /// The rows in order.
     ghost rows: { Self → List Staffing };
@@ -39,23 +40,26 @@ pub trait Rows {
         ensures exact { result ≡ length (rows self.now) };
 
     /// The row at a place, from 0.
-    fn row(&self, place: usize) -> Staffing
+    fn row(&self, place: usize) -> (Staffing, u32)
         requires known { place < length (rows self.now) }
-        ensures exact { slice_get (rows self.now) place ≡ Some result };
+        ensures exact { slice_get (rows self.now) place ≡ Some result.0 };
 
     /// The first place from `place` on whose row is allotted a worker. Looks at each row on the way, unless the rows
     /// know better.
-    fn next_allotted(&self, place: usize) -> Option<usize>
-        ensures found { IfSome result (λ next. (place ≤ next) × (next < length (rows self.now))) }
-        ensures allotted { IfSome result (λ next. 0 < allotted_at (rows self.now) next) }
-        ensures first { IfSome result (λ next. NoneAllotted (rows self.now) place next) }
-        ensures none { IfNone result (NoneAllotted (rows self.now) place (length (rows self.now))) }
+    fn next_allotted(&self, place: usize) -> (Option<usize>, u32)
+        ensures found { IfSome result.0 (λ next. (place ≤ next) × (next < length (rows self.now))) }
+        ensures allotted { IfSome result.0 (λ next. 0 < allotted_at (rows self.now) next) }
+        ensures first { IfSome result.0 (λ next. NoneAllotted (rows self.now) place next) }
+        ensures none { IfNone result.0 (NoneAllotted (rows self.now) place (length (rows self.now))) }
     {
+        let mut visits = 0_u32;
         for next in place..self.len() {
-            if self.row(next).allotted > 0 {
-                return Some(next);
+            let (row, more) = self.row(next);
+            visits = visits.saturating_add(more);
+            if row.allotted > 0 {
+                return (Some(next), visits);
             }
         }
-        None
+        (None, visits)
     }
 }

@@ -1,6 +1,7 @@
 //! What a command does.
 ghost use Rattle.std.specs.Prelude.{◌≡◌, ◌≤◌, ◌<◌, length, false, IsOk, IfOk, OnOk, OnErr};
-ghost use Rattle.market_types.specs.Step.{open_step, close_step, priority_step, resize_step, request_step, control_step, uncontrol_step, join_from, stay_from, leave_from, place_of, show_step, step};
+ghost use Rattle.market_types.specs.Step.{open_step, close_step, priority_step, resize_step, request_step, control_step, uncontrol_step, join_from, stay_from, leave_from, place_of, show_step, counts_of, step};
+ghost use Rattle.market_types.specs.declared.reply.Reply.TheVariants.{Listed};
 ghost use Rattle.market_core.specs.Memory.{takes_memory};
 ghost use Rattle.market_core.specs.Allotted.{IsStaffed};
 ghost use Rattle.market_core.specs.Visits.{most_visits, looks_in_order};
@@ -76,11 +77,11 @@ impl Market {
             Cmd::Request(arena, workers, mandatory) => Ok(self.request(arena, workers, mandatory)),
             Cmd::Control(value) => Ok((self.control(value)?, 0)),
             Cmd::Uncontrol(control) => Ok((self.uncontrol(control), 0)),
-            Cmd::Join => Ok((self.join(seat), 0)),
+            Cmd::Join => Ok(self.join(seat)),
             Cmd::Stay => Ok(self.stay(seat)),
             Cmd::Leave => Ok((self.leave(seat), 0)),
             Cmd::Show(arena) => Ok(self.show(arena)),
-            Cmd::Lists => Ok((Reply::Listed(self.lists(alloc)?), 0)),
+            Cmd::Lists => self.list(alloc),
             Cmd::Limit => Ok((Reply::Limits(self.limits()), 0)),
         }
     }
@@ -229,21 +230,22 @@ impl Market {
     }
 
     /// An unplaced seat goes to the first arena in need of a worker.
-    fn join(&mut self, seat: SeatNo) -> Reply
+    fn join(&mut self, seat: SeatNo) -> (Reply, u32)
         requires seat { seat < length self.old.seats }
-        ensures reply { result ≡ (join_from self.old seat (place_of self.old seat)).0 }
-        ensures staffed { IsStaffed result self.new }
+        ensures reply { result.0 ≡ (join_from self.old seat (place_of self.old seat)).0 }
+        ensures staffed { IsStaffed result.0 self.new }
         ensures next { self.new ≡ (join_from self.old seat (place_of self.old seat)).1 }
         ensures same_seats { length self.new.seats ≡ length self.old.seats }
     {
         if let Some(arena) = self.roster.at(seat) {
-            return Reply::Refused(Fault::AlreadyPlaced(arena));
+            return (Reply::Refused(Fault::AlreadyPlaced(arena)), 0);
         }
-        let Some(arena) = self.in_need() else {
-            return Reply::Idle;
+        let (arena, visits) = self.in_need();
+        let Some(arena) = arena else {
+            return (Reply::Idle, visits);
         };
         self.roster.place(seat, arena);
-        Reply::Placed(arena)
+        (Reply::Placed(arena), visits)
     }
 
     /// The seat stays at its arena, unless that has a worker too many.
@@ -292,5 +294,14 @@ impl Market {
         };
         let (view, visits) = self.see(row);
         (Reply::Shown(view), visits)
+    }
+
+    /// The arenas with workers too many, and those with too few.
+    fn list(&self, alloc: Global) -> Result<(Reply, u32), AllocError>
+        ensures reply { IfOk result (λ answer. answer.0 ≡ Listed (counts_of self.now)) }
+        ensures staffed { IfOk result (λ answer. IsStaffed answer.0 self.now) }
+    {
+        let (lists, visits) = self.lists(alloc)?;
+        Ok((Reply::Listed(lists), visits))
     }
 }
