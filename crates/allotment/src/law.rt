@@ -32,11 +32,14 @@ pub fn no_carry_to_keep()
         → share_of given asked (carry_after given asked 0 (at_level a.level before)) a ≤ request_of a.claim }
 {}
 
-/// What is given out is the bound: the levels are assigned it together, and so are the arenas allotted it.
+/// What is given out is the bound: the levels are assigned it together, and so are the arenas allotted it. Each level's
+/// arenas are allotted what the level is assigned.
 pub fn bound_is_given_out()
     ensures asked { (s : State) (demands : List ℕ) → IsLeveled s → AreDemandsOf s demands
         → sum demands ≡ total_request s.arenas }
     ensures assigned { (s : State) → IsLeveled s → sum_by (assigned s) (levels_of s) ≡ bound_of s }
     ensures allotted { (s : State) → IsLeveled s
         → sum_by workers_of (carried (assigned s) (demand s) 0 (in_order s)) ≡ bound_of s }
+    ensures in_a_level { (s : State) (level : ℕ) → 1 ≤ level
+        → sum_by workers_of (carried (assigned s) (demand s) 0 (at_level level s.arenas)) ≡ assigned s level }
 {}

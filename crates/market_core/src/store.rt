@@ -1,18 +1,20 @@
 //! The living arenas: a table by number, and for each level a list by stamp.
-ghost use Rattle.std.specs.Prelude.{◌≡◌, ℕ, ◌-◌, slice_index, ◌+◌, ◌*◌, ◌<◌, ◌≤◌, ◌∷◌, [], None, Some, length, take, slice_get, nat_lt, if◌then◌else◌, option_map, IfNone, IfSome, IfOk, OnOk, OnErr};
+ghost use Rattle.std.specs.Prelude.{◌≡◌, ℕ, ◌-◌, slice_index, ◌+◌, ◌*◌, ◌<◌, ◌≤◌, ◌∷◌, [], None, Some, Ok, Err, length, take, slice_get, nat_lt, if◌then◌else◌, option_map, IsSome, OnSome, IfNone, IfSome, IfOk, IfErr, OnOk, OnErr};
 ghost use Rattle.std.specs.List.{All, find};
 ghost use Rattle.market_types.specs.State.{Arena};
 ghost use Rattle.market_types.specs.Claims.{is_mandated};
 ghost use Rattle.market_types.specs.Allotment.{total_request, at_level, has_mandatory};
 ghost use Rattle.market_types.specs.Step.{arena_at, with_claim, without};
 ghost use Rattle.allotment.specs.Levels.{number_of};
+ghost use Rattle.market_core.specs.Changed.{changed_at};
 ghost use Rattle.market_core.specs.Store.{IsKept, IsPassing, newer, entry_of, in_levels};
 ghost use Rattle.level_list.specs.Bits.{bits};
 
+use crate::change::Change;
 use crate::row::{ArenaRow, place_of};
 use arena_record::ArenaRecord;
 use level_list::{LevelList, Passing};
-use market_types::{ArenaId, Level, Row};
+use market_types::{ArenaId, Fault, Level, Row};
 use std::alloc::{AllocError, Global};
 use std::marker::Model;
 
@@ -231,48 +233,56 @@ impl Arenas {
         Ok(visits)
     }
 
-    /// The arena asks for something else.
-    pub fn set_claim(&mut self, arena: ArenaId, claim: ArenaRecord) -> u32
-        ensures exact { self.new ≡ with_claim arena claim self.old }
-        ensures visits { result ≤ 2 * bits (length self.old) }
+    /// Changes an arena's claim, unless the change is refused or no living arena has this number. Gives the claim then.
+    pub fn change(&mut self, arena: ArenaId, change: Change) -> Result<(ArenaRecord, u32), Fault>
+        ensures claim { IfOk result (λ done. changed_at (arena_at arena self.old) change ≡ Ok done.0) }
+        ensures next { IfOk result (λ done. self.new ≡ with_claim arena done.0 self.old) }
+        ensures fault { IfErr result (λ fault. changed_at (arena_at arena self.old) change ≡ Err fault) }
+        ensures unchanged { OnErr result (self.new ≡ self.old) }
+        ensures visits { IfOk result (λ done. done.1 ≤ 2 * bits (length self.old)) }
     {
         let Some(place) = place_of(&self.rows, arena) else {
-            return 0;
+            return Err(Fault::NoArena);
         };
         let old = self.rows[place];
+        let claim = change.made_to(old.claim())?;
         let new = old.with_claim(claim);
         self.rows[place] = new;
         self.enqueued = self.enqueued - counted(old.claim()) + counted(claim);
         let entry = new.entry();
         let list = &mut self.lists[old.level().get() as usize - 1];
-        list.set(entry.stamp, entry.request, entry.mandated)
+        let visits = list.set(entry.stamp, entry.request, entry.mandated);
+        Ok((claim, visits))
     }
 
-    /// The arena goes.
-    pub fn remove(&mut self, arena: ArenaId) -> u32
+    /// The arena goes; `None` where no living arena has this number.
+    pub fn remove(&mut self, arena: ArenaId) -> Option<u32>
         ensures exact { self.new ≡ without arena self.old }
-        ensures visits { result ≤ 2 * bits (length self.old) }
+        ensures there { OnSome result (IsSome (arena_at arena self.old)) }
+        ensures missing { IfNone result (arena_at arena self.old ≡ None) }
+        ensures unchanged { IfNone result (self.new ≡ self.old) }
+        ensures visits { IfSome result (λ visits. visits ≤ 2 * bits (length self.old)) }
     {
-        let Some(place) = place_of(&self.rows, arena) else {
-            return 0;
-        };
+        let place = place_of(&self.rows, arena)?;
         let row = self.rows.remove(place);
         self.enqueued -= counted(row.claim());
         let list = &mut self.lists[row.level().get() as usize - 1];
         let (_taken, visits) = list.take(row.stamp());
-        visits
+        Some(visits)
     }
 
-    /// The arena goes first at this level, with a new stamp.
-    pub fn promote(&mut self, row: ArenaRow, stamp: u32, level: Level) -> u32
-        requires there { arena_at row.number self.old ≡ Some row }
+    /// The arena goes first at this level, with a new stamp; `None` where no living arena has this number.
+    pub fn promote(&mut self, arena: ArenaId, stamp: u32, level: Level) -> Option<u32>
         requires newest { All (λ (a : Arena). a.stamp < stamp) self.old }
-        ensures exact { self.new ≡ record row { stamp = stamp; level = level } ∷ without row.number self.old }
-        ensures visits { result ≤ 4 * bits (length self.old) + 1 }
+        ensures there { OnSome result (IsSome (arena_at arena self.old)) }
+        ensures exact { (row : Arena) → arena_at arena self.old ≡ Some row
+            → self.new ≡ record row { stamp = stamp; level = level } ∷ without row.number self.old }
+        ensures missing { IfNone result (arena_at arena self.old ≡ None) }
+        ensures unchanged { IfNone result (self.new ≡ self.old) }
+        ensures visits { IfSome result (λ visits. visits ≤ 4 * bits (length self.old) + 1) }
     {
-        let Some(place) = place_of(&self.rows, row.arena()) else {
-            unreachable!();
-        };
+        let place = place_of(&self.rows, arena)?;
+        let row = self.rows[place];
         let from = &mut self.lists[row.level().get() as usize - 1];
         let (taken, out) = from.take(row.stamp());
         let Some(taken) = taken else {
@@ -281,7 +291,7 @@ impl Arenas {
         let to = &mut self.lists[level.get() as usize - 1];
         let back = to.put(taken, stamp);
         self.rows[place] = row.promoted(stamp, level);
-        out + back
+        Some(out + back)
     }
 }
 

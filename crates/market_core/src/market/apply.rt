@@ -7,6 +7,7 @@ ghost use Rattle.market_core.specs.Allotted.{IsStaffed};
 ghost use Rattle.market_core.specs.Visits.{most_visits, looks_in_order};
 
 use super::Market;
+use crate::change::Change;
 use crate::row::ArenaRow;
 use crate::store::Arenas;
 use arena_record::ArenaRecord;
@@ -132,15 +133,17 @@ impl Market {
         ensures same_seats { length self.new.seats ≡ length self.old.seats }
         ensures visits { result.1 ≤ most_visits self.old }
     {
-        if self.arenas.get(arena).is_none() {
-            return (Reply::Refused(Fault::NoArena), 0);
-        }
         let active = self.roster.active(arena);
         if active > 0 {
-            return (Reply::Refused(Fault::Busy(active)), 0);
+            return match self.arenas.get(arena) {
+                Some(_) => (Reply::Refused(Fault::Busy(active)), 0),
+                None => (Reply::Refused(Fault::NoArena), 0),
+            };
         }
-        let visits = self.arenas.remove(arena);
-        (Reply::Closed, visits)
+        match self.arenas.remove(arena) {
+            Some(visits) => (Reply::Closed, visits),
+            None => (Reply::Refused(Fault::NoArena), 0),
+        }
     }
 
     /// The arena goes first, at this level.
@@ -154,13 +157,15 @@ impl Market {
         if self.levels < level.get() {
             return (Reply::Refused(Fault::BadLevel), 0);
         }
-        let Some(row) = self.arenas.get(arena) else {
+        if self.next_stamp > LAST {
+            return match self.arenas.get(arena) {
+                Some(_) => (Reply::Refused(Fault::OutOfNumbers), 0),
+                None => (Reply::Refused(Fault::NoArena), 0),
+            };
+        }
+        let Some(visits) = self.arenas.promote(arena, self.next_stamp, level) else {
             return (Reply::Refused(Fault::NoArena), 0);
         };
-        if self.next_stamp > LAST {
-            return (Reply::Refused(Fault::OutOfNumbers), 0);
-        }
-        let visits = self.arenas.promote(row, self.next_stamp, level);
         self.next_stamp += 1;
         (Reply::Moved, visits)
     }
@@ -176,15 +181,10 @@ impl Market {
         if let Err(fault) = ArenaRecord::new(slots, reserved) {
             return (Reply::Refused(fault), 0);
         }
-        let Some(row) = self.arenas.get(arena) else {
-            return (Reply::Refused(Fault::NoArena), 0);
-        };
-        let mut claim = row.claim();
-        if claim.resize(slots, reserved).is_err() {
-            unreachable!();
+        match self.arenas.change(arena, Change::Resize(slots, reserved)) {
+            Ok((claim, visits)) => (Reply::Resized(claim.request()), visits),
+            Err(fault) => (Reply::Refused(fault), 0),
         }
-        let visits = self.arenas.set_claim(arena, claim);
-        (Reply::Resized(claim.request()), visits)
     }
 
     /// Adds to what the arena asks for.
@@ -195,15 +195,10 @@ impl Market {
         ensures same_seats { length self.new.seats ≡ length self.old.seats }
         ensures visits { result.1 ≤ most_visits self.old }
     {
-        let Some(row) = self.arenas.get(arena) else {
-            return (Reply::Refused(Fault::NoArena), 0);
-        };
-        let mut claim = row.claim();
-        if let Err(fault) = claim.add(workers, mandatory) {
-            return (Reply::Refused(fault), 0);
+        match self.arenas.change(arena, Change::Add(workers, mandatory)) {
+            Ok((claim, visits)) => (Reply::Requested(claim.request()), visits),
+            Err(fault) => (Reply::Refused(fault), 0),
         }
-        let visits = self.arenas.set_claim(arena, claim);
-        (Reply::Requested(claim.request()), visits)
     }
 
     /// A new limit on parallelism.
