@@ -57,6 +57,35 @@ fn a_thousand_arenas_share_all_workers(rt: HostRuntime) {
     assert!(&rt; visits >= 1 && visits <= 45);
 }
 
+/// Of 1,024 arenas that ask for one worker each, 64 are allotted one: each sixteenth in order, newest first. A Join finds
+/// the next of them past those that are filled, and enters no more than two paths of the tree for each.
+#[test]
+fn joins_pass_over_idle_arenas(rt: HostRuntime) {
+    let Ok(mut market) = Market::new(rt.alloc(), 65, 64, 64, 3) else {
+        panic!(&rt; "no market");
+    };
+    let normal = level(&rt, 2);
+    for number in 1..1025 {
+        let _ = answer(&rt, rt.alloc(), &mut market, Cmd::Open(8, 1, normal));
+        let request = Cmd::Request(ArenaId::new(number), 1, 0);
+        let asked = answer(&rt, rt.alloc(), &mut market, request);
+        assert!(&rt; matches!(asked, Reply::Requested(1)));
+    }
+    for joined in 0..64_u8 {
+        assert!(&rt; joined < market.seats());
+        let seat = SeatNo::new(joined);
+        let Ok((reply, visits)) = market.apply_counted(rt.alloc(), seat, Cmd::Join) else {
+            panic!(&rt; "no memory");
+        };
+        let due = 1009 - 16 * u32::from(joined);
+        assert!(&rt; matches!(&reply, Reply::Placed(arena) if arena.get() == due));
+        let passed = u64::from(joined) + 1;
+        assert!(&rt; visits >= 2 * passed && visits <= 44 * passed);
+    }
+    let lists = answer(&rt, rt.alloc(), &mut market, Cmd::Lists);
+    assert!(&rt; matches!(&lists, Reply::Listed(lists) if lists.recalls.is_empty() && lists.hires.is_empty()));
+}
+
 #[test]
 fn numbers_run_out(rt: HostRuntime) {
     let Ok(mut market) = Market::new(rt.alloc(), 8, 64, 4, 3) else {
