@@ -1,1 +1,2 @@
 pub mod Done
+pub mod Turns

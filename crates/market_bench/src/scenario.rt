@@ -1,5 +1,5 @@
 //! What is measured.
-ghost use Rattle.std.specs.Prelude.{◌≡◌, ◌<◌, ◌≤◌};
+ghost use Rattle.std.specs.Prelude.{◌≡◌, ◌<◌, ◌≤◌, IfOk};
 
 use crate::fault::BenchFault;
 use crate::stage::Stage;
@@ -61,6 +61,7 @@ impl Scenario {
     pub fn stage(self, alloc: Global, levels: u32, arenas: u32) -> Result<Stage, BenchFault>
         requires levels { (1 ≤ levels) × (levels ≤ 8) }
         requires arenas { (1 ≤ arenas) × (arenas ≤ 1024) }
+        ensures arenas { IfOk result (λ stage. stage.arenas ≡ arenas) }
     {
         if self != Scenario::JoinInVain {
             return Stage::new(alloc, 65, levels, arenas);
