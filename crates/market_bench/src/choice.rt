@@ -1,4 +1,5 @@
 //! The words of the command line.
+use crate::fault::BenchFault;
 use crate::table::Content;
 use std::rt::Env;
 use std::{env, io};
@@ -27,8 +28,17 @@ pub enum Choice {
 }
 
 impl Choice {
-    /// Reads the words of the command line.
-    pub fn read<R: Env + Alloc>(rt: &R) -> io::Result<Choice> {
+    /// Reads the words of the command line. Words that are not UTF-8 are none that the program knows.
+    pub fn read<R: Env + Alloc>(rt: &R) -> Result<Choice, BenchFault> {
+        match Choice::of_words(rt) {
+            Ok(choice) => Ok(choice),
+            Err(error) if error.kind() == io::ErrorKind::InvalidData => Ok(Choice::Unknown),
+            Err(error) => Err(BenchFault::from(error)),
+        }
+    }
+
+    /// What the words choose. An error is that of reading them.
+    fn of_words<R: Env + Alloc>(rt: &R) -> io::Result<Choice> {
         let mut words = env::args(rt)?;
         let _program = words.next();
         let first = words.next();

@@ -12,7 +12,7 @@ pub enum BenchFault {
     /// The market refused a command, so its time would say nothing.
     #[error("a command was refused")]
     Refused,
-    /// The clock or standard output failed.
+    /// The clock, standard output or the command line failed.
     #[error("{0}")]
     System(io::Error),
 }
@@ -30,6 +30,9 @@ impl From<AllocError> for BenchFault {
 
 impl From<io::Error> for BenchFault {
     fn from(error: io::Error) -> BenchFault {
-        BenchFault::System(error)
+        match error.kind() {
+            io::ErrorKind::OutOfMemory => BenchFault::Memory,
+            _ => BenchFault::System(error),
+        }
     }
 }

@@ -20,9 +20,9 @@ const BAD_COMMAND_LINE: u8 = 2;
 /// The exit status of want of memory, or of a fault of the system.
 const SYSTEM_FAULT: u8 = 3;
 
-/// Does what was chosen.
-fn obey(rt: &HostRuntime, choice: Choice) -> Result<u8, BenchFault> {
-    match choice {
+/// Does what the words choose.
+fn obey(rt: &HostRuntime) -> Result<u8, BenchFault> {
+    match Choice::read(rt)? {
         Choice::Table(content) => print_table(rt, content)?,
         Choice::Help => println!(rt; "{USAGE}")?,
         Choice::Unknown => {
@@ -34,8 +34,7 @@ fn obey(rt: &HostRuntime, choice: Choice) -> Result<u8, BenchFault> {
 }
 
 fn main(rt: HostRuntime) -> ExitCode {
-    let choice = Choice::read(&rt).unwrap_or(Choice::Unknown);
-    let status = match obey(&rt, choice) {
+    let status = match obey(&rt) {
         Ok(status) => status,
         Err(fault) => {
             // Where standard error takes nothing, the status tells it alone.
