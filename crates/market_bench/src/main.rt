@@ -11,7 +11,6 @@ mod table;
 use crate::choice::{Choice, USAGE};
 use crate::fault::BenchFault;
 use crate::table::print_table;
-use std::io;
 use std::process::ExitCode;
 
 /// The exit status of a bad command line.

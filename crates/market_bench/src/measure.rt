@@ -1,5 +1,5 @@
 //! How long a turn takes.
-ghost use Rattle.std.specs.Prelude.{◌≡◌, ◌<◌, ◌≤◌, ◌/◌};
+ghost use Rattle.std.specs.Prelude.{◌≤◌};
 ghost use Rattle.std.specs.List.{All, Contains};
 
 use crate::fault::BenchFault;
