@@ -97,6 +97,13 @@ share_of-before K D before row p =
     ap (λ carry. share_of K D carry row) (carry_after-before K D row.level before)
     ∙ quotient-none (request_of row.claim) (K row.level) (D row.level) (total_request (at_level row.level before)) p
 
+-- and as the difference of what is due with the arena and without
+pub share_of-difference : (K D : ℕ → ℕ) (before : List Arena) (row : Arena) → 0 < D row.level
+    → share_of K D (carry_after K D 0 (at_level row.level before)) row
+    ≡ K row.level * (total_request (at_level row.level before) + request_of row.claim) / D row.level - K row.level * total_request (at_level row.level before) / D row.level
+share_of-difference K D before row p =
+    share_of-before K D before row p ∙ sym (share-carried (K row.level) (D row.level) (total_request (at_level row.level before)) (request_of row.claim) p)
+
 -- no arena is allotted more than it asks for
 few : (q k d b : ℕ) → k ≤ d → cond (eqb q 0) 0 ((q * k + k * b % d) / d) ≤ q
 few q k d b h =

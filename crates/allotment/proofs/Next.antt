@@ -22,6 +22,12 @@ past-reach k d g sum p q h =
     let due : g + 1 ≤ k * sum / d = (le-div_iff_mul-le {k = d} {x = g + 1} {y = k * sum} q).1 above in
     omega arith
 
+-- the sum for which they are due is not beyond it
+pub reach-from : (k d sum : ℕ) → 0 < k → 0 < d → sum ≤ reach k d (k * sum / d)
+reach-from k d sum p q =
+    let below : k * sum < (k * sum / d + 1) * d = (div-lt_iff_lt-mul {k = d} {x = k * sum} {y = k * sum / d + 1} q).0 (omega arith) in
+    (le-div_iff_mul-le {k = k} {x = sum} {y = (k * sum / d + 1) * d - 1} p).1 (omega arith)
+
 -- a greater sum is given no fewer
 given-more : (k d a b : ℕ) → 0 < d → a ≤ b → k * a / d ≤ k * b / d
 given-more k d a b q h =

@@ -53,7 +53,7 @@ sum-carried-none K D c (x ∷ xs) e =
     omega (arith, sum_by-cons workers (x.number, share_of K D c x) (carried K D (carry_past K D c x) xs), sum-carried-none K D (carry_past K D c x) xs (omega arith))
 
 -- a level's arenas together are allotted what the level is assigned
-pub sum-carried-whole : (s : State) (K : ℕ → ℕ) (level : ℕ) → K level ≤ demand s level → sum_by workers (carried K (demand s) 0 (at_level level s.arenas)) ≡ K level
+sum-carried-whole : (s : State) (K : ℕ → ℕ) (level : ℕ) → K level ≤ demand s level → sum_by workers (carried K (demand s) 0 (at_level level s.arenas)) ≡ K level
 sum-carried-whole s K level h =
     let given = sum_by workers (carried K (demand s) 0 (at_level level s.arenas)) in
     let due : demand s level * given + carry_after K (demand s) 0 (at_level level s.arenas) ≡ K level * demand s level + 0 = sum-carried-level K (demand s) level 0 s.arenas in
@@ -188,6 +188,10 @@ assigned-within s level low =
           let here : get_or ds (level - 1) 0 ≡ 0 = map-range-above (demand s) 1 s.levels (level - 1) 0 p in
           omega arith
     ]
+
+-- a level's allotments are what it is assigned
+pub sum-carried-in_level : (s : State) (level : ℕ) → 1 ≤ level → sum_by workers (carried (assigned s) (demand s) 0 (at_level level s.arenas)) ≡ assigned s level
+sum-carried-in_level s level low = sum-carried-whole s (assigned s) level (assigned-within s level low)
 
 -- the allotments are the bound
 pub sum-carried : (s : State) → IsLeveled s → sum_by workers (carried (assigned s) (demand s) 0 (in_order s)) ≡ bound_of s

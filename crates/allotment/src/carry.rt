@@ -53,6 +53,7 @@ pub fn sum_before_next(assigned: u64, demand: u64, before: u64) -> u64
     requires within_demand { assigned ≤ demand }
     requires small_demand { demand < 2 ^ 32 }
     requires part_of_demand { before ≤ demand }
+    ensures not_behind { before ≤ result }
     ensures nobody { (others request : ℕ) → before ≤ others → others + request ≤ result
         → assigned * (others + request) / demand - assigned * others / demand ≡ 0 }
     ensures next { (others request : ℕ) → others ≤ result → result < others + request

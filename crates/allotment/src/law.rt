@@ -1,6 +1,6 @@
 //! Why the rule needs no carry to be kept, and that it gives out what there is. These functions do nothing: what they
 //! ensure holds wherever they are called.
-ghost use Rattle.std.specs.Prelude.{◌≡◌, ℕ, ◌+◌, ◌*◌, ◌/◌, ◌%◌, ◌<◌, ◌≤◌, List};
+ghost use Rattle.std.specs.Prelude.{◌≡◌, ℕ, ◌+◌, ◌-◌, ◌*◌, ◌/◌, ◌%◌, ◌<◌, ◌≤◌, List};
 ghost use Rattle.std.specs.List.{flat_map, sum, sum_by};
 ghost use Rattle.market_types.specs.State.{State, Arena};
 ghost use Rattle.market_types.specs.Claims.{request_of};
@@ -23,16 +23,23 @@ pub fn no_carry_to_keep()
         → share_of given asked (carry_after given asked 0 (at_level a.level before)) a
         ≡ (request_of a.claim * given a.level
         + given a.level * total_request (at_level a.level before) % asked a.level) / asked a.level }
+    ensures difference { (given asked : ℕ → ℕ) (before : List Arena) (a : Arena) → 0 < asked a.level
+        → share_of given asked (carry_after given asked 0 (at_level a.level before)) a
+        ≡ given a.level * (total_request (at_level a.level before) + request_of a.claim) / asked a.level
+        - given a.level * total_request (at_level a.level before) / asked a.level }
     ensures no_more_than_asked { (given asked : ℕ → ℕ) (before : List Arena) (a : Arena)
         → given a.level ≤ asked a.level
         → share_of given asked (carry_after given asked 0 (at_level a.level before)) a ≤ request_of a.claim }
 {}
 
-/// What is given out is the bound: the levels are assigned it together, and so are the arenas allotted it.
+/// What is given out is the bound: the levels are assigned it together, and so are the arenas allotted it. Each level's
+/// arenas are allotted what the level is assigned.
 pub fn bound_is_given_out()
     ensures asked { (s : State) (demands : List ℕ) → IsLeveled s → AreDemandsOf s demands
         → sum demands ≡ total_request s.arenas }
     ensures assigned { (s : State) → IsLeveled s → sum_by (assigned s) (levels_of s) ≡ bound_of s }
     ensures allotted { (s : State) → IsLeveled s
         → sum_by workers_of (carried (assigned s) (demand s) 0 (in_order s)) ≡ bound_of s }
+    ensures in_a_level { (s : State) (level : ℕ) → 1 ≤ level
+        → sum_by workers_of (carried (assigned s) (demand s) 0 (at_level level s.arenas)) ≡ assigned s level }
 {}

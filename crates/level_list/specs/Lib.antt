@@ -1,2 +1,3 @@
 pub use Rattle.prefix_tree.specs.Bits
 pub use Rattle.prefix_tree.specs.Rows
+pub use Rattle.prefix_tree.specs.declared.passing.Passing

@@ -10,7 +10,7 @@
 mod list;
 
 pub use list::LevelList;
-pub use prefix_tree::Taken;
+pub use prefix_tree::{Passing, Taken};
 
 #[cfg(test)]
 mod tests;

@@ -1,10 +1,10 @@
 //! The list, and its calls.
-ghost use Rattle.std.specs.Prelude.{◌≡◌, ◌+◌, ◌*◌, ◌<◌, ◌≤◌, ◌↔◌, [], ◌∷◌, length, slice_get, is_ok, if◌then◌else◌, All, IsTrue, IfNone, IfSome, IfOk, OnOk};
-ghost use Rattle.prefix_tree.specs.Rows.{IsNewestFirst, IsAbsent, IsPassedAt, requests, requests_above, first_mandated, row_at, place_of, without, set_row};
+ghost use Rattle.std.specs.Prelude.{◌≡◌, ◌+◌, ◌*◌, ◌<◌, ◌≤◌, ◌↔◌, [], ◌∷◌, length, take, slice_get, is_ok, if◌then◌else◌, All, IsTrue, IfNone, IfSome, IfOk, OnOk};
+ghost use Rattle.prefix_tree.specs.Rows.{IsNewestFirst, IsAbsent, IsPassing, requests, requests_above, first_mandated, row_at, place_of, without, set_row};
 ghost use Rattle.prefix_tree.specs.Bits.{bits};
 
 use market_types::Row;
-use prefix_tree::{Taken, Tree};
+use prefix_tree::{Passing, Taken, Tree};
 use std::alloc::{AllocError, Global};
 use std::marker::Model;
 
@@ -86,14 +86,21 @@ impl LevelList {
         self.rows.first_mandated()
     }
 
-    /// The place of the first row up to and with which the requests add up to more than `sum`, None where they never
-    /// do.
-    pub fn place_of_sum(&self, sum: u64) -> (Option<usize>, u32)
-        ensures some { IfSome result.0 (λ place. IsPassedAt sum place self.now) }
+    /// The first row up to and with which the requests add up to more than `sum`, None where they never do.
+    pub fn passing(&self, sum: u64) -> (Option<Passing>, u32)
+        ensures some { IfSome result.0 (λ passing. IsPassing sum passing self.now) }
         ensures none { IfNone result.0 (requests self.now ≤ sum) }
         ensures visits { result.1 ≤ 2 * bits (length self.now) }
     {
-        self.rows.place_of_sum(sum)
+        self.rows.passing(sum)
+    }
+
+    /// The sum of the requests of the rows before a place, which may lie beyond the end.
+    pub fn sum_to(&self, place: usize) -> (u64, u32)
+        ensures exact { result.0 ≡ requests (take place self.now) }
+        ensures visits { result.1 ≤ 2 * bits (length self.now) }
+    {
+        self.rows.sum_to(place)
     }
 
     /// The place of the row with that stamp, None where no row has it.

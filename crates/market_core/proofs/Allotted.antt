@@ -1,7 +1,7 @@
 -- What one arena is allotted.
-use Rattle.std.proofs.Common.{◌≡◌, ◌≢◌, ℕ, zero, suc, ◌+◌, ◌-◌, ◌*◌, ◌/◌, ◌%◌, ◌<◌, ◌≤◌, Bool, true, false, cond, eqb, ltb, min, List, [], ◌∷◌, ◌++◌, length, get_or, Option, Some, None, refl, sym, ap, subst, ◌∙◌, arith, inl, inr, append_assoc}
+use Rattle.std.proofs.Common.{◌≡◌, ◌≢◌, ℕ, zero, suc, ◌+◌, ◌-◌, ◌<◌, ◌≤◌, Bool, true, false, cond, eqb, ltb, List, [], ◌∷◌, ◌++◌, length, Option, Some, None, refl, sym, ap, subst, ◌∙◌, arith, inl, inr, append_assoc}
 use Rattle.std.specs.Prelude.{slice_index}
-use Rattle.std.specs.List.{All, filter, find, flat_map, list_any, range_with_len, sum_by}
+use Rattle.std.specs.List.{All, find, flat_map, list_any, range_with_len}
 use Rattle.std.proofs.lemmas.Bool.{cases_eq, ne_eqb, eq-eqb, cases_Bool, cases_lt, lt-ltb, le-ltb}
 use Rattle.std.proofs.lemmas.List.{get_or_past}
 use Rattle.std.proofs.lemmas.List.Elements.{All-nil, All-cons, All-append, All-filter, All-head, All-tail, filter-append}
@@ -23,7 +23,7 @@ at_level-own xs ys row =
     let p : Arena → Bool = λ (a : Arena). eqb a.level row.level in
     filter-append p xs (row ∷ ys) ∙ ap (λ zs. at_level row.level xs ++ zs) (rw (eq-eqb row.level row.level refl) refl)
 
-at_level-other : (k : ℕ) (xs ys : List Arena) (row : Arena) → row.level ≢ k → at_level k (xs ++ row ∷ ys) ≡ at_level k xs ++ at_level k ys
+pub at_level-other : (k : ℕ) (xs ys : List Arena) (row : Arena) → row.level ≢ k → at_level k (xs ++ row ∷ ys) ≡ at_level k xs ++ at_level k ys
 at_level-other k xs ys row n =
     let p : Arena → Bool = λ (a : Arena). eqb a.level k in
     filter-append p xs (row ∷ ys) ∙ ap (λ zs. at_level k xs ++ zs) (rw (ne_eqb row.level k n) refl)
@@ -74,7 +74,7 @@ count_at-missing a K D carry (x ∷ xs) h =
     rw (All-head (λ (y : Arena). has_number a y ≡ false) x xs h) (count_at-missing a K D (carry_past K D carry x) xs (All-tail (λ (y : Arena). has_number a y ≡ false) x xs h))
 
 -- an arena gets its share, by the carry of the arenas of its level before it
-count_at-found : (K D : ℕ → ℕ) (n : ℕ) (row : Arena) (arenas : List Arena) (levels : List ℕ) (f : Found n row arenas)
+pub count_at-found : (K D : ℕ → ℕ) (n : ℕ) (row : Arena) (arenas : List Arena) (levels : List ℕ) (f : Found n row arenas)
     → ((level : ℕ) → carry_after K D 0 (at_level level arenas) ≡ 0) → list_any (λ level. eqb level row.level) levels ≡ true
     → count_at n (carried K D 0 (flat_map (λ level. at_level level arenas) levels)) ≡ share_of K D (carry_after K D 0 (at_level row.level f.before)) row
 count_at-found K D n row arenas [] f whole e = cc
@@ -142,7 +142,7 @@ request-within n row arenas f =
 
 -- ---- where no arena has the number
 
-missing-at : (n : ℕ) (arenas : List Arena) → arena_at n arenas ≡ None → IsMissing n arenas
+pub missing-at : (n : ℕ) (arenas : List Arena) → arena_at n arenas ≡ None → IsMissing n arenas
 missing-at n [] e = All-nil (λ (b : Arena). has_number n b ≡ false)
 missing-at n (b ∷ bs) e =
     elim (cases_Bool (has_number n b)) [

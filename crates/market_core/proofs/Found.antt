@@ -1,16 +1,15 @@
 -- An arena that is found by its number, and what stands around it.
-use Rattle.std.proofs.Common.{◌≡◌, ◌≢◌, ℕ, zero, suc, ◌+◌, ◌-◌, ◌<◌, ◌≤◌, Bool, true, false, cond, eqb, ltb, not, List, [], ◌∷◌, ◌++◌, length, get_or, map, Option, Some, None, refl, sym, ap, ◌∙◌, arith, inl, inr}
-use Rattle.std.specs.List.{All, AllPairs, filter, find}
-use Rattle.std.proofs.lemmas.Bool.{cases_eq, cases_lt, cases_Bool, eq-eqb, ne_eqb, eqb-true, eqb-false, lt-ltb, le-ltb}
-use Rattle.std.proofs.lemmas.List.Elements.{All-nil, All-cons, All-head, All-tail, All-weaker, All-filter, All-append, All-map}
+use Rattle.std.proofs.Common.{◌≡◌, ◌≢◌, ℕ, suc, ◌<◌, ◌≤◌, true, false, ltb, List, [], ◌∷◌, ◌++◌, get_or, Some, refl, sym, ap, ◌∙◌, arith, inl, inr}
+use Rattle.std.specs.List.{All, AllPairs}
+use Rattle.std.proofs.lemmas.Bool.{cases_Bool, eq-eqb, ne_eqb, eqb-true, lt-ltb, le-ltb}
+use Rattle.std.proofs.lemmas.List.Elements.{All-nil, All-cons, All-head, All-tail, All-weaker, All-append}
 use Rattle.std.proofs.lemmas.List.Elements.{filter-append}
 use Rattle.std.proofs.lemmas.List.{append-nil}
-use Rattle.std.proofs.lemmas.List.Kept.{AllPairs-cons, AllPairs-filter}
 use Rattle.std.proofs.lemmas.Option.{same_Some}
-use Rattle.market_types.specs.State.{Claim, Arena}
-use Rattle.market_types.specs.Step.{arena_at, without, with_claim}
-use Rattle.market_core.specs.Store.{newer, by_stamp, insert_arena, IsNewestFirst, IsApart}
-use Rattle.market_core.proofs.ByStamp.{has_number, IsMissing, IsOlder, All-by_stamp, All-insert, Falls, Falls-by_stamp}
+use Rattle.market_types.specs.State.{Arena}
+use Rattle.market_types.specs.Step.{arena_at}
+use Rattle.market_core.specs.Store.{newer, IsNewestFirst, IsApart}
+use Rattle.market_core.proofs.ByStamp.{has_number, IsMissing, IsOlder}
 use Rattle.market_core.proofs.Entries.{Matches, LevelsAt}
 
 -- ---- pairs
@@ -120,7 +119,7 @@ newer-all : (t : ℕ) (xs : List Arena) → All (IsNewer t) xs → newer t xs �
 newer-all t [] h = refl
 newer-all t (x ∷ xs) h = rw (lt-ltb t x.stamp (All-head (IsNewer t) x xs h)) (ap (λ ys. x ∷ ys) (newer-all t xs (All-tail (IsNewer t) x xs h)))
 
-newer-none : (t : ℕ) (xs : List Arena) → All (λ (b : Arena). b.stamp ≤ t) xs → newer t xs ≡ []
+pub newer-none : (t : ℕ) (xs : List Arena) → All (λ (b : Arena). b.stamp ≤ t) xs → newer t xs ≡ []
 newer-none t [] h = refl
 newer-none t (x ∷ xs) h = rw (le-ltb t x.stamp (All-head (λ (b : Arena). b.stamp ≤ t) x xs h)) (newer-none t xs (All-tail (λ (b : Arena). b.stamp ≤ t) x xs h))
 

@@ -11,3 +11,6 @@ mod Order
 mod Runs
 mod Staffed
 mod Totals
+mod Assigned
+mod Searched
+mod InNeed

@@ -1,17 +1,14 @@
 -- What a command's step gives, by what is found on the way, and what a market keeps through it.
-use Rattle.std.proofs.Common.{◌≡◌, ◌≢◌, ℕ, zero, suc, ◌+◌, ◌-◌, ◌<◌, ◌≤◌, Bool, true, false, cond, eqb, ltb, leb, not, List, [], ◌∷◌, ◌++◌, length, map, Option, Some, None, Result, Ok, Err, ℤ, refl, sym, ap, ◌∙◌, arith, inl, inr}
-use Rattle.std.specs.Prelude.{◌==◌, ◌||◌, nat_lt, nat_le, unwrap_or, slice_get, slice_set}
-use Rattle.std.specs.List.{All, filter}
+use Rattle.std.proofs.Common.{◌≡◌, ℕ, ◌+◌, ◌<◌, ◌≤◌, cond, eqb, not, List, ◌∷◌, Option, Some, None, Result, Ok, Err, arith}
+use Rattle.std.specs.Prelude.{IsSome, IfOk, OnErr}
+use Rattle.std.specs.List.{All}
 use Rattle.std.proofs.lemmas.Bool.{cond_both}
 use Rattle.std.proofs.lemmas.List.Elements.{All-cons, All-weaker, All-filter, All-map}
 use Rattle.market_types.specs.State.{Claim, Arena, State}
-use Rattle.market_types.specs.Claims.{request_of, new_claim, added_claim, with_slots, resized_claim}
-use Rattle.market_types.specs.Allotment.{active, recall}
-use Rattle.market_types.specs.Step.{Outcome, refuse, arena_at, with_claim, without, if_arena, if_claim, opened, open_step, close_step, moved, priority_step, resize_step, request_step, place_of, with_place, stay_from, leave_from, show_step, view_of, last_number}
+use Rattle.market_types.specs.Step.{arena_at, with_claim, without, moved}
 use Rattle.market_types.specs.declared.reply.Fault.{Fault}
-use Rattle.market_types.specs.declared.reply.Fault.TheVariants.{NoArena, Busy, BadLevel, TooManyArenas, OutOfNumbers}
-use Rattle.market_types.specs.declared.reply.Reply.TheVariants.{Closed, Moved, Resized, Requested, Stays, Recalled, Left, Shown}
 use Rattle.market_core.specs.Sound.{IsSound}
+use Rattle.market_core.proofs.Found.{All-found}
 
 -- ---- what holds of each arena
 
@@ -37,6 +34,12 @@ sound-claimed s n c h =
       leveled = All-with_claim (λ (a : Arena). (1 ≤ a.level) × (a.level ≤ s.levels)) n c s.arenas (λ b k. k) h.leveled;
     }
 
+-- whether the change was made or refused
+pub sound-changed : (s : State) (n : ℕ) (arenas : List Arena) (r : Result (Claim × ℕ) Fault) → IsSound s
+    → IfOk r (λ done. arenas ≡ with_claim n done.0 s.arenas) → OnErr r (arenas ≡ s.arenas) → IsSound (record s { arenas = arenas })
+sound-changed s n arenas (Ok done) h next same = rw next (sound-claimed s n done.0 h)
+sound-changed s n arenas (Err fault) h next same = rw same h
+
 pub sound-removed : (s : State) (n : ℕ) → IsSound s → IsSound (record s { arenas = without n s.arenas })
 sound-removed s n h =
     record {
@@ -47,19 +50,6 @@ sound-removed s n h =
       numbered = All-without (λ (a : Arena). a.number < s.next_arena) n s.arenas h.numbered;
       stamped = All-without (λ (a : Arena). a.stamp < s.next_stamp) n s.arenas h.stamped;
       leveled = All-without (λ (a : Arena). (1 ≤ a.level) × (a.level ≤ s.levels)) n s.arenas h.leveled;
-    }
-
-pub sound-opened : (s : State) (a : Arena) → IsSound s → a.number ≡ s.next_arena → a.stamp ≡ s.next_stamp → (1 ≤ a.level) × (a.level ≤ s.levels)
-    → IsSound (record s { arenas = a ∷ s.arenas; next_arena = s.next_arena + 1; next_stamp = s.next_stamp + 1 })
-sound-opened s a h number stamp level =
-    record {
-      base = h.base;
-      hard = h.hard;
-      seats = h.seats;
-      levels = h.levels;
-      numbered = All-cons (λ (b : Arena). b.number < s.next_arena + 1) a s.arenas (omega arith) (All-weaker (λ (b : Arena). b.number < s.next_arena) (λ (b : Arena). b.number < s.next_arena + 1) (λ b k. omega arith) s.arenas h.numbered);
-      stamped = All-cons (λ (b : Arena). b.stamp < s.next_stamp + 1) a s.arenas (omega arith) (All-weaker (λ (b : Arena). b.stamp < s.next_stamp) (λ (b : Arena). b.stamp < s.next_stamp + 1) (λ b k. omega arith) s.arenas h.stamped);
-      leveled = All-cons (λ (b : Arena). (1 ≤ b.level) × (b.level ≤ s.levels)) a s.arenas level h.leveled;
     }
 
 pub sound-moved : (s : State) (row : Arena) (level : ℕ) → IsSound s → row.number < s.next_arena → (1 ≤ level) × (level ≤ s.levels)
@@ -77,3 +67,10 @@ sound-moved s row level h number in_levels =
           (All-weaker (λ (b : Arena). b.stamp < s.next_stamp) (λ (b : Arena). b.stamp < s.next_stamp + 1) (λ b k. omega arith) rest (All-without (λ (b : Arena). b.stamp < s.next_stamp) row.number s.arenas h.stamped));
       leveled = All-cons (λ (b : Arena). (1 ≤ b.level) × (b.level ≤ s.levels)) a rest in_levels (All-without (λ (b : Arena). (1 ≤ b.level) × (b.level ≤ s.levels)) row.number s.arenas h.leveled);
     }
+
+pub sound-promoted : (s : State) (n level : ℕ) (arenas : List Arena) (o : Option Arena) → IsSound s → arena_at n s.arenas ≡ o → IsSome o → (1 ≤ level) × (level ≤ s.levels)
+    → ((row : Arena) → arena_at n s.arenas ≡ Some row → arenas ≡ record row { stamp = s.next_stamp; level = level } ∷ without row.number s.arenas)
+    → IsSound (record s { arenas = arenas; next_stamp = s.next_stamp + 1 })
+sound-promoted s n level arenas None h found there in_levels moved = cc
+sound-promoted s n level arenas (Some row) h found there in_levels moved =
+    rw (moved row found) (sound-moved s row level h (All-found (λ (a : Arena). a.number < s.next_arena) n s.arenas row found h.numbered) in_levels)

@@ -1,26 +1,26 @@
 -- What the store keeps, through each change.
-use Rattle.std.proofs.Common.{◌≡◌, ◌≢◌, ℕ, zero, suc, ◌+◌, ◌-◌, ◌*◌, ◌<◌, ◌≤◌, Bool, true, false, cond, eqb, ltb, not, List, [], ◌∷◌, ◌++◌, length, get_or, set, take, drop, map, Option, Some, None, refl, sym, ap, ◌∙◌, arith, inl, inr, length-append}
-use Rattle.std.specs.List.{All, AllPairs, filter, find, remove, sum_by, count_by, list_any}
+use Rattle.std.proofs.Common.{◌≡◌, ◌≢◌, ℕ, suc, ◌+◌, ◌-◌, ◌*◌, ◌<◌, ◌≤◌, true, false, cond, eqb, ltb, not, List, [], ◌∷◌, ◌++◌, length, get_or, set, take, drop, map, Option, Some, None, refl, sym, ap, ◌∙◌, arith, inl, inr, length-append}
+use Rattle.std.specs.List.{All, filter, find, remove, sum_by, count_by, list_any}
 use Rattle.std.specs.Option.{option_map}
-use Rattle.std.proofs.lemmas.Bool.{cases_eq, cases_lt, cases_Bool, eq-eqb, ne_eqb, lt-ltb, le-ltb}
-use Rattle.std.proofs.lemmas.List.Elements.{All-nil, All-cons, All-head, All-tail, All-weaker, All-append, All-push, All-set, All-take, All-drop, All-filter, All-get_or}
+use Rattle.std.proofs.lemmas.Bool.{cases_eq, cases_Bool, eq-eqb, ne_eqb, lt-ltb}
+use Rattle.std.proofs.lemmas.List.Elements.{All-weaker, All-append, All-push, All-set, All-take, All-drop, All-filter, All-get_or}
 use Rattle.std.proofs.lemmas.List.{get_or-set_same, get_or-set_other, length-set}
 use Rattle.std.proofs.lemmas.List.Edits.{length-remove}
 use Rattle.std.proofs.lemmas.List.Quantifiers.{all_pairs_push, all_pairs_remove}
-use Rattle.std.proofs.lemmas.List.Sums.{sum_by-cons, sum_by_push, sum_by-set, sum_by-remove, count_by-le-length, get_or-le-sum_by}
+use Rattle.std.proofs.lemmas.List.Sums.{sum_by-cons, sum_by_push, sum_by-set, sum_by-remove, get_or-le-sum_by}
 use Rattle.market_types.specs.declared.row.Row.{Row}
 use Rattle.market_types.specs.State.{Claim, Arena}
 use Rattle.market_types.specs.Claims.{request_of, is_mandated}
 use Rattle.market_types.specs.Allotment.{at_level, has_mandatory}
 use Rattle.market_types.specs.Step.{arena_at, without, with_claim}
 use Rattle.allotment.specs.Levels.{number_of}
-use Rattle.market_core.specs.Store.{by_stamp, entry_of, entries, IsNewestFirst, IsByNumber, IsApart, IsKept, IsListed, IsStored, has_work}
+use Rattle.market_core.specs.Store.{by_stamp, entry_of, entries, IsByNumber, IsKept, IsListed, IsStored, has_work}
 use Rattle.market_core.proofs.ByStamp.{has_number, IsMissing, IsOlder, All-by_stamp, by_stamp-All, sum_by-by_stamp, length-by_stamp, arena_at-by_stamp_none, without-missing}
-use Rattle.market_core.proofs.Entries.{Matches, LevelsAt, entries-with_claim, entries-with_claim_other, entries-without, entries-without_other, entry-at, entries-older, entries-mandated, length-entries}
+use Rattle.market_core.proofs.Entries.{entries-with_claim, entries-with_claim_other, entries-without, entries-without_other, entry-at, entries-older, entries-mandated, length-entries}
 use Rattle.market_core.proofs.Found.{Found, found-at, found-matches, found-levels}
 use Rattle.level_list.specs.Bits.{bits}
 use Rattle.market_core.proofs.Visits.{bits-more, bits-few}
-use Rattle.market_core.proofs.Table.{claims-missing, table-found, table-claimed, table-removed, table-promoted, table-pushed, rising-set, apart-by_stamp, newest-with_claim, newest-without, newest-cons}
+use Rattle.market_core.proofs.Table.{table-found, table-claimed, table-removed, table-promoted, table-pushed, rising-set, apart-by_stamp, newest-with_claim, newest-without, newest-cons}
 
 abbrev IsLevel : Arena → Type 0
 IsLevel a = (1 ≤ a.level) × (a.level ≤ 8)
@@ -60,17 +60,6 @@ place-found n i xs x y rising within e number found =
     same-some : (a b : Arena) → Some a ≡ Some b → a ≡ b
     same-some a b h = cc
 
-get_or-any : (xs : List Arena) (i : ℕ) (d e : Arena) → i < length xs → get_or xs i d ≡ get_or xs i e
-get_or-any [] i d e within = absurd (omega arith)
-get_or-any (x ∷ xs) zero d e within = refl
-get_or-any (x ∷ xs) (suc i) d e within = get_or-any xs i d e (omega arith)
-
--- the arena that is found stands at the place with its number
-pub row-here : (n i : ℕ) (xs : List Arena) (x : Arena) → IsByNumber xs → i < length xs → ((d : Arena) → (get_or xs i d).number ≡ n) → arena_at n (by_stamp xs) ≡ Some x → x ≡ get_or xs i x
-row-here n i xs x rising within number found =
-    let y = get_or xs i x in
-    sym (place-found n i xs x y rising within (get_or-any xs i x y within) number found)
-
 -- ---- enqueued work
 
 has-some : (xs : List Arena) → list_any has_work xs ≡ ltb 0 (count_by has_work xs)
@@ -93,9 +82,6 @@ has-some (x ∷ xs) =
 pub has-work : (xs : List Arena) (lists : List (List Row)) (n : ℕ) → IsStored xs lists n → has_mandatory (by_stamp xs) ≡ ltb 0 n
 has-work xs lists n h =
     has-some (by_stamp xs) ∙ ap (ltb 0) (sum_by-by_stamp (λ (a : Arena). cond (has_work a) 1 0) xs ∙ sym h.enqueued)
-
-pub enqueued-few : (xs : List Arena) (lists : List (List Row)) (n : ℕ) → IsStored xs lists n → n ≤ 1024
-enqueued-few xs lists n h = omega (arith, h.enqueued, h.few, count_by-le-length has_work xs)
 
 -- ---- the lists
 
@@ -334,9 +320,6 @@ pub all-visits : (xs : List Arena) (lists : List (List Row)) (n : ℕ) → IsSto
 all-visits xs lists n h = omega (arith, bits-few (length (by_stamp xs)) (omega (arith, length-by_stamp xs, h.few)))
 
 -- ---- no arena has the number
-
-pub claimed-missing : (n : ℕ) (c : Claim) (xs : List Arena) → All (λ (a : Arena). a.number ≢ n) xs → with_claim n c (by_stamp xs) ≡ by_stamp xs
-claimed-missing n c xs h = claims-missing n c (by_stamp xs) (missing n xs h)
 
 pub removed-missing : (n : ℕ) (xs : List Arena) → All (λ (a : Arena). a.number ≢ n) xs → without n (by_stamp xs) ≡ by_stamp xs
 removed-missing n xs h = without-missing n (by_stamp xs) (missing n xs h)

@@ -1,16 +1,15 @@
 -- The table by number under each change, and the sorted list that it stands for.
-use Rattle.std.proofs.Common.{◌≡◌, ◌≢◌, ℕ, zero, suc, ◌+◌, ◌-◌, ◌<◌, ◌≤◌, Bool, true, false, cond, eqb, ltb, not, List, [], ◌∷◌, ◌++◌, length, get_or, set, take, drop, map, Option, Some, None, refl, sym, ap, ◌∙◌, arith, inl, inr, length-append, length-take, length-drop}
-use Rattle.std.specs.List.{All, AllPairs, filter, find, remove, sum_by, count_by}
-use Rattle.std.proofs.lemmas.Bool.{cases_eq, cases_lt, cases_Bool, eq-eqb, ne_eqb, lt-ltb, le-ltb}
-use Rattle.std.proofs.lemmas.List.Elements.{All-nil, All-cons, All-head, All-tail, All-weaker, All-filter, All-append, All-map, All-get_or}
-use Rattle.std.proofs.lemmas.List.{append-nil, take-append-drop, drop_more, get_or-take, get_or-drop, get_or-set_same, get_or-set_other, length-set}
+use Rattle.std.proofs.Common.{◌≡◌, ◌≢◌, ℕ, zero, suc, ◌+◌, ◌-◌, ◌<◌, false, cond, not, List, [], ◌∷◌, ◌++◌, length, get_or, set, take, drop, map, Some, refl, sym, ap, ◌∙◌, arith, inl, inr, length-take, length-drop}
+use Rattle.std.specs.List.{All}
+use Rattle.std.proofs.lemmas.Bool.{cases_lt, cases_Bool, eq-eqb, ne_eqb, lt-ltb, le-ltb}
+use Rattle.std.proofs.lemmas.List.Elements.{All-nil, All-cons, All-head, All-tail, All-weaker, All-map}
+use Rattle.std.proofs.lemmas.List.{append-nil, take-append-drop, drop_more, get_or-take, get_or-drop, length-set}
 use Rattle.std.proofs.lemmas.List.Kept.{AllPairs-cons, AllPairs-filter}
-use Rattle.std.proofs.lemmas.List.Folds.{map_fixed}
 use Rattle.std.proofs.Math.Seq.{set-append_seam}
 use Rattle.market_types.specs.State.{Claim, Arena}
 use Rattle.market_types.specs.Step.{arena_at, without, with_claim}
 use Rattle.market_core.specs.Store.{by_stamp, insert_arena, IsNewestFirst, IsByNumber, IsApart}
-use Rattle.market_core.proofs.ByStamp.{has_number, IsMissing, IsOlder, All-by_stamp, All-insert, by_stamp-All, by_stamp-newest, by_stamp-map, by_stamp-without, arena_at-by_stamp, arena_at-by_stamp_none, sum_by-by_stamp, length-by_stamp}
+use Rattle.market_core.proofs.ByStamp.{has_number, IsMissing, IsOlder, All-by_stamp, All-insert, by_stamp-newest, by_stamp-map, by_stamp-without, arena_at-by_stamp}
 use Rattle.market_core.proofs.Found.{AllPairs-head, AllPairs-tail, AllPairs-nil}
 
 -- ---- a place of the table
@@ -69,7 +68,7 @@ table-found xs i x rising within e =
     ap (λ ys. arena_at x.number (by_stamp ys)) (split-at xs i x within e)
     ∙ arena_at-by_stamp x.number (take i xs) (drop (i + 1) xs) x (eq-eqb x.number x.number refl) (missing-front xs i x rising within e) (missing-back xs i x rising within e)
 
-pub claims-missing : (n : ℕ) (c : Claim) (xs : List Arena) → IsMissing n xs → with_claim n c xs ≡ xs
+claims-missing : (n : ℕ) (c : Claim) (xs : List Arena) → IsMissing n xs → with_claim n c xs ≡ xs
 claims-missing n c [] h = refl
 claims-missing n c (x ∷ xs) h =
     rw (All-head (λ (b : Arena). has_number n b ≡ false) x xs h) (ap (λ ys. x ∷ ys) (claims-missing n c xs (All-tail (λ (b : Arena). has_number n b ≡ false) x xs h)))

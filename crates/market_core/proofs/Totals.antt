@@ -1,30 +1,30 @@
 -- What all arenas are allotted together, and that none is allotted more than it asks for.
-use Rattle.std.proofs.Common.{◌≡◌, ◌≢◌, ℕ, zero, suc, ◌+◌, ◌-◌, ◌*◌, ◌<◌, ◌≤◌, Bool, true, false, cond, eqb, ltb, min, ℤ, pos, negsuc, List, [], ◌∷◌, ◌++◌, Option, Some, None, refl, sym, ap, ◌∙◌, arith, inl, inr, zero-add}
+use Rattle.std.proofs.Common.{◌≡◌, ◌≢◌, ℕ, zero, suc, ◌+◌, ◌-◌, ◌*◌, ◌<◌, ◌≤◌, Bool, true, false, cond, eqb, ltb, ℤ, pos, negsuc, List, [], ◌∷◌, Option, Some, None, refl, sym, ap, ◌∙◌, arith, inl, inr, zero-add}
 use Rattle.std.specs.Prelude.{◌==◌, ◌&&◌}
-use Rattle.std.specs.List.{All, AllPairs, count_by, sum_by, find, flat_map, range_with_len}
-use Rattle.std.proofs.lemmas.Bool.{both_ways, cases_eq, cases_Bool, cases_lt, ne_eqb, eq-eqb, lt-ltb, le-ltb, ltb-true, and_parts}
+use Rattle.std.specs.List.{All, count_by, sum_by, find, flat_map}
+use Rattle.std.proofs.lemmas.Bool.{both_ways, cases_eq, cases_Bool, ne_eqb, eq-eqb, lt-ltb, le-ltb, ltb-true, and_parts}
 use Rattle.std.proofs.lemmas.List.Elements.{All-nil, All-cons, All-head, All-tail, All-append, All-filter, All-weaker}
-use Rattle.std.proofs.lemmas.List.Sums.{sum_by-cons, sum_by-append}
+use Rattle.std.proofs.lemmas.List.Sums.{sum_by-cons}
 use Rattle.market_types.specs.State.{Claim, Arena, State}
 use Rattle.market_types.specs.Claims.{cap_of, clamp_total, request_of, is_mandated}
-use Rattle.market_types.specs.Allotment.{at_level, share_of, carry_past, carried, count_at, assigned, demand, alloc, all_to, bound_of, limit_of, effective_limit_of, has_mandatory, mandatory_pick, in_order, levels_of, total_request}
+use Rattle.market_types.specs.Allotment.{at_level, share_of, carry_past, carried, count_at, assigned, demand, alloc, all_to, bound_of, limit_of, effective_limit_of, has_mandatory, mandatory_pick, in_order, levels_of}
 use Rattle.allotment.specs.Levels.{workers_of, IsLeveled}
 use Rattle.market_core.specs.Allotted.{IsWithin, total_alloc}
-use Rattle.market_core.specs.Store.{IsApart, levels_from, in_levels}
+use Rattle.market_core.specs.Store.{IsApart}
 use Rattle.market_core.proofs.ByStamp.{has_number, IsMissing}
 use Rattle.market_core.proofs.Found.{Found, AllPairs-head, AllPairs-tail}
-use Rattle.market_core.proofs.Allotted.{alloc-shared, alloc-picked}
+use Rattle.market_core.proofs.Allotted.{alloc-picked}
 use Rattle.market_core.proofs.Order.{sum-in_levels}
 
 -- ---- a number is used once
 
-count-yes : (n : ℕ) (x : Arena) (xs : List Arena) → has_number n x ≡ true → count_by (has_number n) (x ∷ xs) ≡ 1 + count_by (has_number n) xs
+pub count-yes : (n : ℕ) (x : Arena) (xs : List Arena) → has_number n x ≡ true → count_by (has_number n) (x ∷ xs) ≡ 1 + count_by (has_number n) xs
 count-yes n x xs e = sum_by-cons (λ (y : Arena). cond (has_number n y) 1 0) x xs ∙ rw e refl
 
 count-no : (n : ℕ) (x : Arena) (xs : List Arena) → has_number n x ≡ false → count_by (has_number n) (x ∷ xs) ≡ count_by (has_number n) xs
 count-no n x xs e = sum_by-cons (λ (y : Arena). cond (has_number n y) 1 0) x xs ∙ rw e (zero-add (count_by (has_number n) xs))
 
-count-missing : (n : ℕ) (xs : List Arena) → IsMissing n xs → count_by (has_number n) xs ≡ 0
+pub count-missing : (n : ℕ) (xs : List Arena) → IsMissing n xs → count_by (has_number n) xs ≡ 0
 count-missing n [] h = refl
 count-missing n (x ∷ xs) h =
     count-no n x xs (All-head (λ (b : Arena). has_number n b ≡ false) x xs h) ∙ count-missing n xs (All-tail (λ (b : Arena). has_number n b ≡ false) x xs h)
@@ -37,7 +37,7 @@ missing-count n (x ∷ xs) e =
       | inr f ↦ All-cons (λ (b : Arena). has_number n b ≡ false) x xs f (missing-count n xs (sym (count-no n x xs f) ∙ e))
     ]
 
-unique : (n : ℕ) (xs : List Arena) → IsApart xs → count_by (has_number n) xs ≤ 1
+pub unique : (n : ℕ) (xs : List Arena) → IsApart xs → count_by (has_number n) xs ≤ 1
 unique n [] apart = omega arith
 unique n (x ∷ xs) apart =
     let R : Arena → Arena → Type 0 = λ (a b : Arena). a.number ≢ b.number in
@@ -68,7 +68,7 @@ count_at-behind number workers rest (a ∷ arenas) h =
     )
 
 -- arenas of different numbers are allotted what stands beside their numbers
-sum-counts : (K D : ℕ → ℕ) (carry : ℕ) (arenas : List Arena) → ((n : ℕ) → count_by (has_number n) arenas ≤ 1)
+pub sum-counts : (K D : ℕ → ℕ) (carry : ℕ) (arenas : List Arena) → ((n : ℕ) → count_by (has_number n) arenas ≤ 1)
     → sum_by (λ (a : Arena). count_at a.number (carried K D carry arenas)) arenas ≡ sum_by workers_of (carried K D carry arenas)
 sum-counts K D carry [] h = refl
 sum-counts K D carry (a ∷ arenas) h =
@@ -108,7 +108,7 @@ bound-one s none =
     let zero_limit : effective_limit_of s ≡ cond (has_mandatory s.arenas) 1 0 = rw (le-ltb 0 (limit_of s) (omega arith)) refl in
     omega (arith, zero_limit, cond-most (has_mandatory s.arenas))
 
-sum-picked : (m w : ℕ) (xs : List Arena) → sum_by (λ (a : Arena). cond (eqb m a.number) w 0) xs ≡ count_by (has_number m) xs * w
+pub sum-picked : (m w : ℕ) (xs : List Arena) → sum_by (λ (a : Arena). cond (eqb m a.number) w 0) xs ≡ count_by (has_number m) xs * w
 sum-picked m w [] = omega arith
 sum-picked m w (x ∷ xs) =
     let f : Arena → ℕ = λ a. cond (eqb m a.number) w 0 in
@@ -135,7 +135,7 @@ sum-all_to None w xs apart few = sum-zero xs
     sum-zero (x ∷ xs) = omega (arith, sum_by-cons (λ (a : Arena). 0) x xs, sum-zero xs)
 sum-all_to (Some p) w xs apart few = omega (arith, sum-picked p.number w xs, few-times (count_by (has_number p.number) xs) w (unique p.number xs apart) few)
 
-sum-same : (f g : Arena → ℕ) (xs : List Arena) → ((a : Arena) → f a ≡ g a) → sum_by f xs ≡ sum_by g xs
+pub sum-same : (f g : Arena → ℕ) (xs : List Arena) → ((a : Arena) → f a ≡ g a) → sum_by f xs ≡ sum_by g xs
 sum-same f g [] h = refl
 sum-same f g (x ∷ xs) h = omega (arith, sum_by-cons f x xs, sum_by-cons g x xs, h x, sum-same f g xs h)
 

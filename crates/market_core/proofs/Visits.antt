@@ -1,5 +1,5 @@
 -- How many binary digits there are.
-use Rattle.std.proofs.Common.{◌≡◌, ℕ, zero, suc, ◌+◌, ◌*◌, ◌/◌, ◌^◌, ◌<◌, ◌≤◌, refl, arith, inl, inr, length, lit≤}
+use Rattle.std.proofs.Common.{◌≡◌, ℕ, zero, suc, ◌+◌, ◌/◌, ◌≤◌, arith, inl, inr, length}
 use Rattle.std.proofs.lemmas.Bool.{cases_lt}
 use Rattle.std.proofs.lemmas.Int.Digits.{length-digits_of_step, length-digits_of-le}
 use Rattle.std.specs.Int.Digits.{digits_of}

@@ -1,7 +1,7 @@
 use Rattle.std.specs.Prelude.{ℕ, ◌≤◌, sum_by}
 use Rattle.market_types.specs.State.{Arena, State}
 use Rattle.market_types.specs.Claims.{cap_of, request_of}
-use Rattle.market_types.specs.Allotment.{alloc, active}
+use Rattle.market_types.specs.Allotment.{alloc, active, at_level}
 use Rattle.market_types.specs.declared.reply.Reply.{Reply}
 use Rattle.market_types.specs.declared.reply.Reply.TheVariants.{Placed, Recalled}
 
@@ -14,6 +14,10 @@ pub record IsWithin (s : State) (a : Arena) : Type 0 where
 -- what all arenas are allotted together
 abbrev pub total_alloc : State → ℕ
 total_alloc s = sum_by (λ (a : Arena). alloc s a.number) s.arenas
+
+-- what the arenas of a level are allotted together
+abbrev pub level_alloc : State → ℕ → ℕ
+level_alloc s level = sum_by (λ (a : Arena). alloc s a.number) (at_level level s.arenas)
 
 -- after a worker was placed its arena has no more workers than it is allotted, and after one was recalled no fewer
 abbrev pub IsStaffed : Reply → State → Type 0

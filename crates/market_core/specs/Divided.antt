@@ -1,7 +1,9 @@
-use Rattle.std.specs.Prelude.{◌≡◌, ℕ, ◌-◌, ◌*◌, ◌≤◌, slice_index}
+use Rattle.std.specs.Prelude.{◌≡◌, ℕ, ◌-◌, ◌*◌, ◌<◌, ◌≤◌, List, slice_index}
 use Rattle.market_types.specs.State.{State}
-use Rattle.market_types.specs.Allotment.{limit_of, bound_of, assigned}
+use Rattle.market_types.specs.Allotment.{limit_of, bound_of, assigned, at_level}
 use Rattle.allotment.specs.Levels.{AreDemandsOf, pick_of}
+use Rattle.recall_hire.specs.declared.rows.Staffing.{Staffing}
+use Rattle.recall_hire.specs.Staffed.{rows_among}
 use Rattle.market_core.specs.declared.division.Division.{Division}
 
 -- how the workers of a market are divided among its levels; where none may be active, who is served
@@ -13,3 +15,14 @@ pub record IsDivisionOf (s : State) (d : Division) : Type 0 where
   pub assigned : (level : ℕ) → 1 ≤ level → level ≤ s.levels → slice_index d.assigned (level - 1) ≡ assigned s level
   pub within : (place : ℕ) → slice_index d.assigned place ≤ slice_index d.demands place
   pub picked : limit_of s ≡ 0 → d.picked ≡ pick_of s
+
+-- the level is one of the market's, some worker may be active, and this is how they are divided
+pub record IsSharedAt (level : ℕ) (s : State) (d : Division) : Type 0 where
+  pub divided : IsDivisionOf s d
+  pub some : 0 < limit_of s
+  pub low : 1 ≤ level
+  pub high : level ≤ s.levels
+
+-- the rows of a level's arenas
+abbrev pub rows_at : State → ℕ → List Staffing
+rows_at s level = rows_among s (at_level level s.arenas)

@@ -1,4 +1,5 @@
 pub mod Store
+pub mod Changed
 pub mod Memory
 pub mod Allotted
 pub mod Sound

@@ -1,4 +1,4 @@
-use Rattle.std.specs.Prelude.{◌≡◌, ℕ, ◌≤◌, ◌<◌, length}
+use Rattle.std.specs.Prelude.{◌≤◌, ◌<◌, length}
 use Rattle.std.specs.List.{All}
 use Rattle.market_types.specs.State.{Arena, State}
 use Rattle.allotment.specs.Levels.{IsLeveled}

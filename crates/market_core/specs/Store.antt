@@ -1,10 +1,11 @@
 -- How the market keeps its arenas: a table by number, and for each level a list by stamp.
-use Rattle.std.specs.Prelude.{◌≡◌, ◌≢◌, ℕ, ◌-◌, ◌<◌, ◌≤◌, Bool, nat_lt, if◌then◌else◌, List, [], ◌∷◌, length, map, slice_index_or}
+use Rattle.std.specs.Prelude.{◌≡◌, ◌≢◌, ℕ, ◌+◌, ◌-◌, ◌<◌, ◌≤◌, Bool, nat_lt, if◌then◌else◌, List, [], ◌∷◌, length, take, map, Some, option_map, slice_get, slice_index_or}
 use Rattle.std.specs.List.{All, AllPairs, filter, flat_map, range_with_len, count_by}
 use Rattle.market_types.specs.declared.row.Row.{Row}
+use Rattle.level_list.specs.Passing.{Passing}
 use Rattle.market_types.specs.State.{Arena}
 use Rattle.market_types.specs.Claims.{request_of, is_mandated}
-use Rattle.market_types.specs.Allotment.{at_level}
+use Rattle.market_types.specs.Allotment.{at_level, total_request}
 
 -- the arenas with one more, before the first that is older
 abbrev pub insert_arena : Arena → List Arena → List Arena
@@ -40,6 +41,18 @@ IsByNumber arenas = AllPairs (λ (a b : Arena). a.number < b.number) arenas
 -- no number is used twice
 abbrev pub IsApart : List Arena → Type 0
 IsApart arenas = AllPairs (λ (a b : Arena). a.number ≢ b.number) arenas
+
+-- the arenas before a place ask for the sum at most, and with the one there for more
+pub record IsPassedAt (sum place : ℕ) (arenas : List Arena) : Type 0 where
+  pub in_range : place < length arenas
+  pub within : total_request (take place arenas) ≤ sum
+  pub beyond : sum < total_request (take (place + 1) arenas)
+
+-- it is the arena's entry there, and the arenas before it ask for `before`
+pub record IsPassing (sum : ℕ) (passing : Passing) (arenas : List Arena) : Type 0 where
+  pub at : IsPassedAt sum passing.place arenas
+  pub row : option_map entry_of (slice_get arenas passing.place) ≡ Some passing.row
+  pub before : passing.before ≡ total_request (take passing.place arenas)
 
 -- what holds of the living arenas: they are at most 1,024, each at a level that a market can have, newest first
 pub record IsKept (arenas : List Arena) : Type 0 where

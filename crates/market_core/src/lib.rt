@@ -5,6 +5,7 @@
 #![tactic(auto)]
 
 mod calls;
+mod change;
 mod division;
 mod market;
 mod row;

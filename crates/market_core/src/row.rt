@@ -1,5 +1,5 @@
 //! An arena as the market keeps it, and where it stands among the others.
-ghost use Rattle.std.specs.Prelude.{◌≡◌, ◌≢◌, ◌<◌, ◌≤◌, length, None, slice_index_or, IfNone, IfSome};
+ghost use Rattle.std.specs.Prelude.{◌≡◌, ◌≢◌, ℕ, ◌<◌, ◌≤◌, length, None, slice_index_or, IfNone, IfSome};
 ghost use Rattle.std.specs.List.{All};
 ghost use Rattle.market_types.specs.State.{Arena};
 ghost use Rattle.market_types.specs.Claims.{request_of, is_mandated};
@@ -108,6 +108,35 @@ pub fn place_of(rows: &[ArenaRow], arena: ArenaId) -> Option<usize>
     ensures there { IfSome result (λ place. place < length rows.now) }
     ensures found { IfSome result (λ place. (d : Arena) → (slice_index_or rows.now place d).number ≡ arena) }
 {
-    rows.binary_search_by_key(&arena.get(), |row| row.arena().get())
-        .ok()
+    let (low, high) = bounds_of(rows, arena);
+    let near = rows[low..high].binary_search_by_key(&arena.get(), |row| row.arena().get());
+    Some(low + near.ok()?)
+}
+
+/// The places from which and before which the arena stands among rows with rising numbers, if anywhere: there are no more
+/// rows between two than numbers between theirs. Where few numbers are missing, the two places are close.
+fn bounds_of(rows: &[ArenaRow], arena: ArenaId) -> (usize, usize)
+    requires { IsByNumber rows.now }
+    ensures order { result.0 ≤ result.1 }
+    ensures within { result.1 ≤ length rows.now }
+    ensures before { (place : ℕ) (d : Arena) → place < result.0 → (slice_index_or rows.now place d).number < arena }
+    ensures behind { (place : ℕ) (d : Arena) → result.1 ≤ place → place < length rows.now
+        → arena < (slice_index_or rows.now place d).number }
+{
+    if rows.is_empty() {
+        return (0, 0);
+    }
+    let end = rows.len() - 1;
+    let number = arena.get();
+    let first = rows[0].arena().get();
+    let last = rows[end].arena().get();
+    if number < first {
+        return (0, 0);
+    }
+    if last < number {
+        return (rows.len(), rows.len());
+    }
+    let low = end.saturating_sub((last - number) as usize);
+    let high = end.min((number - first) as usize);
+    (low, high + 1)
 }

@@ -1,18 +1,20 @@
 //! The living arenas: a table by number, and for each level a list by stamp.
-ghost use Rattle.std.specs.Prelude.{◌≡◌, ℕ, ◌-◌, slice_index, ◌+◌, ◌*◌, ◌<◌, ◌≤◌, ◌∷◌, [], None, Some, length, slice_get, nat_lt, if◌then◌else◌, option_map, IfNone, IfSome, IfOk, OnOk, OnErr};
+ghost use Rattle.std.specs.Prelude.{◌≡◌, ℕ, ◌-◌, slice_index, ◌+◌, ◌*◌, ◌<◌, ◌≤◌, ◌∷◌, [], None, Some, Ok, Err, length, take, slice_get, nat_lt, if◌then◌else◌, option_map, IsSome, OnSome, IfNone, IfSome, IfOk, IfErr, OnOk, OnErr};
 ghost use Rattle.std.specs.List.{All, find};
 ghost use Rattle.market_types.specs.State.{Arena};
 ghost use Rattle.market_types.specs.Claims.{is_mandated};
 ghost use Rattle.market_types.specs.Allotment.{total_request, at_level, has_mandatory};
 ghost use Rattle.market_types.specs.Step.{arena_at, with_claim, without};
 ghost use Rattle.allotment.specs.Levels.{number_of};
-ghost use Rattle.market_core.specs.Store.{IsKept, newer, entry_of, in_levels};
+ghost use Rattle.market_core.specs.Changed.{changed_at};
+ghost use Rattle.market_core.specs.Store.{IsKept, IsPassing, newer, entry_of, in_levels};
 ghost use Rattle.level_list.specs.Bits.{bits};
 
+use crate::change::Change;
 use crate::row::{ArenaRow, place_of};
 use arena_record::ArenaRecord;
-use level_list::LevelList;
-use market_types::{ArenaId, Level, Row};
+use level_list::{LevelList, Passing};
+use market_types::{ArenaId, Fault, Level, Row};
 use std::alloc::{AllocError, Global};
 use std::marker::Model;
 
@@ -138,7 +140,7 @@ impl Arenas {
     }
 
     /// How many arenas a level, 1 to 8, has.
-    fn count(&self, level: u32) -> usize
+    pub fn count(&self, level: u32) -> usize
         requires low { 1 ≤ level }
         requires high { level ≤ 8 }
         ensures exact { result ≡ length (at_level level self.now) }
@@ -146,16 +148,20 @@ impl Arenas {
         self.lists[level as usize - 1].len()
     }
 
-    /// The arena at a place, from 0 on, of a level, 1 to 8.
-    fn walk(&self, level: u32, place: usize) -> Option<ArenaRow>
+    /// The arena at a place, from 0 on, of a level, 1 to 8, that has so many.
+    pub fn walk(&self, level: u32, place: usize) -> (Option<ArenaRow>, u32)
         requires low { 1 ≤ level }
         requires high { level ≤ 8 }
         requires within { place < length (at_level level self.now) }
-        ensures exact { result ≡ slice_get (at_level level self.now) place }
-        ensures there { IfSome result (λ row. arena_at row.number self.now ≡ Some row) }
+        ensures exact { result.0 ≡ slice_get (at_level level self.now) place }
+        ensures there { IfSome result.0 (λ row. arena_at row.number self.now ≡ Some row) }
+        ensures few { result.1 ≤ 22 }
     {
-        let (row, _) = self.lists[level as usize - 1].walk(place);
-        self.get(row?.arena)
+        let (row, visits) = self.lists[level as usize - 1].walk(place);
+        let Some(row) = row else {
+            return (None, visits);
+        };
+        (self.get(row.arena), visits)
     }
 
     /// The arena at a place, from 0 on, of a level.
@@ -166,14 +172,16 @@ impl Arenas {
         if place >= self.count(level.get()) {
             return None;
         }
-        self.walk(level.get(), place)
+        let (row, _) = self.walk(level.get(), place);
+        row
     }
 
     /// The arena at a place, from 0 on, of the levels up to one in order.
-    pub fn nth(&self, levels: u32, place: usize) -> Option<ArenaRow>
+    pub fn nth(&self, levels: u32, place: usize) -> (Option<ArenaRow>, u32)
         requires few { levels ≤ 8 }
-        ensures exact { result ≡ slice_get (in_levels levels self.now) place }
-        ensures there { IfSome result (λ row. arena_at row.number self.now ≡ Some row) }
+        ensures exact { result.0 ≡ slice_get (in_levels levels self.now) place }
+        ensures there { IfSome result.0 (λ row. arena_at row.number self.now ≡ Some row) }
+        ensures few { result.1 ≤ 22 }
     {
         let mut rest = place;
         for level in 0..levels {
@@ -183,7 +191,29 @@ impl Arenas {
             }
             rest -= count;
         }
-        None
+        (None, 0)
+    }
+
+    /// What the arenas of a level, 1 to 8, before a place ask for together.
+    pub fn sum_to(&self, level: u32, place: usize) -> (u64, u32)
+        requires low { 1 ≤ level }
+        requires high { level ≤ 8 }
+        ensures exact { result.0 ≡ total_request (take place (at_level level self.now)) }
+        ensures few { result.1 ≤ 22 }
+    {
+        self.lists[level as usize - 1].sum_to(place)
+    }
+
+    /// The first arena of a level, 1 to 8, up to and with which its arenas ask for more than `sum`, `None` where they
+    /// never do.
+    pub fn passing(&self, level: u32, sum: u64) -> (Option<Passing>, u32)
+        requires low { 1 ≤ level }
+        requires high { level ≤ 8 }
+        ensures some { IfSome result.0 (λ passing. IsPassing sum passing (at_level level self.now)) }
+        ensures none { IfNone result.0 (total_request (at_level level self.now) ≤ sum) }
+        ensures few { result.1 ≤ 22 }
+    {
+        self.lists[level as usize - 1].passing(sum)
     }
 
     /// A new arena, newer than all others.
@@ -203,48 +233,56 @@ impl Arenas {
         Ok(visits)
     }
 
-    /// The arena asks for something else.
-    pub fn set_claim(&mut self, arena: ArenaId, claim: ArenaRecord) -> u32
-        ensures exact { self.new ≡ with_claim arena claim self.old }
-        ensures visits { result ≤ 2 * bits (length self.old) }
+    /// Changes an arena's claim, unless the change is refused or no living arena has this number. Gives the claim then.
+    pub fn change(&mut self, arena: ArenaId, change: Change) -> Result<(ArenaRecord, u32), Fault>
+        ensures claim { IfOk result (λ done. changed_at (arena_at arena self.old) change ≡ Ok done.0) }
+        ensures next { IfOk result (λ done. self.new ≡ with_claim arena done.0 self.old) }
+        ensures fault { IfErr result (λ fault. changed_at (arena_at arena self.old) change ≡ Err fault) }
+        ensures unchanged { OnErr result (self.new ≡ self.old) }
+        ensures visits { IfOk result (λ done. done.1 ≤ 2 * bits (length self.old)) }
     {
         let Some(place) = place_of(&self.rows, arena) else {
-            return 0;
+            return Err(Fault::NoArena);
         };
         let old = self.rows[place];
+        let claim = change.made_to(old.claim())?;
         let new = old.with_claim(claim);
         self.rows[place] = new;
         self.enqueued = self.enqueued - counted(old.claim()) + counted(claim);
         let entry = new.entry();
         let list = &mut self.lists[old.level().get() as usize - 1];
-        list.set(entry.stamp, entry.request, entry.mandated)
+        let visits = list.set(entry.stamp, entry.request, entry.mandated);
+        Ok((claim, visits))
     }
 
-    /// The arena goes.
-    pub fn remove(&mut self, arena: ArenaId) -> u32
+    /// The arena goes; `None` where no living arena has this number.
+    pub fn remove(&mut self, arena: ArenaId) -> Option<u32>
         ensures exact { self.new ≡ without arena self.old }
-        ensures visits { result ≤ 2 * bits (length self.old) }
+        ensures there { OnSome result (IsSome (arena_at arena self.old)) }
+        ensures missing { IfNone result (arena_at arena self.old ≡ None) }
+        ensures unchanged { IfNone result (self.new ≡ self.old) }
+        ensures visits { IfSome result (λ visits. visits ≤ 2 * bits (length self.old)) }
     {
-        let Some(place) = place_of(&self.rows, arena) else {
-            return 0;
-        };
+        let place = place_of(&self.rows, arena)?;
         let row = self.rows.remove(place);
         self.enqueued -= counted(row.claim());
         let list = &mut self.lists[row.level().get() as usize - 1];
         let (_taken, visits) = list.take(row.stamp());
-        visits
+        Some(visits)
     }
 
-    /// The arena goes first at this level, with a new stamp.
-    pub fn promote(&mut self, row: ArenaRow, stamp: u32, level: Level) -> u32
-        requires there { arena_at row.number self.old ≡ Some row }
+    /// The arena goes first at this level, with a new stamp; `None` where no living arena has this number.
+    pub fn promote(&mut self, arena: ArenaId, stamp: u32, level: Level) -> Option<u32>
         requires newest { All (λ (a : Arena). a.stamp < stamp) self.old }
-        ensures exact { self.new ≡ record row { stamp = stamp; level = level } ∷ without row.number self.old }
-        ensures visits { result ≤ 4 * bits (length self.old) + 1 }
+        ensures there { OnSome result (IsSome (arena_at arena self.old)) }
+        ensures exact { (row : Arena) → arena_at arena self.old ≡ Some row
+            → self.new ≡ record row { stamp = stamp; level = level } ∷ without row.number self.old }
+        ensures missing { IfNone result (arena_at arena self.old ≡ None) }
+        ensures unchanged { IfNone result (self.new ≡ self.old) }
+        ensures visits { IfSome result (λ visits. visits ≤ 4 * bits (length self.old) + 1) }
     {
-        let Some(place) = place_of(&self.rows, row.arena()) else {
-            unreachable!();
-        };
+        let place = place_of(&self.rows, arena)?;
+        let row = self.rows[place];
         let from = &mut self.lists[row.level().get() as usize - 1];
         let (taken, out) = from.take(row.stamp());
         let Some(taken) = taken else {
@@ -253,7 +291,7 @@ impl Arenas {
         let to = &mut self.lists[level.get() as usize - 1];
         let back = to.put(taken, stamp);
         self.rows[place] = row.promoted(stamp, level);
-        out + back
+        Some(out + back)
     }
 }
 

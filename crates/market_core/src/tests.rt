@@ -14,6 +14,17 @@ fn allots(market: &Market) -> [u32; 3] {
     allots
 }
 
+/// What each level is assigned, level 1 first.
+fn assigned(market: &Market) -> [u64; 8] {
+    let mut assigned = [0; 8];
+    for i in 0..8 {
+        if let Some(level) = Level::new(i as u32 + 1) {
+            assigned[i] = market.assigned(level);
+        }
+    }
+    assigned
+}
+
 #[test]
 fn three_arenas_share_seven(rt: HostRuntime) {
     let alloc = rt.alloc();
@@ -35,6 +46,7 @@ fn three_arenas_share_seven(rt: HostRuntime) {
         assert!(&rt; matches!(&requested, Ok(Reply::Requested(5))));
     }
     assert!(&rt; allots(&market) == [3, 2, 2]);
+    assert!(&rt; assigned(&market) == [0, 7, 0, 0, 0, 0, 0, 0]);
 }
 
 #[test]
@@ -55,6 +67,33 @@ fn levels_are_served_in_order(rt: HostRuntime) {
         assert!(&rt; requested.is_ok());
     }
     assert!(&rt; allots(&market) == [6, 1, 0]);
+    assert!(&rt; assigned(&market) == [0, 6, 0, 1, 0, 0, 0, 0]);
+}
+
+#[test]
+fn enqueued_work_is_served_at_its_level(rt: HostRuntime) {
+    let alloc = rt.alloc();
+    let Ok(mut market) = Market::new(alloc, 1, 64, 4, 3) else {
+        panic!(&rt; "no market");
+    };
+    let seat = SeatNo::new(0);
+    for number in 1..4 {
+        assert!(&rt; market.seats() == 4);
+        let Some(level) = Level::new(number) else {
+            panic!(&rt; "no level");
+        };
+        let opened = market.apply(alloc, seat, Cmd::Open(8, 1, level));
+        assert!(&rt; opened.is_ok());
+        let mandatory = if number > 1 { 1 } else { 0 };
+        let requested = market.apply(
+            alloc,
+            seat,
+            Cmd::Request(ArenaId::new(number), 2, mandatory),
+        );
+        assert!(&rt; requested.is_ok());
+    }
+    assert!(&rt; allots(&market) == [0, 1, 0]);
+    assert!(&rt; assigned(&market) == [0, 1, 0, 0, 0, 0, 0, 0]);
 }
 
 #[test]

@@ -1,12 +1,13 @@
 -- What is known of a side's value d once its topmost node n is seen.
 use Rattle.std.specs.List.{slice_get}
-use Rattle.std.proofs.Common.{refl, ◌≡◌, ℕ, suc, ◌+◌, ◌<◌, ◌≤◌, true, false, List, ◌∷◌, ◌++◌, length, Box, sym, ap, ◌∙◌, subst, Option, Some, arith}
+use Rattle.std.proofs.Common.{refl, ◌≡◌, ℕ, suc, ◌+◌, ◌<◌, ◌≤◌, true, false, List, ◌∷◌, ◌++◌, length, take, Box, sym, ap, ◌∙◌, subst, Option, Some, arith}
 use Rattle.std.specs.declared.alloc.Global.{Global}
 use Rattle.market_types.specs.declared.row.Row.{Row}
-use Rattle.prefix_tree.specs.Rows.{IsPassedAt, requests, requests_above, first_mandated}
+use Rattle.prefix_tree.specs.Rows.{IsPassing, requests, requests_above, first_mandated}
 use Rattle.prefix_tree.specs.Nodes.{mandates, rows_in, rows_of, height_of, IsSound, IsSoundNode}
 use Rattle.prefix_tree.specs.declared.node.Node.{Node}
-use Rattle.prefix_tree.proofs.Readings.{above_right, above_left, above_here, first-left, first-here, passed_left, passed_here, passed_right, place_from, place_left, place_right, place_here, get_left, get_right, get_here, length-node, requests-node}
+use Rattle.prefix_tree.specs.declared.passing.Passing.{Passing}
+use Rattle.prefix_tree.proofs.Readings.{above_right, above_left, above_here, first-left, first-here, passing_left, passing_here, passing_right, taken_left, taken_right, place_from, place_left, place_right, place_here, get_left, get_right, get_here, length-node, requests-node}
 
 -- the node is the topmost one of d
 pub record AtNode (d : List Row × ℕ) (n : Node) : Type 0 where
@@ -66,16 +67,25 @@ pub right_get : {d : List Row × ℕ} {n : Node} → AtNode d n → (i j : ℕ) 
 right_get {d} {n} f i j h = rw f.rows (get_right i j n.left.0 n.row n.right.0 h)
 
 -- a sum that is passed on the left is passed there
-pub left_passed : {d : List Row × ℕ} {n : Node} → AtNode d n → (s p : ℕ) → IsPassedAt s p n.left.0 → IsPassedAt s p d.0
-left_passed {d} {n} f s p h = rw f.rows (passed_left s p n.left.0 (n.row ∷ n.right.0) h)
+pub left_passing : {d : List Row × ℕ} {n : Node} → AtNode d n → (s : ℕ) (p : Passing) → IsPassing s p n.left.0 → IsPassing s p d.0
+left_passing {d} {n} f s p h = rw f.rows (passing_left s p n.left.0 (n.row ∷ n.right.0) h)
 
 -- a sum that the node passes is passed at the node
-pub here_passed : {d : List Row × ℕ} {n : Node} → AtNode d n → (s : ℕ) → requests n.left.0 ≤ s → s < requests n.left.0 + n.row.request → IsPassedAt s (length n.left.0) d.0
-here_passed {d} {n} f s h g = rw f.rows (passed_here s n.left.0 n.row n.right.0 h g)
+pub here_passing : {d : List Row × ℕ} {n : Node} → AtNode d n → (s : ℕ) (p : Passing) → p.place ≡ length n.left.0 → p.row ≡ n.row → p.before ≡ requests n.left.0 → requests n.left.0 ≤ s → s < requests n.left.0 + n.row.request → IsPassing s p d.0
+here_passing {d} {n} f s p e i j h g = rw f.rows (passing_here s p n.left.0 n.row n.right.0 e i j h g)
 
 -- what is left of a sum is passed on the right
-pub right_passed : {d : List Row × ℕ} {n : Node} → AtNode d n → (s t p k : ℕ) → requests n.left.0 + n.row.request + t ≡ s → length n.left.0 + suc p ≡ k → IsPassedAt t p n.right.0 → IsPassedAt s k d.0
-right_passed {d} {n} f s t p k e i h = rw f.rows (passed_right s t p k n.left.0 n.row n.right.0 e i h)
+pub right_passing : {d : List Row × ℕ} {n : Node} → AtNode d n → (s t : ℕ) (p q : Passing) → requests n.left.0 + n.row.request + t ≡ s → length n.left.0 + suc p.place ≡ q.place → q.row ≡ p.row
+    → q.before ≡ requests n.left.0 + n.row.request + p.before → IsPassing t p n.right.0 → IsPassing s q d.0
+right_passing {d} {n} f s t p q e i j g h = rw f.rows (passing_right s t p q n.left.0 n.row n.right.0 e i j g h)
+
+-- the requests before a place on the left, or of the node
+pub left_taken : {d : List Row × ℕ} {n : Node} → AtNode d n → (i : ℕ) → i ≤ length n.left.0 → requests (take i d.0) ≡ requests (take i n.left.0)
+left_taken {d} {n} f i h = rw f.rows (taken_left i n.left.0 (n.row ∷ n.right.0) h)
+
+-- and before a later one
+pub right_taken : {d : List Row × ℕ} {n : Node} → AtNode d n → (i j : ℕ) → i ≡ length n.left.0 + 1 + j → requests (take i d.0) ≡ requests n.left.0 + n.row.request + requests (take j n.right.0)
+right_taken {d} {n} f i j e = rw f.rows (taken_right i j n.left.0 n.row n.right.0 e)
 
 -- all requests: those of both sides and the node
 pub node_requests : {d : List Row × ℕ} {n : Node} → AtNode d n → requests d.0 ≡ requests n.left.0 + requests n.right.0 + n.row.request

@@ -1,7 +1,7 @@
 -- What is read of a list of rows, told of what stands before a row x, of x, and of what stands after it.
 use Rattle.std.specs.List.{slice_get, position_from}
 use Rattle.std.specs.Prelude.{All, IfNone, filter}
-use Rattle.std.proofs.Common.{◌≡◌, ℕ, zero, suc, ◌+◌, ◌<◌, ◌≤◌, Bool, true, false, cond, not, eqb, ltb, List, [], ◌∷◌, ◌++◌, length, take, refl, ap, sym, ◌∙◌, arith, Option, Some, None, length-append}
+use Rattle.std.proofs.Common.{◌≡◌, ℕ, zero, suc, ◌+◌, ◌<◌, ◌≤◌, Bool, true, false, cond, not, eqb, ltb, List, [], ◌∷◌, ◌++◌, length, take, refl, ap, sym, subst, ◌∙◌, arith, Option, Some, None, length-append}
 use Rattle.std.proofs.Math.Seq.{take-append_seam, take-append-add}
 use Rattle.std.proofs.lemmas.Bool.{lt-ltb, le-ltb, eq-eqb, ne_eqb, eqb-false}
 use Rattle.std.proofs.lemmas.List.{take-append-le}
@@ -9,7 +9,8 @@ use Rattle.std.proofs.lemmas.List.Elements.{All-nil, All-cons, All-head, All-tai
 use Rattle.std.proofs.lemmas.List.Filters.{sum_by-filter_both}
 use Rattle.std.proofs.lemmas.List.Sums.{sum_by-append, sum_by-cons}
 use Rattle.market_types.specs.declared.row.Row.{Row}
-use Rattle.prefix_tree.specs.Rows.{IsNewestFirst, IsAbsent, IsPassedAt, requests, requests_above, first_mandated}
+use Rattle.prefix_tree.specs.Rows.{IsNewestFirst, IsAbsent, IsPassedAt, IsPassing, requests, requests_above, first_mandated}
+use Rattle.prefix_tree.specs.declared.passing.Passing.{Passing}
 use Rattle.prefix_tree.specs.Nodes.{mandates, one_if}
 use Rattle.prefix_tree.proofs.Ordered.{over_all, under_all, over_here, under_here}
 
@@ -225,3 +226,60 @@ get_right zero j [] x r h = absurd (omega arith)
 get_right (suc i) j [] x r h = ap (λ z. slice_get r z) (let e : i ≡ j = omega arith in e)
 get_right zero j (y ∷ l) x r h = absurd (omega arith)
 get_right (suc i) j (y ∷ l) x r h = get_right i j l x r (omega arith)
+
+-- ---- the row with which the requests pass a sum
+
+-- the same row, place and sum
+pub passing_same : (s : ℕ) (p q : Passing) (l : List Row) → q.place ≡ p.place → q.row ≡ p.row → q.before ≡ p.before → IsPassing s p l → IsPassing s q l
+passing_same s p q l e f g h =
+    record {
+      at = subst (λ k. IsPassedAt s k l) (sym e) h.at;
+      row = ap (slice_get l) e ∙ h.row ∙ ap Some (sym f);
+      before = g ∙ h.before ∙ ap (λ k. requests (take k l)) (sym e);
+    }
+
+-- in the first of two lists
+pub passing_left : (s : ℕ) (p : Passing) (l m : List Row) → IsPassing s p l → IsPassing s p (l ++ m)
+passing_left s p l m h =
+    record {
+      at = passed_left s p.place l m h.at;
+      row = get_left p.place l m h.at.in_range ∙ h.row;
+      before = h.before ∙ ap requests (sym (take-append-le p.place l m (omega (arith, h.at.in_range))));
+    }
+
+-- x
+pub passing_here : (s : ℕ) (p : Passing) (l : List Row) (x : Row) (r : List Row) → p.place ≡ length l → p.row ≡ x → p.before ≡ requests l → requests l ≤ s → s < requests l + x.request → IsPassing s p (l ++ x ∷ r)
+passing_here s p l x r e f g low high =
+    record {
+      at = subst (λ k. IsPassedAt s k (l ++ x ∷ r)) (sym e) (passed_here s l x r low high);
+      row = get_here p.place l x r e ∙ ap Some (sym f);
+      before = g ∙ ap requests (sym (ap (λ k. take k (l ++ x ∷ r)) e ∙ take-append_seam l (x ∷ r)));
+    }
+
+-- in r
+pub passing_right : (s t : ℕ) (p q : Passing) (l : List Row) (x : Row) (r : List Row) → requests l + x.request + t ≡ s → length l + suc p.place ≡ q.place → q.row ≡ p.row → q.before ≡ requests l + x.request + p.before → IsPassing t p r → IsPassing s q (l ++ x ∷ r)
+passing_right s t p q l x r e i f g h =
+    let low : requests (l ++ x ∷ take p.place r) ≡ requests l + x.request + requests (take p.place r) = omega (arith, requests-append l (x ∷ take p.place r), requests-cons x (take p.place r)) in
+    record {
+      at = passed_right s t p.place q.place l x r e i h.at;
+      row = get_right q.place p.place l x r (omega (arith, i)) ∙ h.row ∙ ap Some (sym f);
+      before = g ∙ ap (λ n. requests l + x.request + n) h.before ∙ sym low ∙ ap requests (sym (ap (λ k. take k (l ++ x ∷ r)) (sym i) ∙ take-append-add l (x ∷ r) (suc p.place)));
+    }
+
+-- ---- the requests before a place
+
+-- a place in l, or right after it
+pub taken_left : (i : ℕ) (l m : List Row) → i ≤ length l → requests (take i (l ++ m)) ≡ requests (take i l)
+taken_left i l m h = ap requests (take-append-le i l m h)
+
+-- a place in r, or right before it
+pub taken_right : (i j : ℕ) (l : List Row) (x : Row) (r : List Row) → i ≡ length l + 1 + j → requests (take i (l ++ x ∷ r)) ≡ requests l + x.request + requests (take j r)
+taken_right i j l x r e =
+    let after : i ≡ length l + suc j = omega arith in
+    ap (λ k. requests (take k (l ++ x ∷ r))) after ∙ ap requests (take-append-add l (x ∷ r) (suc j))
+    ∙ (let sums : requests (l ++ x ∷ take j r) ≡ requests l + x.request + requests (take j r) = omega (arith, requests-append l (x ∷ take j r), requests-cons x (take j r)) in sums)
+
+-- no rows ask for nothing
+pub taken_none : (i : ℕ) → requests (take i []) ≡ 0
+taken_none zero = refl
+taken_none (suc i) = refl

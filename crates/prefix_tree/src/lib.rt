@@ -30,11 +30,13 @@
 mod balance;
 mod change;
 mod node;
+mod passing;
 mod search;
 mod side;
 mod taken;
 mod tree;
 
+pub use passing::Passing;
 pub use taken::Taken;
 pub use tree::Tree;
 

@@ -1,9 +1,10 @@
 //! Reading a side: one walk down from its topmost node.
-ghost use Rattle.std.specs.Prelude.{◌≡◌, ◌≤◌, IfNone, IfSome, slice_get};
-ghost use Rattle.prefix_tree.specs.Rows.{requests, requests_above, first_mandated, IsPassedAt, place_of};
+ghost use Rattle.std.specs.Prelude.{◌≡◌, ◌≤◌, IfNone, IfSome, slice_get, take};
+ghost use Rattle.prefix_tree.specs.Rows.{requests, requests_above, first_mandated, IsPassing, place_of};
 ghost use Rattle.prefix_tree.specs.Nodes.{IsSmall};
 
 use crate::node::{Node, visit};
+use crate::passing::Passing;
 use crate::side::Side;
 use market_types::Row;
 
@@ -80,10 +81,10 @@ impl Side {
         (None, visits)
     }
 
-    /// The place of the row with which the requests add up to more than `sum`.
-    pub(crate) fn place_of_sum(&self, sum: u64) -> (Option<usize>, u32)
+    /// The row with which the requests add up to more than `sum`.
+    pub(crate) fn passing(&self, sum: u64) -> (Option<Passing>, u32)
         requires { IsSmall self.now }
-        ensures some { IfSome result.0 (λ place. IsPassedAt sum place self.now.0) }
+        ensures some { IfSome result.0 (λ passing. IsPassing sum passing self.now.0) }
         ensures none { IfNone result.0 (requests self.now.0 ≤ sum) }
         ensures visits { result.1 ≤ self.now.1 }
     {
@@ -99,8 +100,12 @@ impl Side {
             if rest < before {
                 side = &node.left;
             } else if rest - before < request {
-                place += node.left.count() as usize;
-                return (Some(place), visits);
+                let passing = Passing {
+                    place: place + node.left.count() as usize,
+                    row: node.row,
+                    before: sum - rest + before,
+                };
+                return (Some(passing), visits);
             } else {
                 rest -= before + request;
                 place += node.left.count() as usize + 1;
@@ -108,6 +113,31 @@ impl Side {
             }
         }
         (None, visits)
+    }
+
+    /// The sum of the requests of the rows before a place.
+    pub(crate) fn sum_to(&self, place: usize) -> (u64, u32)
+        requires { IsSmall self.now }
+        ensures sum { result.0 ≡ requests (take place self.now.0) }
+        ensures visits { result.1 ≤ self.now.1 }
+    {
+        let mut rest = place;
+        let mut before = 0u64;
+        let mut visits = 0;
+        let mut side = self;
+        while let Some(node) = &side.root {
+            let node: &Node = node;
+            visits = visit(visits);
+            let newer = node.left.count() as usize;
+            if rest <= newer {
+                side = &node.left;
+            } else {
+                rest -= newer + 1;
+                before += u64::from(node.row.request) + u64::from(node.left.sum());
+                side = &node.right;
+            }
+        }
+        (before, visits)
     }
 
     /// The place of the row with that stamp.

@@ -1,7 +1,7 @@
 //! What no clause says: worked rows, bounds at a full tree, and a long random run beside a plain list.
 ghost use Rattle.std.specs.Prelude.{◌≡◌, ◌≤◌, ◌<◌};
 
-use crate::Tree;
+use crate::{Passing, Tree};
 use market_types::{ArenaId, Row};
 use std::alloc::{AllocError, Global};
 use std::process::Abort;
@@ -61,7 +61,7 @@ fn walks_newest_first(rt: HostRuntime) -> Result<(), Fail> {
         (14, Some(2)),
         (15, None),
     ] {
-        assert_eq!(rt; tree.place_of_sum(sum).0, place, "at {sum}");
+        assert_eq!(rt; tree.passing(sum).0.map(|passing| passing.place), place, "at {sum}");
     }
     Ok(())
 }
@@ -202,22 +202,21 @@ impl Pair {
                 assert_eq!(rt; self.tree.walk(newer).0, Some(*row));
             }
         }
-        match self.tree.place_of_sum(sum).0 {
+        match self.tree.passing(sum).0 {
             None => assert!(rt; total <= sum),
-            Some(place) => self.compare_row(rt, place, sum),
+            Some(passing) => self.compare_passing(rt, passing, sum),
         }
     }
 
     /// Reads both sides at a place where the requests pass a sum.
-    fn compare_row(&self, rt: &impl Abort, place: usize, sum: u64) {
-        match self.tree.walk(place).0 {
-            None => assert!(rt; false, "no row at {place}"),
-            Some(row) => {
-                let (before, newer) = self.above(row.stamp);
-                assert_eq!(rt; newer, place);
-                assert!(rt; before <= sum && sum < before.wrapping_add(u64::from(row.request)));
-            }
-        }
+    fn compare_passing(&self, rt: &impl Abort, passing: Passing, sum: u64) {
+        let row = passing.row;
+        let (before, newer) = self.above(row.stamp);
+        assert_eq!(rt; self.tree.walk(passing.place).0, Some(row));
+        assert_eq!(rt; newer, passing.place);
+        assert_eq!(rt; before, passing.before);
+        assert_eq!(rt; self.tree.sum_to(passing.place).0, before);
+        assert!(rt; before <= sum && sum < before.wrapping_add(u64::from(row.request)));
     }
 }
 

@@ -1,10 +1,11 @@
 //! The tree, and its calls.
-ghost use Rattle.std.specs.Prelude.{◌≡◌, ◌+◌, ◌*◌, ◌<◌, ◌≤◌, ◌↔◌, [], length, slice_get, is_ok, if◌then◌else◌, IsTrue, IfNone, IfSome, IfOk, OnOk};
-ghost use Rattle.prefix_tree.specs.Rows.{IsNewestFirst, IsAbsent, IsPassedAt, requests, requests_above, first_mandated, row_at, place_of, insert_row, without, set_row};
+ghost use Rattle.std.specs.Prelude.{◌≡◌, ◌+◌, ◌*◌, ◌<◌, ◌≤◌, ◌↔◌, [], length, take, slice_get, is_ok, if◌then◌else◌, IsTrue, IfNone, IfSome, IfOk, OnOk};
+ghost use Rattle.prefix_tree.specs.Rows.{IsNewestFirst, IsAbsent, IsPassing, requests, requests_above, first_mandated, row_at, place_of, insert_row, without, set_row};
 ghost use Rattle.prefix_tree.specs.Nodes.{row_of};
 ghost use Rattle.prefix_tree.specs.Bits.{bits};
 
 use crate::node::Node;
+use crate::passing::Passing;
 use crate::side::Side;
 use crate::taken::Taken;
 use market_types::Row;
@@ -94,14 +95,21 @@ impl Tree {
         self.root.first_mandated()
     }
 
-    /// The place of the first row up to and with which the requests add up to more than `sum`, None where they never
-    /// do.
-    pub fn place_of_sum(&self, sum: u64) -> (Option<usize>, u32)
-        ensures some { IfSome result.0 (λ place. IsPassedAt sum place self.now) }
+    /// The first row up to and with which the requests add up to more than `sum`, None where they never do.
+    pub fn passing(&self, sum: u64) -> (Option<Passing>, u32)
+        ensures some { IfSome result.0 (λ passing. IsPassing sum passing self.now) }
         ensures none { IfNone result.0 (requests self.now ≤ sum) }
         ensures visits { result.1 ≤ 2 * bits (length self.now) }
     {
-        self.root.place_of_sum(sum)
+        self.root.passing(sum)
+    }
+
+    /// The sum of the requests of the rows before a place, which may lie beyond the end.
+    pub fn sum_to(&self, place: usize) -> (u64, u32)
+        ensures exact { result.0 ≡ requests (take place self.now) }
+        ensures visits { result.1 ≤ 2 * bits (length self.now) }
+    {
+        self.root.sum_to(place)
     }
 
     /// The place of the row with that stamp, None where no row has it.

@@ -8,7 +8,7 @@ use Rattle.market_types.specs.Counts.{Counts}
 use Rattle.market_types.specs.Allotment.{in_order, hire, recall}
 use Rattle.market_types.specs.Step.{above_zero, counts_of}
 use Rattle.recall_hire.specs.declared.rows.Staffing.{Staffing}
-use Rattle.recall_hire.specs.Staffed.{recall_in, hire_in, listed, allotted_at, NoneAllotted, first_in_need, counts_in, above_zero_in, row_of, rows_of, need_of}
+use Rattle.recall_hire.specs.Staffed.{recall_in, hire_in, listed, allotted_at, NoneAllotted, first_in_need, counts_in, above_zero_in, row_of, rows_of, rows_among, need_among}
 
 -- ---- a search for a row that has too few
 
@@ -67,7 +67,7 @@ need-none (x ∷ xs) before =
 
 -- ---- in a market
 
-need-rows : (s : State) (arenas : List Arena) → first_in_need (map (row_of s) arenas) ≡ option_map (λ (a : Arena). a.number) (find (λ (a : Arena). ltb 0 (hire s a.number)) arenas)
+need-rows : (s : State) (arenas : List Arena) → first_in_need (rows_among s arenas) ≡ need_among s arenas
 need-rows s [] = refl
 need-rows s (a ∷ arenas) =
     elim (cases_Bool (ltb 0 (hire s a.number))) [
@@ -75,8 +75,8 @@ need-rows s (a ∷ arenas) =
       | inr e ↦ rw e (need-rows s arenas)
     ]
 
-pub need-in_market : (s : State) (rows : List Staffing) → rows ≡ rows_of s → first_in_need rows ≡ need_of s
-need-in_market s rows e = ap first_in_need e ∙ need-rows s (in_order s)
+pub need-in_market : (s : State) (arenas : List Arena) (rows : List Staffing) → rows ≡ rows_among s arenas → first_in_need rows ≡ need_among s arenas
+need-in_market s arenas rows e = ap first_in_need e ∙ need-rows s arenas
 
 counts-rows : (s : State) (count : ℕ → ℕ) (count_in : Staffing → ℕ) (arenas : List Arena) → ((a : Arena) → count_in (row_of s a) ≡ count a.number)
     → above_zero_in count_in (map (row_of s) arenas) ≡ above_zero count arenas

@@ -1,11 +1,12 @@
 -- What arenas have of what they are allotted, in the order in which they are served.
-use Rattle.std.specs.Prelude.{◌≡◌, ℕ, ◌-◌, ◌<◌, ◌≤◌, nat_lt, if◌then◌else◌, List, [], ◌∷◌, map, Option, slice_index}
+use Rattle.std.specs.Prelude.{◌≡◌, ℕ, ◌-◌, ◌<◌, ◌≤◌, nat_lt, if◌then◌else◌, List, [], ◌∷◌, map, Option, Some, slice_get, slice_index}
 use Rattle.std.specs.List.{filter, find}
 use Rattle.std.specs.Option.{option_map}
 use Rattle.market_types.specs.State.{State, Arena}
 use Rattle.market_types.specs.Counts.{Counts}
-use Rattle.market_types.specs.Allotment.{in_order, alloc, active, need}
+use Rattle.market_types.specs.Allotment.{in_order, alloc, active, hire, need}
 use Rattle.recall_hire.specs.declared.rows.Staffing.{Staffing}
+use Rattle.recall_hire.specs.declared.rows.Next.{Next}
 
 -- how many workers a row has too many
 abbrev pub recall_in : Staffing → ℕ
@@ -40,15 +41,30 @@ allotted_at rows place = slice_index (map (λ (r : Staffing). r.allotted) rows) 
 abbrev pub NoneAllotted : List Staffing → ℕ → ℕ → Type 0
 NoneAllotted rows from to = (place : ℕ) → from ≤ place → place < to → allotted_at rows place ≡ 0
 
+-- the next row from a place on that is allotted a worker
+pub record IsNext (from : ℕ) (next : Next) (rows : List Staffing) : Type 0 where
+  pub not_behind : from ≤ next.place
+  pub row : slice_get rows next.place ≡ Some next.row
+  pub allotted : 0 < next.row.allotted
+  pub first : NoneAllotted rows from next.place
+
 -- ---- in a market
 
 -- the row of an arena
 abbrev pub row_of : State → Arena → Staffing
 row_of s a = record { arena = a.number; allotted = alloc s a.number; active = active s a.number }
 
+-- the rows of arenas of a market
+abbrev pub rows_among : State → List Arena → List Staffing
+rows_among s arenas = map (row_of s) arenas
+
 -- the rows of a market
 abbrev pub rows_of : State → List Staffing
-rows_of s = map (row_of s) (in_order s)
+rows_of s = rows_among s (in_order s)
+
+-- the first of these arenas that a worker is needed at
+abbrev pub need_among : State → List Arena → Option ℕ
+need_among s arenas = option_map (λ (a : Arena). a.number) (find (λ (a : Arena). nat_lt 0 (hire s a.number)) arenas)
 
 -- the arena that a worker goes to next
 abbrev pub need_of : State → Option ℕ

@@ -9,7 +9,7 @@ mod rows;
 
 pub use needs::{first_in_need, lists};
 pub use roster::Roster;
-pub use rows::{Rows, Staffing, hire, recall};
+pub use rows::{Next, Rows, Staffing, hire, recall};
 
 #[cfg(test)]
 mod tests;

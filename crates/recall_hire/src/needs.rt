@@ -1,45 +1,53 @@
 //! Where a worker is needed, and where workers are too many or too few.
-ghost use Rattle.std.specs.Prelude.{◌≡◌, ◌++◌, IfOk, OnOk};
-ghost use Rattle.market_types.specs.State.{State};
+ghost use Rattle.std.specs.Prelude.{◌≡◌, ◌++◌, List, IfOk, OnOk};
+ghost use Rattle.market_types.specs.State.{State, Arena};
 ghost use Rattle.market_types.specs.Step.{counts_of};
-ghost use Rattle.recall_hire.specs.Staffed.{first_in_need, counts_in, listed, rows_of, need_of};
+ghost use Rattle.recall_hire.specs.Staffed.{first_in_need, counts_in, listed, rows_of, rows_among, need_among};
 
 use crate::rows::{Rows, hire, recall};
 use market_types::{ArenaId, Lists};
 use std::alloc::{AllocError, Global};
 
-/// The first arena in order that is allotted more workers than it has. Takes no memory, and looks only at rows that are
-/// allotted some.
-pub fn first_in_need<R: Rows>(rows: &R) -> Option<ArenaId>
-    ensures exact { result ≡ first_in_need (R.rows rows.now) }
-    ensures in_market { (s : State) → R.rows rows.now ≡ rows_of s → result ≡ need_of s }
+/// The first arena in order that is allotted more workers than it has, and how many nodes the rows entered. Takes no
+/// memory, and looks only at rows that are allotted some.
+pub fn first_in_need<R: Rows>(rows: &R) -> (Option<ArenaId>, u32)
+    ensures exact { result.0 ≡ first_in_need (R.rows rows.now) }
+    ensures in_market { (s : State) (arenas : List Arena) → R.rows rows.now ≡ rows_among s arenas
+        → result.0 ≡ need_among s arenas }
 {
     let len = rows.len();
     let mut place = 0;
+    let mut visits = 0_u32;
     while place < len {
-        let next = rows.next_allotted(place)?;
-        let row = rows.row(next);
-        if hire(row.active, row.allotted) > 0 {
-            return Some(row.arena);
+        let (next, more) = rows.next_allotted(place);
+        visits = visits.saturating_add(more);
+        let Some(next) = next else {
+            return (None, visits);
+        };
+        if hire(next.row.active, next.row.allotted) > 0 {
+            return (Some(next.row.arena), visits);
         }
-        place = next + 1;
+        place = next.place + 1;
     }
-    None
+    (None, visits)
 }
 
-/// The arenas with workers too many, and those with too few, each with how many, in order.
-pub fn lists<R: Rows>(alloc: Global, rows: &R) -> Result<Lists, AllocError>
-    ensures exact { IfOk result (λ lists. lists ≡ counts_in (R.rows rows.now)) }
-    ensures in_market { (s : State) → R.rows rows.now ≡ rows_of s → IfOk result (λ lists. lists ≡ counts_of s) }
+/// The arenas with workers too many, and those with too few, each with how many, in order; and how many nodes the rows
+/// entered.
+pub fn lists<R: Rows>(alloc: Global, rows: &R) -> Result<(Lists, u32), AllocError>
+    ensures exact { IfOk result (λ answer. answer.0 ≡ counts_in (R.rows rows.now)) }
+    ensures in_market { (s : State) → R.rows rows.now ≡ rows_of s → IfOk result (λ answer. answer.0 ≡ counts_of s) }
 {
     let mut recalls = Vec::new(alloc);
     let mut hires = Vec::new(alloc);
+    let mut visits = 0_u32;
     for place in 0..rows.len() {
-        let row = rows.row(place);
+        let (row, more) = rows.row(place);
+        visits = visits.saturating_add(more);
         list(&mut recalls, row.arena, recall(row.active, row.allotted))?;
         list(&mut hires, row.arena, hire(row.active, row.allotted))?;
     }
-    Ok(Lists { recalls, hires })
+    Ok((Lists { recalls, hires }, visits))
 }
 
 /// Puts a count above 0 at the end of a list.

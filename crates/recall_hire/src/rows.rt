@@ -1,7 +1,7 @@
 //! What arenas have of what they are allotted.
 ghost use Rattle.std.specs.Prelude.{◌≡◌, ℕ, ◌-◌, ◌<◌, ◌≤◌, List, length, slice_get, Some, IfSome, IfNone};
 ghost use Rattle.recall_hire.specs.declared.rows.Staffing.{Staffing};
-ghost use Rattle.recall_hire.specs.Staffed.{allotted_at, NoneAllotted};
+ghost use Rattle.recall_hire.specs.Staffed.{IsNext, NoneAllotted};
 
 use market_types::ArenaId;
 
@@ -13,6 +13,13 @@ pub struct Staffing {
     pub allotted: u32,
     /// How many seats are placed at it.
     pub active: u32,
+}
+
+/// A row that is allotted a worker, where a search came to it.
+#[derive(Clone, Copy, Debug, PartialEq, Eq)]
+pub struct Next {
+    pub place: usize,
+    pub row: Staffing,
 }
 
 /// How many of `active` workers are too many.
@@ -29,7 +36,8 @@ pub fn hire(active: u32, allotted: u32) -> u32
     allotted.saturating_sub(active)
 }
 
-/// Arenas in the order in which they are served.
+/// Arenas in the order in which they are served. Rows that stand in trees say with each answer how many nodes they
+/// entered for it.
 pub trait Rows {
     /// The rows in order.
     ghost rows: { Self → List Staffing };
@@ -39,23 +47,23 @@ pub trait Rows {
         ensures exact { result ≡ length (rows self.now) };
 
     /// The row at a place, from 0.
-    fn row(&self, place: usize) -> Staffing
+    fn row(&self, place: usize) -> (Staffing, u32)
         requires known { place < length (rows self.now) }
-        ensures exact { slice_get (rows self.now) place ≡ Some result };
+        ensures exact { slice_get (rows self.now) place ≡ Some result.0 };
 
-    /// The first place from `place` on whose row is allotted a worker. Looks at each row on the way, unless the rows
-    /// know better.
-    fn next_allotted(&self, place: usize) -> Option<usize>
-        ensures found { IfSome result (λ next. (place ≤ next) × (next < length (rows self.now))) }
-        ensures allotted { IfSome result (λ next. 0 < allotted_at (rows self.now) next) }
-        ensures first { IfSome result (λ next. NoneAllotted (rows self.now) place next) }
-        ensures none { IfNone result (NoneAllotted (rows self.now) place (length (rows self.now))) }
+    /// The first row from a place on that is allotted a worker. Looks at each row on the way, unless the rows know better.
+    fn next_allotted(&self, place: usize) -> (Option<Next>, u32)
+        ensures found { IfSome result.0 (λ next. IsNext place next (rows self.now)) }
+        ensures none { IfNone result.0 (NoneAllotted (rows self.now) place (length (rows self.now))) }
     {
+        let mut visits = 0_u32;
         for next in place..self.len() {
-            if self.row(next).allotted > 0 {
-                return Some(next);
+            let (row, more) = self.row(next);
+            visits = visits.saturating_add(more);
+            if row.allotted > 0 {
+                return (Some(Next { place: next, row }), visits);
             }
         }
-        None
+        (None, visits)
     }
 }

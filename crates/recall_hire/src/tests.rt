@@ -16,8 +16,8 @@ impl Rows for Table<'_> {
         self.rows.len()
     }
 
-    fn row(&self, place: usize) -> Staffing {
-        self.rows[place]
+    fn row(&self, place: usize) -> (Staffing, u32) {
+        (self.rows[place], 1)
     }
 }
 
@@ -52,11 +52,13 @@ fn seats_are_counted_at_their_arenas(rt: HostRuntime) -> Result<(), AllocError> 
 #[test]
 fn counts_are_listed_in_order(rt: HostRuntime) -> Result<(), AllocError> {
     let one = [row(1, 3, 1)];
-    let listed = lists(rt.alloc(), &Table { rows: &one })?;
+    let (listed, visits) = lists(rt.alloc(), &Table { rows: &one })?;
+    assert_eq!(rt; visits, 1);
     assert!(rt; listed.recalls.is_empty());
     assert_eq!(rt; listed.hires.as_slice(), [(ArenaId::new(1), 2)].as_slice());
     let four = [row(4, 0, 0), row(3, 1, 2), row(2, 5, 5), row(1, 2, 0)];
-    let listed = lists(rt.alloc(), &Table { rows: &four })?;
+    let (listed, visits) = lists(rt.alloc(), &Table { rows: &four })?;
+    assert_eq!(rt; visits, 4);
     assert_eq!(rt;
         listed.recalls.as_slice(),
         [(ArenaId::new(3), 1)].as_slice()
@@ -70,10 +72,10 @@ fn a_worker_goes_to_the_first_arena_in_need(rt: HostRuntime) {
     let rows = [row(4, 0, 0), row(3, 1, 2), row(2, 5, 4), row(1, 2, 0)];
     assert_eq!(rt;
         first_in_need(&Table { rows: &rows }),
-        Some(ArenaId::new(2))
+        (Some(ArenaId::new(2)), 3)
     );
-    assert_eq!(rt; first_in_need(&Table { rows: &rows[..2] }), None);
-    assert_eq!(rt; first_in_need(&Table { rows: &[] }), None);
+    assert_eq!(rt; first_in_need(&Table { rows: &rows[..2] }), (None, 2));
+    assert_eq!(rt; first_in_need(&Table { rows: &[] }), (None, 0));
 }
 
 /// A refused growth changes nothing: what is asked for again is what was due.
@@ -87,7 +89,7 @@ fn refused_growth_changes_nothing(rt: HostRuntime) -> Result<(), AllocError> {
     assert_eq!(rt; roster.active(ArenaId::new(1)), 1);
     let rows = [row(1, 1, 2); 40];
     let table = Table { rows: &rows };
-    let listed = match lists(rt.alloc(), &table) {
+    let (listed, _) = match lists(rt.alloc(), &table) {
         Ok(listed) => listed,
         Err(_) => lists(rt.alloc(), &table)?,
     };

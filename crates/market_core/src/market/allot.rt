@@ -1,6 +1,6 @@
 //! What the market allots.
 ghost use Rattle.std.specs.Prelude.{◌≡◌, ℕ, ◌+◌, ◌-◌, ◌*◌, ◌≤◌, ◌<◌, Some, None, IfSome, length, slice_get, option_map, slice_index, slice_index_or, ◌==◌, if◌then◌else◌};
-ghost use Rattle.market_types.specs.Allotment.{alloc, active, at_level, demand, is_top, limit_of};
+ghost use Rattle.market_types.specs.Allotment.{alloc, active, assigned, at_level, demand, is_top, limit_of};
 ghost use Rattle.market_types.specs.Step.{arena_at, view_of};
 ghost use Rattle.allotment.specs.Levels.{AreDemandsOf, ArePicksOf, IsLeveled, pick_of};
 ghost use Rattle.level_list.specs.Bits.{bits};
@@ -8,7 +8,7 @@ ghost use Rattle.market_core.specs.Divided.{IsDivisionOf};
 ghost use Rattle.market_core.specs.Visits.{extra_visits};
 ghost use Rattle.market_types.specs.State.{State};
 ghost use Rattle.market_types.specs.Claims.{request_of};
-ghost use Rattle.market_core.specs.Allotted.{IsWithin};
+ghost use Rattle.market_core.specs.Allotted.{IsWithin, level_alloc};
 ghost use Rattle.market_core.specs.Store.{IsKept};
 
 use super::Market;
@@ -146,6 +146,28 @@ impl Market {
         ensures exact { result ≡ demand self.now level }
     {
         self.arenas.demand(level.get())
+    }
+
+    /// How many workers the arenas of a level are allotted together; 0 where the market has no such level. Where some
+    /// worker may be active, it is what the level is assigned. It takes no memory.
+    pub fn assigned(&self, level: Level) -> u64
+        ensures exact { result ≡ level_alloc self.now level }
+        ensures assigned { 0 < limit_of self.now → result ≡ assigned self.now level }
+    {
+        let _ = self.arenas.len();
+        bound_is_given_out();
+        no_carry_to_keep();
+        let (division, _) = self.divide();
+        if division.limit > 0 {
+            return division.assigned[level.get() as usize - 1];
+        }
+        let Some(picked) = division.picked else {
+            return 0;
+        };
+        match self.arenas.get(picked) {
+            Some(row) if row.level() == level => u64::from(division.bound),
+            _ => 0,
+        }
     }
 
     /// How many workers an arena is allotted; none where no living arena has this number.

@@ -1,11 +1,13 @@
 //! What a command does.
 ghost use Rattle.std.specs.Prelude.{◌≡◌, ◌≤◌, ◌<◌, length, false, IsOk, IfOk, OnOk, OnErr};
-ghost use Rattle.market_types.specs.Step.{open_step, close_step, priority_step, resize_step, request_step, control_step, uncontrol_step, join_from, stay_from, leave_from, place_of, show_step, step};
+ghost use Rattle.market_types.specs.Step.{open_step, close_step, priority_step, resize_step, request_step, control_step, uncontrol_step, join_from, stay_from, leave_from, place_of, show_step, counts_of, step};
+ghost use Rattle.market_types.specs.declared.reply.Reply.TheVariants.{Listed};
 ghost use Rattle.market_core.specs.Memory.{takes_memory};
 ghost use Rattle.market_core.specs.Allotted.{IsStaffed};
 ghost use Rattle.market_core.specs.Visits.{most_visits, looks_in_order};
 
 use super::Market;
+use crate::change::Change;
 use crate::row::ArenaRow;
 use crate::store::Arenas;
 use arena_record::ArenaRecord;
@@ -75,11 +77,11 @@ impl Market {
             Cmd::Request(arena, workers, mandatory) => Ok(self.request(arena, workers, mandatory)),
             Cmd::Control(value) => Ok((self.control(value)?, 0)),
             Cmd::Uncontrol(control) => Ok((self.uncontrol(control), 0)),
-            Cmd::Join => Ok((self.join(seat), 0)),
+            Cmd::Join => Ok(self.join(seat)),
             Cmd::Stay => Ok(self.stay(seat)),
             Cmd::Leave => Ok((self.leave(seat), 0)),
             Cmd::Show(arena) => Ok(self.show(arena)),
-            Cmd::Lists => Ok((Reply::Listed(self.lists(alloc)?), 0)),
+            Cmd::Lists => self.list(alloc),
             Cmd::Limit => Ok((Reply::Limits(self.limits()), 0)),
         }
     }
@@ -131,15 +133,17 @@ impl Market {
         ensures same_seats { length self.new.seats ≡ length self.old.seats }
         ensures visits { result.1 ≤ most_visits self.old }
     {
-        if self.arenas.get(arena).is_none() {
-            return (Reply::Refused(Fault::NoArena), 0);
-        }
         let active = self.roster.active(arena);
         if active > 0 {
-            return (Reply::Refused(Fault::Busy(active)), 0);
+            return match self.arenas.get(arena) {
+                Some(_) => (Reply::Refused(Fault::Busy(active)), 0),
+                None => (Reply::Refused(Fault::NoArena), 0),
+            };
         }
-        let visits = self.arenas.remove(arena);
-        (Reply::Closed, visits)
+        match self.arenas.remove(arena) {
+            Some(visits) => (Reply::Closed, visits),
+            None => (Reply::Refused(Fault::NoArena), 0),
+        }
     }
 
     /// The arena goes first, at this level.
@@ -153,13 +157,15 @@ impl Market {
         if self.levels < level.get() {
             return (Reply::Refused(Fault::BadLevel), 0);
         }
-        let Some(row) = self.arenas.get(arena) else {
+        if self.next_stamp > LAST {
+            return match self.arenas.get(arena) {
+                Some(_) => (Reply::Refused(Fault::OutOfNumbers), 0),
+                None => (Reply::Refused(Fault::NoArena), 0),
+            };
+        }
+        let Some(visits) = self.arenas.promote(arena, self.next_stamp, level) else {
             return (Reply::Refused(Fault::NoArena), 0);
         };
-        if self.next_stamp > LAST {
-            return (Reply::Refused(Fault::OutOfNumbers), 0);
-        }
-        let visits = self.arenas.promote(row, self.next_stamp, level);
         self.next_stamp += 1;
         (Reply::Moved, visits)
     }
@@ -175,15 +181,10 @@ impl Market {
         if let Err(fault) = ArenaRecord::new(slots, reserved) {
             return (Reply::Refused(fault), 0);
         }
-        let Some(row) = self.arenas.get(arena) else {
-            return (Reply::Refused(Fault::NoArena), 0);
-        };
-        let mut claim = row.claim();
-        if claim.resize(slots, reserved).is_err() {
-            unreachable!();
+        match self.arenas.change(arena, Change::Resize(slots, reserved)) {
+            Ok((claim, visits)) => (Reply::Resized(claim.request()), visits),
+            Err(fault) => (Reply::Refused(fault), 0),
         }
-        let visits = self.arenas.set_claim(arena, claim);
-        (Reply::Resized(claim.request()), visits)
     }
 
     /// Adds to what the arena asks for.
@@ -194,15 +195,10 @@ impl Market {
         ensures same_seats { length self.new.seats ≡ length self.old.seats }
         ensures visits { result.1 ≤ most_visits self.old }
     {
-        let Some(row) = self.arenas.get(arena) else {
-            return (Reply::Refused(Fault::NoArena), 0);
-        };
-        let mut claim = row.claim();
-        if let Err(fault) = claim.add(workers, mandatory) {
-            return (Reply::Refused(fault), 0);
+        match self.arenas.change(arena, Change::Add(workers, mandatory)) {
+            Ok((claim, visits)) => (Reply::Requested(claim.request()), visits),
+            Err(fault) => (Reply::Refused(fault), 0),
         }
-        let visits = self.arenas.set_claim(arena, claim);
-        (Reply::Requested(claim.request()), visits)
     }
 
     /// A new limit on parallelism.
@@ -234,21 +230,22 @@ impl Market {
     }
 
     /// An unplaced seat goes to the first arena in need of a worker.
-    fn join(&mut self, seat: SeatNo) -> Reply
+    fn join(&mut self, seat: SeatNo) -> (Reply, u32)
         requires seat { seat < length self.old.seats }
-        ensures reply { result ≡ (join_from self.old seat (place_of self.old seat)).0 }
-        ensures staffed { IsStaffed result self.new }
+        ensures reply { result.0 ≡ (join_from self.old seat (place_of self.old seat)).0 }
+        ensures staffed { IsStaffed result.0 self.new }
         ensures next { self.new ≡ (join_from self.old seat (place_of self.old seat)).1 }
         ensures same_seats { length self.new.seats ≡ length self.old.seats }
     {
         if let Some(arena) = self.roster.at(seat) {
-            return Reply::Refused(Fault::AlreadyPlaced(arena));
+            return (Reply::Refused(Fault::AlreadyPlaced(arena)), 0);
         }
-        let Some(arena) = self.in_need() else {
-            return Reply::Idle;
+        let (arena, visits) = self.in_need();
+        let Some(arena) = arena else {
+            return (Reply::Idle, visits);
         };
         self.roster.place(seat, arena);
-        Reply::Placed(arena)
+        (Reply::Placed(arena), visits)
     }
 
     /// The seat stays at its arena, unless that has a worker too many.
@@ -297,5 +294,14 @@ impl Market {
         };
         let (view, visits) = self.see(row);
         (Reply::Shown(view), visits)
+    }
+
+    /// The arenas with workers too many, and those with too few.
+    fn list(&self, alloc: Global) -> Result<(Reply, u32), AllocError>
+        ensures reply { IfOk result (λ answer. answer.0 ≡ Listed (counts_of self.now)) }
+        ensures staffed { IfOk result (λ answer. IsStaffed answer.0 self.now) }
+    {
+        let (lists, visits) = self.lists(alloc)?;
+        Ok((Reply::Listed(lists), visits))
     }
 }

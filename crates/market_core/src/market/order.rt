@@ -1,14 +1,17 @@
 //! The arenas in the order in which they are served, beside what they are allotted and have.
-ghost use Rattle.std.specs.Prelude.{◌≡◌, ◌<◌, Some, length, slice_get, IfOk};
-ghost use Rattle.market_types.specs.Allotment.{in_order};
-ghost use Rattle.market_types.specs.Step.{counts_of};
-ghost use Rattle.recall_hire.specs.Staffed.{rows_of, need_of};
-ghost use Rattle.market_core.specs.Divided.{IsDivisionOf};
+ghost use Rattle.std.specs.Prelude.{◌≡◌, ◌<◌, ◌≤◌, Some, length, slice_get, IfOk, IfSome, IfNone};
+ghost use Rattle.market_types.specs.Allotment.{limit_of};
+ghost use Rattle.market_types.specs.Step.{arena_at, counts_of};
+ghost use Rattle.recall_hire.specs.Staffed.{IsNext, NoneAllotted, row_of, rows_of, need_of};
+ghost use Rattle.market_core.specs.Divided.{IsDivisionOf, IsSharedAt, rows_at};
+ghost use Rattle.market_core.specs.Store.{IsKept};
 
 use super::Market;
 use crate::division::Division;
+use crate::row::ArenaRow;
+use allotment::{no_carry_to_keep, share, sum_before_next};
 use market_types::{ArenaId, Lists};
-use recall_hire::{Rows, Staffing, first_in_need, lists};
+use recall_hire::{Next, Rows, Staffing, first_in_need, hire, lists};
 use std::alloc::{AllocError, Global};
 
 /// A market's arenas in order, and how its workers are divided.
@@ -26,8 +29,33 @@ impl Rows for Order<'_> {
         self.market.count()
     }
 
-    fn row(&self, place: usize) -> Staffing {
+    fn row(&self, place: usize) -> (Staffing, u32) {
         self.market.staffing(self.division, place)
+    }
+}
+
+/// A level's arenas in order where some worker may be active, and how the market's workers are divided.
+#[derive(Drop)]
+struct LevelOrder<'a> {
+    market: &'a Market,
+    division: &'a Division,
+    level: u32,
+    ghost shared: { IsSharedAt level market.now division.now },
+}
+
+impl Rows for LevelOrder<'_> {
+    ghost rows = { λ o. rows_at o.market.now o.level };
+
+    fn len(&self) -> usize {
+        self.market.count_at(self.level)
+    }
+
+    fn row(&self, place: usize) -> (Staffing, u32) {
+        self.market.staffing_at(self.division, self.level, place)
+    }
+
+    fn next_allotted(&self, place: usize) -> (Option<Next>, u32) {
+        self.market.next_at(self.division, self.level, place)
     }
 }
 
@@ -40,46 +68,148 @@ impl Market {
         self.arenas.len()
     }
 
-    /// What the arena at a place is allotted, and how many seats it has.
-    fn staffing(&self, division: &Division, place: usize) -> Staffing
-        requires known { place < length (rows_of self.now) }
-        requires divided { IsDivisionOf self.now division.now }
-        ensures { slice_get (rows_of self.now) place ≡ Some result }
+    /// How many arenas a level has.
+    fn count_at(&self, level: u32) -> usize
+        requires low { 1 ≤ level }
+        requires high { level ≤ self.now.levels }
+        ensures { result ≡ length (rows_at self.now level) }
     {
-        let _ = self.arenas.len();
-        let Some(row) = self.arenas.nth(self.levels, place) else {
-            unreachable!();
-        };
-        let (allotted, _) = self.allot(row, division);
-        Staffing {
+        let _ = self.levels;
+        self.arenas.count(level)
+    }
+
+    /// What an arena is allotted, and how many seats it has.
+    fn staff(&self, row: ArenaRow, division: &Division) -> (Staffing, u32)
+        requires kept { IsKept self.now.arenas }
+        requires there { arena_at row.number self.now.arenas ≡ Some row }
+        requires divided { IsDivisionOf self.now division.now }
+        ensures exact { result.0 ≡ row_of self.now row }
+        ensures few { result.1 ≤ 22 }
+    {
+        let (allotted, visits) = self.allot(row, division);
+        let staffing = Staffing {
             arena: row.arena(),
             allotted,
             active: self.roster.active(row.arena()),
+        };
+        (staffing, visits)
+    }
+
+    /// What the arena at a place is allotted, and how many seats it has.
+    fn staffing(&self, division: &Division, place: usize) -> (Staffing, u32)
+        requires known { place < length (rows_of self.now) }
+        requires divided { IsDivisionOf self.now division.now }
+        ensures { slice_get (rows_of self.now) place ≡ Some result.0 }
+    {
+        let _ = self.arenas.len();
+        let (row, first) = self.arenas.nth(self.levels, place);
+        let Some(row) = row else {
+            unreachable!();
+        };
+        let (staffing, more) = self.staff(row, division);
+        (staffing, first + more)
+    }
+
+    /// What the arena at a place of a level is allotted, and how many seats it has.
+    fn staffing_at(&self, division: &Division, level: u32, place: usize) -> (Staffing, u32)
+        requires known { place < length (rows_at self.now level) }
+        requires shared { IsSharedAt level self.now division.now }
+        ensures { slice_get (rows_at self.now level) place ≡ Some result.0 }
+    {
+        let _ = self.arenas.len();
+        let _ = self.levels;
+        let (row, first) = self.arenas.walk(level, place);
+        let Some(row) = row else {
+            unreachable!();
+        };
+        let (staffing, more) = self.staff(row, division);
+        (staffing, first + more)
+    }
+
+    /// The first arena from a place of a level on that is allotted a worker. Walks over no arena on the way.
+    fn next_at(&self, division: &Division, level: u32, place: usize) -> (Option<Next>, u32)
+        requires shared { IsSharedAt level self.now division.now }
+        ensures found { IfSome result.0 (λ next. IsNext place next (rows_at self.now level)) }
+        ensures none { IfNone result.0 (NoneAllotted (rows_at self.now level) place (length (rows_at self.now level))) }
+    {
+        no_carry_to_keep();
+        let _ = self.arenas.len();
+        let _ = self.levels;
+        let at = level as usize - 1;
+        let (given, asked) = (division.assigned[at], division.demands[at]);
+        if given == 0 {
+            return (None, 0);
+        }
+        let (before, first) = self.arenas.sum_to(level, place);
+        let sum = sum_before_next(given, asked, before);
+        let (passing, more) = self.arenas.passing(level, sum);
+        let visits = first + more;
+        let Some(passing) = passing else {
+            return (None, visits);
+        };
+        let asking = passing.row;
+        let workers = share(given, asked, passing.before, u64::from(asking.request));
+        let active = self.roster.active(asking.arena);
+        let row = Staffing {
+            arena: asking.arena,
+            allotted: workers as u32,
+            active,
+        };
+        let next = Next {
+            place: passing.place,
+            row,
+        };
+        (Some(next), visits)
+    }
+
+    /// The arena whose enqueued work is served, where it is allotted more workers than it has.
+    fn picked_in_need(&self, division: &Division) -> Option<ArenaId>
+        requires divided { IsDivisionOf self.now division.now }
+        requires none { limit_of self.now ≡ 0 }
+        ensures { result ≡ need_of self.now }
+    {
+        let picked = division.picked?;
+        if hire(self.roster.active(picked), division.bound) > 0 {
+            Some(picked)
+        } else {
+            None
         }
     }
 
     /// The first arena in order that is allotted more workers than it has.
-    pub(super) fn in_need(&self) -> Option<ArenaId>
-        ensures { result ≡ need_of self.now }
+    pub(super) fn in_need(&self) -> (Option<ArenaId>, u32)
+        ensures { result.0 ≡ need_of self.now }
     {
-        let (division, _) = self.divide();
-        first_in_need(&Order {
-            market: self,
-            division: &division,
-        })
+        let (division, mut visits) = self.divide();
+        if division.limit == 0 {
+            return (self.picked_in_need(&division), visits);
+        }
+        for level in 0..self.levels {
+            let (found, more) = first_in_need(&LevelOrder {
+                market: self,
+                division: &division,
+                level: level + 1,
+            });
+            visits = visits.saturating_add(more);
+            if found.is_some() {
+                return (found, visits);
+            }
+        }
+        (None, visits)
     }
 
     /// The arenas with workers too many, and those with too few.
-    pub(super) fn lists(&self, alloc: Global) -> Result<Lists, AllocError>
-        ensures { IfOk result (λ lists. lists ≡ counts_of self.now) }
+    pub(super) fn lists(&self, alloc: Global) -> Result<(Lists, u32), AllocError>
+        ensures { IfOk result (λ answer. answer.0 ≡ counts_of self.now) }
     {
-        let (division, _) = self.divide();
-        lists(
+        let (division, first) = self.divide();
+        let (lists, more) = lists(
             alloc,
             &Order {
                 market: self,
                 division: &division,
             },
-        )
+        )?;
+        Ok((lists, first.saturating_add(more)))
     }
 }

@@ -1,4 +1,4 @@
-use Rattle.allotment.proofs.Carries.{carry_after-before, carry_after-whole, carry_after-levels, share_of-before, share_of-few}
+use Rattle.allotment.proofs.Carries.{carry_after-before, carry_after-whole, carry_after-levels, share_of-before, share_of-difference, share_of-few}
 use Rattle.allotment.proofs.law.no_carry_to_keep.Goals as goal
 
 pub returns-clause-before_an_arena : goal.returns-clause-before_an_arena
@@ -12,6 +12,9 @@ returns-clause-after_levels c = carry_after-levels
 
 pub returns-clause-share : goal.returns-clause-share
 returns-clause-share c = share_of-before
+
+pub returns-clause-difference : goal.returns-clause-difference
+returns-clause-difference c = share_of-difference
 
 pub returns-clause-no_more_than_asked : goal.returns-clause-no_more_than_asked
 returns-clause-no_more_than_asked c = share_of-few

@@ -1,39 +1,38 @@
 use Rattle.std.proofs.Common.{◌≡◌, None, length, sym, ◌∙◌, arith, rules}
+use Rattle.std.proofs.lemmas.Option.{slice_get_within}
 use Rattle.recall_hire.proofs.Staffings.{NoneNeeds, needs-to, needs-more, need-found, need-none, need-in_market}
 use Rattle.recall_hire.proofs.needs.first_in_need.Goals as goal
 
-pub returns-in_err-next-clause-exact : goal.returns-in_err-next-clause-exact
-returns-in_err-next-clause-exact g c =
+pub returns-in_default-clause-exact : goal.returns-in_default-clause-exact
+returns-in_default-clause-exact g c =
     let rows = g.R.Rows.rows c.args.rows.now in
-    let none : c.from_residual.result ≡ None = search rules in
-    none ∙ sym (need-none rows (needs-to rows c.loop-place.place (length rows) c.loop-place.invariant.searched c.in_err-next.ensures.none))
+    sym (need-none rows (needs-to rows c.loop-place.place (length rows) c.loop-place.invariant.searched (rw c.in_default.is at c.next_allotted-next.ensures.none)))
 
-pub returns-in_err-next-clause-in_market : goal.returns-in_err-next-clause-in_market
-returns-in_err-next-clause-in_market g c = λ s e.
+pub returns-in_default-clause-in_market : goal.returns-in_default-clause-in_market
+returns-in_default-clause-in_market g c = λ s arenas e.
     let rows = g.R.Rows.rows c.args.rows.now in
-    let none : c.from_residual.result ≡ None = search rules in
-    none ∙ sym (need-none rows (needs-to rows c.loop-place.place (length rows) c.loop-place.invariant.searched c.in_err-next.ensures.none))
-    ∙ need-in_market s rows e
+    sym (need-none rows (needs-to rows c.loop-place.place (length rows) c.loop-place.invariant.searched (rw c.in_default.is at c.next_allotted-next.ensures.none)))
+    ∙ need-in_market s arenas rows e
 
 pub returns-then-hire-gt0-clause-exact : goal.returns-then-hire-gt0-clause-exact
 returns-then-hire-gt0-clause-exact g c =
     let rows = g.R.Rows.rows c.args.rows.now in
-    sym (need-found rows c.in_ok-next.next c.row-row.result (needs-to rows c.loop-place.place c.in_ok-next.next c.loop-place.invariant.searched c.in_ok-next.ensures.first) c.row-row.ensures.exact (omega arith))
+    sym (need-found rows c.in-Some.next.place c.in-Some.next.row (needs-to rows c.loop-place.place c.in-Some.next.place c.loop-place.invariant.searched (rw c.in-Some.is at c.next_allotted-next.ensures.found).first) (rw c.in-Some.is at c.next_allotted-next.ensures.found).row (omega arith))
 
 pub returns-then-hire-gt0-clause-in_market : goal.returns-then-hire-gt0-clause-in_market
-returns-then-hire-gt0-clause-in_market g c = λ s e.
+returns-then-hire-gt0-clause-in_market g c = λ s arenas e.
     let rows = g.R.Rows.rows c.args.rows.now in
-    sym (need-found rows c.in_ok-next.next c.row-row.result (needs-to rows c.loop-place.place c.in_ok-next.next c.loop-place.invariant.searched c.in_ok-next.ensures.first) c.row-row.ensures.exact (omega arith))
-    ∙ need-in_market s rows e
+    sym (need-found rows c.in-Some.next.place c.in-Some.next.row (needs-to rows c.loop-place.place c.in-Some.next.place c.loop-place.invariant.searched (rw c.in-Some.is at c.next_allotted-next.ensures.found).first) (rw c.in-Some.is at c.next_allotted-next.ensures.found).row (omega arith))
+    ∙ need-in_market s arenas rows e
 
 pub loop-place-preserved : goal.loop-place-preserved
 loop-place-preserved g c =
     let rows = g.R.Rows.rows c.args.rows.now in
     record {
-      within = omega (arith, c.in_ok-next.ensures.found.1);
+      within = omega (arith, slice_get_within rows c.in-Some.next.place c.in-Some.next.row (rw c.in-Some.is at c.next_allotted-next.ensures.found).row);
       searched =
-          needs-more rows c.in_ok-next.next c.row-row.result
-          (needs-to rows c.loop-place.place c.in_ok-next.next c.loop-place.invariant.searched c.in_ok-next.ensures.first) c.row-row.ensures.exact (omega arith);
+          needs-more rows c.in-Some.next.place c.in-Some.next.row
+          (needs-to rows c.loop-place.place c.in-Some.next.place c.loop-place.invariant.searched (rw c.in-Some.is at c.next_allotted-next.ensures.found).first) (rw c.in-Some.is at c.next_allotted-next.ensures.found).row (omega arith);
     }
 
 pub returns-clause-exact : goal.returns-clause-exact
@@ -43,7 +42,7 @@ returns-clause-exact g c =
     sym (need-none rows searched)
 
 pub returns-clause-in_market : goal.returns-clause-in_market
-returns-clause-in_market g c = λ s e.
+returns-clause-in_market g c = λ s arenas e.
     let rows = g.R.Rows.rows c.args.rows.now in
     let searched : NoneNeeds rows (length rows) = λ place below. c.loop-place.invariant.searched place (omega arith) in
-    sym (need-none rows searched) ∙ need-in_market s rows e
+    sym (need-none rows searched) ∙ need-in_market s arenas rows e

@@ -9,11 +9,11 @@ loop-place-preserved g c =
     let rows = g.R.Rows.rows c.args.rows.now in
     record {
       recalled =
-          listed-more recall_in rows c.loop-place.place c.recall.result c.row-row.result c.loop-place.recalls.items c.list.new.counts.items
-          c.in_ok-list.ensures.listed c.loop-place.invariant.recalled c.recall.ensures.exact c.row-row.ensures.exact;
+          listed-more recall_in rows c.loop-place.place c.recall.result c.row-more.result.0 c.loop-place.recalls.items c.list.new.counts.items
+          c.in_ok-list.ensures.listed c.loop-place.invariant.recalled c.recall.ensures.exact c.row-more.ensures.exact;
       hired =
-          listed-more hire_in rows c.loop-place.place c.hire.result c.row-row.result c.loop-place.hires.items c.list-in-loop-place.new.counts.items
-          c.in_ok-list-2.ensures.listed c.loop-place.invariant.hired c.hire.ensures.exact c.row-row.ensures.exact;
+          listed-more hire_in rows c.loop-place.place c.hire.result c.row-more.result.0 c.loop-place.hires.items c.list-in-loop-place.new.counts.items
+          c.in_ok-list-2.ensures.listed c.loop-place.invariant.hired c.hire.ensures.exact c.row-more.ensures.exact;
     }
 
 pub returns-clause-in_market : goal.returns-clause-in_market

@@ -1,4 +1,4 @@
-use Rattle.std.proofs.Common.{arith, refl, sym, ap, ◌∙◌, ◌≡◌, ℕ, ◌+◌, ◌-◌, ◌≤◌, ◌<◌, ◌*◌, cond, length, get_or}
+use Rattle.std.proofs.Common.{arith, refl, sym, ap, ◌∙◌, ◌≡◌, ◌+◌, ◌-◌, ◌≤◌, ◌<◌, cond, get_or}
 use Rattle.market_types.specs.State.{Arena, State}
 use Rattle.market_types.specs.Claims.{request_of}
 use Rattle.market_types.specs.Allotment.{total_request, at_level, demand, assigned, limit_of, bound_of, mandatory_pick, is_just, share_of, carry_after, alloc}

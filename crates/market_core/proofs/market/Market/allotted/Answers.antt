@@ -1,5 +1,5 @@
-use Rattle.std.proofs.Common.{ap, sym, ◌∙◌, ◌≡◌, Some, None}
-use Rattle.market_types.specs.State.{Arena, State}
+use Rattle.std.proofs.Common.{ap, sym, ◌∙◌}
+use Rattle.market_types.specs.State.{State}
 use Rattle.market_types.specs.Allotment.{alloc}
 use Rattle.market_types.specs.Step.{arena_at}
 use Rattle.market_core.proofs.Allotted.{alloc-missing}

@@ -1,4 +1,4 @@
-use Rattle.std.proofs.Common.{ap, sym, ◌≡◌, ◌∙◌}
+use Rattle.std.proofs.Common.{ap, ◌∙◌}
 use Rattle.market_types.specs.State.{State}
 use Rattle.market_types.specs.Allotment.{total_request, at_level}
 use Rattle.market_core.specs.Sound.{IsSound}

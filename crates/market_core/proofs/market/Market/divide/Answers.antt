@@ -1,9 +1,6 @@
-use Rattle.std.proofs.Common.{arith, ap, sym, min, ◌≡◌, ◌∙◌, Option, ℕ}
-use Rattle.market_types.specs.State.{State}
-use Rattle.market_types.specs.Step.{limits_of}
+use Rattle.std.proofs.Common.{ap, min, ◌≡◌, ◌∙◌, Option, ℕ}
 use Rattle.market_types.specs.Allotment.{bound_of, limit_of, effective_limit_of, total_request}
 use Rattle.market_types.specs.declared.reply.LimitView.{LimitView}
-use Rattle.allotment.specs.Levels.{pick_of}
 use Rattle.market_core.proofs.market.Market.divide.Goals as goal
 use Rattle.market_core.proofs.market.Market.divide.Goals.{then-limits-eq0, else-limits-eq0}
 

@@ -1,4 +1,4 @@
-use Rattle.std.proofs.Common.{sym, ap, subst, ◌∙◌, ◌≡◌}
+use Rattle.std.proofs.Common.{subst, ◌∙◌}
 use Rattle.market_types.specs.State.{State}
 use Rattle.market_core.specs.Sound.{IsSound}
 use Rattle.market_core.specs.Store.{IsKept}

@@ -1,6 +1,6 @@
 use Rattle.market_core.specs.Shown.{shown}
-use Rattle.market_core.proofs.Steps.{sound-claimed}
+use Rattle.market_core.proofs.Steps.{sound-changed}
 use Rattle.market_core.proofs.market.Market.resize.Goals as goal
 
 pub invariant_of-self : goal.invariant_of-self
-invariant_of-self c = rw c.set_claim-visits.ensures.exact (sound-claimed (shown c.self.inside) c.args.arena _ c.self.invariant)
+invariant_of-self c = sound-changed (shown c.self.inside) c.args.arena c.change.new.self c.change.result c.self.invariant c.change.ensures.next c.change.ensures.unchanged

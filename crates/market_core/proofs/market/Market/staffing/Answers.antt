@@ -14,18 +14,12 @@ use Rattle.market_core.proofs.market.Market.staffing.Goals as goal
 pub unreachable-requires : goal.unreachable-requires
 unreachable-requires c =
     let s = c.args.self.now in
-    let past : length (in_order s) ≤ c.args.place = get-none (in_order s) c.args.place (ap (λ (s : State). slice_get (in_order s) c.args.place) (sym c.self.view_is) ∙ sym c.nth.ensures.exact ∙ c.in_default.is) in
+    let past : length (in_order s) ≤ c.args.place = get-none (in_order s) c.args.place (ap (λ (s : State). slice_get (in_order s) c.args.place) (sym c.self.view_is) ∙ sym c.nth-row.ensures.exact ∙ c.in_default.is) in
     omega (arith, past, length-map (in_order s) (row_of s), c.requires.known)
-
-same-staffing : (a n k b m l : ℕ) → a ≡ b → n ≡ m → k ≡ l → ◌≡◌ {A = Staffing} (record { arena = a; allotted = n; active = k }) (record { arena = b; allotted = m; active = l })
-same-staffing a n k b m l e f g = rw (e, f, g) refl
 
 pub returns : goal.returns
 returns c =
     let s = c.args.self.now in
     let row = c.in-Some.row in
-    let there : slice_get (in_order s) c.args.place ≡ Some row = ap (λ (s : State). slice_get (in_order s) c.args.place) (sym c.self.view_is) ∙ sym c.nth.ensures.exact ∙ c.in-Some.is in
-    let placed : c.active.result ≡ active s row.number =
-    c.active.ensures.exact ∙ ap (λ n. count_by (is_just n) c.self.inside.roster) c.arena-2.ensures ∙ ap (λ (s : State). active s row.number) c.self.view_is in
-    slice_get-map (row_of s) (in_order s) c.args.place ∙ ap (option_map (row_of s)) there
-    ∙ ap Some (same-staffing row.number (alloc s row.number) (active s row.number) c.arena.result c.allot-allotted.result.0 c.active.result (sym c.arena.ensures) (sym c.allot-allotted.ensures.exact) (sym placed))
+    let there : slice_get (in_order s) c.args.place ≡ Some row = ap (λ (s : State). slice_get (in_order s) c.args.place) (sym c.self.view_is) ∙ sym c.nth-row.ensures.exact ∙ c.in-Some.is in
+    slice_get-map (row_of s) (in_order s) c.args.place ∙ ap (option_map (row_of s)) there ∙ ap Some (sym c.staff-staffing.ensures.exact)

@@ -1,7 +1,7 @@
-use Rattle.std.proofs.Common.{arith, sym, ap, ◌∙◌, ◌≡◌, ◌+◌, ◌<◌, ◌≤◌, ℕ, Some, None, Option, set}
+use Rattle.std.proofs.Common.{arith, sym, ap, ◌∙◌, ◌≡◌, ◌+◌, ◌<◌, ◌≤◌, Some, None, set}
 use Rattle.std.specs.Prelude.{slice_get}
 use Rattle.market_types.specs.State.{State}
-use Rattle.market_types.specs.Allotment.{active, alloc, is_just}
+use Rattle.market_types.specs.Allotment.{active, alloc}
 use Rattle.market_core.specs.Shown.{shown}
 use Rattle.market_core.proofs.Staffed.{unplaced-one}
 use Rattle.market_core.proofs.market.Market.stay.Goals as goal

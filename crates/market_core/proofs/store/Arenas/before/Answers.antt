@@ -1,4 +1,4 @@
-use Rattle.std.proofs.Common.{arith, sym, ap, ◌∙◌, ◌≡◌, ◌-◌}
+use Rattle.std.proofs.Common.{arith, ap, ◌∙◌, ◌≡◌, ◌-◌}
 use Rattle.level_list.specs.Rows.{requests_above}
 use Rattle.market_core.proofs.Entries.{entries-before}
 use Rattle.market_core.proofs.Stored.{list-at, list-visits, all-visits}

@@ -1,4 +1,4 @@
-use Rattle.std.proofs.Common.{arith, ap, sym, inl, inr, ◌≡◌, ◌≢◌, ◌∙◌, ℕ, ◌+◌, ◌<◌, ◌≤◌, get_or, set}
+use Rattle.std.proofs.Common.{arith, ap, sym, inl, inr, ◌≡◌, ◌∙◌, ◌+◌, get_or, set}
 use Rattle.std.proofs.lemmas.Bool.{cases_eq}
 use Rattle.std.proofs.lemmas.List.{get_or-set_same, get_or-set_other, length-set}
 use Rattle.market_types.specs.Allotment.{total_request, at_level}

@@ -1,4 +1,4 @@
-use Rattle.std.proofs.Common.{arith, refl, sym, ap, ◌∙◌, ◌≡◌, ◌-◌, ◌≤◌, ◌*◌, length}
+use Rattle.std.proofs.Common.{arith, refl, sym, ap, ◌∙◌, ◌-◌, ◌≤◌, ◌*◌, length}
 use Rattle.std.specs.Option.{option_map}
 use Rattle.level_list.specs.Bits.{bits}
 use Rattle.market_types.specs.declared.row.Row.{Row}

@@ -1,4 +1,4 @@
-use Rattle.std.proofs.Common.{arith, sym, ap, ◌∙◌}
+use Rattle.std.proofs.Common.{sym, ap, ◌∙◌}
 use Rattle.market_types.specs.State.{Arena}
 use Rattle.market_core.proofs.Stored.{kept, missing-by_stamp, found-by_stamp}
 use Rattle.market_core.proofs.store.Arenas.get.Goals as goal

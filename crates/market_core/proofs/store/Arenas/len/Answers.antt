@@ -1,4 +1,4 @@
-use Rattle.std.proofs.Common.{arith, sym}
+use Rattle.std.proofs.Common.{arith}
 use Rattle.market_core.proofs.ByStamp.{length-by_stamp}
 use Rattle.market_core.proofs.Stored.{kept}
 use Rattle.market_core.proofs.store.Arenas.len.Goals as goal

@@ -1,46 +1,36 @@
-use Rattle.std.proofs.Common.{arith, refl, sym, ap, subst, ◌∙◌, ◌≡◌, ℕ, ◌+◌, ◌-◌, ◌*◌, ◌<◌, ◌≤◌, cond, ltb, length, List, get_or, Option, Some, None}
-use Rattle.std.specs.List.{All}
+use Rattle.std.proofs.Common.{arith, refl, sym, ap, ◌∙◌, ◌≡◌, ◌+◌, ◌-◌, ◌*◌, ◌≤◌, length, get_or, Some}
 use Rattle.std.proofs.lemmas.Option.{none-some, same_Some}
 use Rattle.level_list.specs.Rows.{without as without_row, row_at}
 use Rattle.level_list.specs.Bits.{bits}
-use Rattle.market_types.specs.State.{Claim, Arena}
+use Rattle.market_types.specs.State.{Arena}
 use Rattle.market_types.specs.declared.row.Row.{Row}
 use Rattle.market_types.specs.Step.{arena_at}
 use Rattle.market_core.specs.Store.{by_stamp, entry_of}
-use Rattle.market_core.proofs.ByStamp.{IsOlder}
-use Rattle.market_core.proofs.Stored.{missing-by_stamp, row-here, entry-here, level-here, all-visits, promoted-room, promoted-newest, promoted-visits, stored-promoted, view-promoted, list-visits}
+use Rattle.market_core.proofs.Stored.{missing-by_stamp, place-found, found-by_stamp, entry-here, level-here, all-visits, promoted-room, promoted-newest, promoted-visits, stored-promoted, view-promoted, list-visits}
 use Rattle.market_core.proofs.store.Arenas.promote.Goals as goal
 
 pub unreachable-requires : goal.unreachable-requires
 unreachable-requires c =
-    let missing = rw (c.deref.ensures.value, c.arena.ensures) at c.in_default.ensures.missing in
-    let there = rw (← c.self.view_is) at c.requires.there in
-    none-some c.args.row (sym (missing-by_stamp c.args.row.number c.self.inside.rows.items missing) ∙ there)
-
-pub unreachable-requires-in_default-taken : goal.unreachable-requires-in_default-taken
-unreachable-requires-in_default-taken c =
     let s = c.self.inside in
-    let x = c.args.row in
-    let i = c.in-Some.place in
-    let within = rw c.deref.ensures.value at c.in-Some.ensures.there in
-    let found = rw (c.deref.ensures.value, c.arena.ensures) at c.in-Some.ensures.found in
-    let there = rw (← c.self.view_is) at c.requires.there in
-    let e = row-here x.number i s.rows.items x c.self.invariant.by_number within found there in
+    let x = c.index-row.result.now in
+    let i = c.in_ok-place.place in
+    let within = rw c.deref.ensures.value at c.in_ok-place.ensures.there in
+    let found = rw c.deref.ensures.value at c.in_ok-place.ensures.found in
+    let e = c.index-row.ensures in
     let level : c.get.result ≡ x.level = c.get.ensures.exact ∙ c.level.ensures in
     let some = entry-here s.rows.items s.lists s.enqueued i x c.self.invariant within e (c.get.result - 1) c.index-self-get.result (ap (λ n. n - 1) level) in
-    none-some (entry_of x) (sym c.in_default-taken.is ∙ c.take-taken.ensures.taken ∙ ap (λ k. row_at k (get_or s.lists (c.get.result - 1) c.index-self-get.result)) c.stamp.ensures ∙ some)
+    none-some (entry_of x) (sym c.in_default.is ∙ c.take-taken.ensures.taken ∙ ap (λ k. row_at k (get_or s.lists (c.get.result - 1) c.index-self-get.result)) c.stamp.ensures ∙ some)
 
 pub put-back-requires-clause-room : goal.put-back-requires-clause-room
 put-back-requires-clause-room c =
     let s = c.self.inside in
-    let x = c.args.row in
+    let x = c.index-row.result.now in
     let y : Arena = record x { stamp = c.args.stamp; level = c.args.level } in
-    let i = c.in-Some.place in
-    let within = rw c.deref.ensures.value at c.in-Some.ensures.there in
-    let found = rw (c.deref.ensures.value, c.arena.ensures) at c.in-Some.ensures.found in
-    let there = rw (← c.self.view_is) at c.requires.there in
+    let i = c.in_ok-place.place in
+    let within = rw c.deref.ensures.value at c.in_ok-place.ensures.there in
+    let found = rw c.deref.ensures.value at c.in_ok-place.ensures.found in
     let older = rw (← c.self.view_is) at c.requires.newest in
-    let e = row-here x.number i s.rows.items x c.self.invariant.by_number within found there in
+    let e = c.index-row.ensures in
     let level : c.get.result ≡ x.level = c.get.ensures.exact ∙ c.level.ensures in
     let rows = c.take-taken.ensures.rows ∙ ap (λ k. without_row k (get_or s.lists (c.get.result - 1) c.index-self-get.result)) c.stamp.ensures in
     promoted-room s.rows.items s.lists s.enqueued i x c.self.invariant within e y older (omega arith, omega arith) (c.get.result - 1) (c.get-2.result - 1) c.index-self-get.result c.index-self-get-2.result _ _
@@ -49,14 +39,13 @@ put-back-requires-clause-room c =
 pub put-back-requires-clause-newest : goal.put-back-requires-clause-newest
 put-back-requires-clause-newest c =
     let s = c.self.inside in
-    let x = c.args.row in
+    let x = c.index-row.result.now in
     let y : Arena = record x { stamp = c.args.stamp; level = c.args.level } in
-    let i = c.in-Some.place in
-    let within = rw c.deref.ensures.value at c.in-Some.ensures.there in
-    let found = rw (c.deref.ensures.value, c.arena.ensures) at c.in-Some.ensures.found in
-    let there = rw (← c.self.view_is) at c.requires.there in
+    let i = c.in_ok-place.place in
+    let within = rw c.deref.ensures.value at c.in_ok-place.ensures.there in
+    let found = rw c.deref.ensures.value at c.in_ok-place.ensures.found in
     let older = rw (← c.self.view_is) at c.requires.newest in
-    let e = row-here x.number i s.rows.items x c.self.invariant.by_number within found there in
+    let e = c.index-row.ensures in
     let level : c.get.result ≡ x.level = c.get.ensures.exact ∙ c.level.ensures in
     let rows = c.take-taken.ensures.rows ∙ ap (λ k. without_row k (get_or s.lists (c.get.result - 1) c.index-self-get.result)) c.stamp.ensures in
     promoted-newest s.rows.items s.lists s.enqueued i x c.self.invariant within e y older (omega arith, omega arith) (c.get.result - 1) (c.get-2.result - 1) c.index-self-get.result c.index-self-get-2.result _ _
@@ -65,14 +54,13 @@ put-back-requires-clause-newest c =
 pub overflow_add-result : goal.overflow_add-result
 overflow_add-result c =
     let s = c.self.inside in
-    let x = c.args.row in
+    let x = c.index-row.result.now in
     let y : Arena = record x { stamp = c.args.stamp; level = c.args.level } in
-    let i = c.in-Some.place in
-    let within = rw c.deref.ensures.value at c.in-Some.ensures.there in
-    let found = rw (c.deref.ensures.value, c.arena.ensures) at c.in-Some.ensures.found in
-    let there = rw (← c.self.view_is) at c.requires.there in
+    let i = c.in_ok-place.place in
+    let within = rw c.deref.ensures.value at c.in_ok-place.ensures.there in
+    let found = rw c.deref.ensures.value at c.in_ok-place.ensures.found in
     let older = rw (← c.self.view_is) at c.requires.newest in
-    let e = row-here x.number i s.rows.items x c.self.invariant.by_number within found there in
+    let e = c.index-row.ensures in
     let level : c.get.result ≡ x.level = c.get.ensures.exact ∙ c.level.ensures in
     let rows = c.take-taken.ensures.rows ∙ ap (λ k. without_row k (get_or s.lists (c.get.result - 1) c.index-self-get.result)) c.stamp.ensures in
     let within_level = level-here s.rows.items s.lists s.enqueued i x c.self.invariant within e in
@@ -86,49 +74,68 @@ overflow_add-result c =
 pub invariant_of-self : goal.invariant_of-self
 invariant_of-self c =
     let s = c.self.inside in
-    let x = c.args.row in
+    let x = c.index-row.result.now in
     let y : Arena = record x { stamp = c.args.stamp; level = c.args.level } in
-    let i = c.in-Some.place in
-    let within = rw c.deref.ensures.value at c.in-Some.ensures.there in
-    let found = rw (c.deref.ensures.value, c.arena.ensures) at c.in-Some.ensures.found in
-    let there = rw (← c.self.view_is) at c.requires.there in
+    let i = c.in_ok-place.place in
+    let within = rw c.deref.ensures.value at c.in_ok-place.ensures.there in
+    let found = rw c.deref.ensures.value at c.in_ok-place.ensures.found in
     let older = rw (← c.self.view_is) at c.requires.newest in
-    let e = row-here x.number i s.rows.items x c.self.invariant.by_number within found there in
+    let e = c.index-row.ensures in
     let level : c.get.result ≡ x.level = c.get.ensures.exact ∙ c.level.ensures in
     let rows = c.take-taken.ensures.rows ∙ ap (λ k. without_row k (get_or s.lists (c.get.result - 1) c.index-self-get.result)) c.stamp.ensures in
     let some = entry-here s.rows.items s.lists s.enqueued i x c.self.invariant within e (c.get.result - 1) c.index-self-get.result (ap (λ n. n - 1) level) in
-    let same : c.in-Some-taken.taken ≡ entry_of x =
-    same_Some c.in-Some-taken.taken (entry_of x) (sym c.in-Some-taken.is ∙ c.take-taken.ensures.taken ∙ ap (λ k. row_at k (get_or s.lists (c.get.result - 1) c.index-self-get.result)) c.stamp.ensures ∙ some) in
-    let fresh : record c.in-Some-taken.taken { stamp = c.args.stamp } ≡ entry_of y = ap (λ (r : Row). record r { stamp = c.args.stamp }) same in
+    let same : c.in-Some.taken ≡ entry_of x =
+    same_Some c.in-Some.taken (entry_of x) (sym c.in-Some.is ∙ c.take-taken.ensures.taken ∙ ap (λ k. row_at k (get_or s.lists (c.get.result - 1) c.index-self-get.result)) c.stamp.ensures ∙ some) in
+    let fresh : record c.in-Some.taken { stamp = c.args.stamp } ≡ entry_of y = ap (λ (r : Row). record r { stamp = c.args.stamp }) same in
     let after = rw fresh at c.put-back.ensures.rows in
     rw c.promoted.ensures
     (stored-promoted s.rows.items s.lists s.enqueued i x c.self.invariant within e y older (omega arith, omega arith) (c.get.result - 1) (c.get-2.result - 1) c.index-self-get.result c.index-self-get-2.result _ _
     (ap (λ n. n - 1) level) (ap (λ n. n - 1) c.get-2.ensures.exact) refl rows _ refl refl after)
 
+pub returns-in_err-place-clause-exact : goal.returns-in_err-place-clause-exact
+returns-in_err-place-clause-exact c =
+    let missing = rw c.deref.ensures.value at c.in_err-place.ensures.missing in
+    λ row there. absurd (none-some row (sym (missing-by_stamp c.args.arena c.self.inside.rows.items missing) ∙ ap (arena_at c.args.arena) c.self.view_is ∙ there))
+
+pub returns-in_err-place-clause-missing : goal.returns-in_err-place-clause-missing
+returns-in_err-place-clause-missing c =
+    let missing = rw c.deref.ensures.value at c.in_err-place.ensures.missing in
+    rw (c.from_residual.ensures, ← c.self.view_is) (missing-by_stamp c.args.arena c.self.inside.rows.items missing)
+
+pub returns-clause-there : goal.returns-clause-there
+returns-clause-there c =
+    let s = c.self.inside in
+    let within = rw c.deref.ensures.value at c.in_ok-place.ensures.there in
+    let found = rw c.deref.ensures.value at c.in_ok-place.ensures.found in
+    let here : arena_at c.args.arena (by_stamp s.rows.items) ≡ Some c.index-row.result.now =
+    found-by_stamp c.args.arena c.in_ok-place.place s.rows.items c.index-row.result.now c.self.invariant.by_number within c.index-row.ensures found in
+    rw (← c.self.view_is, here) refl
+
 pub returns-clause-exact : goal.returns-clause-exact
 returns-clause-exact c =
     let s = c.self.inside in
-    let x = c.args.row in
+    let x = c.index-row.result.now in
     let y : Arena = record x { stamp = c.args.stamp; level = c.args.level } in
-    let i = c.in-Some.place in
-    let within = rw c.deref.ensures.value at c.in-Some.ensures.there in
-    let found = rw (c.deref.ensures.value, c.arena.ensures) at c.in-Some.ensures.found in
-    let there = rw (← c.self.view_is) at c.requires.there in
+    let i = c.in_ok-place.place in
+    let within = rw c.deref.ensures.value at c.in_ok-place.ensures.there in
+    let found = rw c.deref.ensures.value at c.in_ok-place.ensures.found in
     let older = rw (← c.self.view_is) at c.requires.newest in
-    let e = row-here x.number i s.rows.items x c.self.invariant.by_number within found there in
-    rw (c.promoted.ensures, ← c.self.view_is) (view-promoted s.rows.items s.lists s.enqueued i x c.self.invariant within e y older)
+    let e = c.index-row.ensures in
+    λ row there.
+    let there' : arena_at c.args.arena (by_stamp s.rows.items) ≡ Some row = rw (← c.self.view_is) at there in
+    let same : x ≡ row = place-found c.args.arena i s.rows.items row x c.self.invariant.by_number within e found there' in
+    rw (c.promoted.ensures, ← c.self.view_is, ← same) (view-promoted s.rows.items s.lists s.enqueued i x c.self.invariant within e y older)
 
 pub returns-clause-visits : goal.returns-clause-visits
 returns-clause-visits c =
     let s = c.self.inside in
-    let x = c.args.row in
+    let x = c.index-row.result.now in
     let y : Arena = record x { stamp = c.args.stamp; level = c.args.level } in
-    let i = c.in-Some.place in
-    let within = rw c.deref.ensures.value at c.in-Some.ensures.there in
-    let found = rw (c.deref.ensures.value, c.arena.ensures) at c.in-Some.ensures.found in
-    let there = rw (← c.self.view_is) at c.requires.there in
+    let i = c.in_ok-place.place in
+    let within = rw c.deref.ensures.value at c.in_ok-place.ensures.there in
+    let found = rw c.deref.ensures.value at c.in_ok-place.ensures.found in
     let older = rw (← c.self.view_is) at c.requires.newest in
-    let e = row-here x.number i s.rows.items x c.self.invariant.by_number within found there in
+    let e = c.index-row.ensures in
     let level : c.get.result ≡ x.level = c.get.ensures.exact ∙ c.level.ensures in
     let rows = c.take-taken.ensures.rows ∙ ap (λ k. without_row k (get_or s.lists (c.get.result - 1) c.index-self-get.result)) c.stamp.ensures in
     let within_level = level-here s.rows.items s.lists s.enqueued i x c.self.invariant within e in

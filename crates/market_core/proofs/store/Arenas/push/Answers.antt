@@ -1,7 +1,6 @@
-use Rattle.std.proofs.Common.{arith, sym, ap, ◌∙◌, ◌≡◌, ◌+◌, ◌-◌, ◌<◌, ◌≤◌, cond, ltb, length, List, ◌∷◌, get_or}
-use Rattle.market_types.specs.State.{Claim, Arena}
+use Rattle.std.proofs.Common.{arith, ap, ◌∙◌, ◌≡◌, ◌+◌, ◌-◌, ◌<◌, cond, ltb, length, ◌∷◌, get_or}
+use Rattle.market_types.specs.State.{Claim}
 use Rattle.market_types.specs.declared.row.Row.{Row}
-use Rattle.market_core.specs.Store.{entry_of}
 use Rattle.market_core.proofs.ByStamp.{length-by_stamp}
 use Rattle.market_core.proofs.Stored.{list-few, list-newest, list-visits_one, stored-pushed, view-pushed}
 use Rattle.market_core.proofs.store.Arenas.push.Goals as goal

@@ -1,22 +1,36 @@
-use Rattle.std.proofs.Common.{arith, sym, ap, ◌∙◌, ◌≡◌, ◌+◌, ◌-◌, ◌<◌, ◌≤◌, cond, ltb, length, List, get_or}
+use Rattle.std.proofs.Common.{arith, sym, ap, ◌∙◌, ◌≡◌, ◌-◌, cond, ltb, get_or, Some, refl}
 use Rattle.level_list.specs.Rows.{without as without_row}
 use Rattle.market_types.specs.State.{Claim, Arena}
-use Rattle.market_types.specs.Step.{without}
+use Rattle.market_types.specs.Step.{arena_at, without}
 use Rattle.market_core.specs.Store.{by_stamp}
-use Rattle.market_core.proofs.Stored.{removed-missing, level-here, counted-within, view-removed, stored-removed, list-visits}
+use Rattle.market_core.proofs.Stored.{removed-missing, missing-by_stamp, found-by_stamp, level-here, counted-within, view-removed, stored-removed, list-visits}
 use Rattle.market_core.proofs.store.Arenas.remove.Goals as goal
 
-pub returns-in_default-clause-exact : goal.returns-in_default-clause-exact
-returns-in_default-clause-exact c =
-    let missing = rw c.deref.ensures.value at c.in_default.ensures.missing in
+pub returns-in_err-place-clause-exact : goal.returns-in_err-place-clause-exact
+returns-in_err-place-clause-exact c =
+    let missing = rw c.deref.ensures.value at c.in_err-place.ensures.missing in
     rw (← c.self.view_is) (sym (removed-missing c.args.arena c.self.inside.rows.items missing))
+
+pub returns-in_err-place-clause-missing : goal.returns-in_err-place-clause-missing
+returns-in_err-place-clause-missing c =
+    let missing = rw c.deref.ensures.value at c.in_err-place.ensures.missing in
+    rw (c.from_residual.ensures, ← c.self.view_is) (missing-by_stamp c.args.arena c.self.inside.rows.items missing)
+
+pub returns-clause-there : goal.returns-clause-there
+returns-clause-there c =
+    let s = c.self.inside in
+    let there = rw c.deref.ensures.value at c.in_ok-place.ensures.there in
+    let found = rw c.deref.ensures.value at c.in_ok-place.ensures.found in
+    let here : arena_at c.args.arena (by_stamp s.rows.items) ≡ Some c.remove-row.result =
+    found-by_stamp c.args.arena c.in_ok-place.place s.rows.items c.remove-row.result c.self.invariant.by_number there c.remove-row.ensures.value found in
+    rw (← c.self.view_is, here) refl
 
 pub invariant_of-self : goal.invariant_of-self
 invariant_of-self c =
     let s = c.self.inside in
     let x = c.remove-row.result in
-    let i = c.in-Some.place in
-    let there = rw c.deref.ensures.value at c.in-Some.ensures.there in
+    let i = c.in_ok-place.place in
+    let there = rw c.deref.ensures.value at c.in_ok-place.ensures.there in
     let level : c.get.result ≡ x.level = c.get.ensures.exact ∙ c.level.ensures in
     let place = ap (λ n. n - 1) level in
     let rows = c.take-taken.ensures.rows ∙ ap (λ k. without_row k (get_or s.lists (c.get.result - 1) c.index-self-get.result)) c.stamp.ensures in
@@ -29,9 +43,9 @@ pub returns-clause-exact : goal.returns-clause-exact
 returns-clause-exact c =
     let s = c.self.inside in
     let x = c.remove-row.result in
-    let i = c.in-Some.place in
-    let there = rw c.deref.ensures.value at c.in-Some.ensures.there in
-    let found = rw c.deref.ensures.value at c.in-Some.ensures.found in
+    let i = c.in_ok-place.place in
+    let there = rw c.deref.ensures.value at c.in_ok-place.ensures.there in
+    let found = rw c.deref.ensures.value at c.in_ok-place.ensures.found in
     let number : x.number ≡ c.args.arena = ap (λ (a : Arena). a.number) c.remove-row.ensures.value ∙ found x in
     rw (c.remove-row.ensures.items, ← c.self.view_is)
     (view-removed s.rows.items s.lists s.enqueued i x c.self.invariant there c.remove-row.ensures.value ∙ ap (λ k. without k (by_stamp s.rows.items)) number)
@@ -40,7 +54,7 @@ pub returns-clause-visits : goal.returns-clause-visits
 returns-clause-visits c =
     let s = c.self.inside in
     let x = c.remove-row.result in
-    let there = rw c.deref.ensures.value at c.in-Some.ensures.there in
+    let there = rw c.deref.ensures.value at c.in_ok-place.ensures.there in
     let level : c.get.result ≡ x.level = c.get.ensures.exact ∙ c.level.ensures in
-    let within = level-here s.rows.items s.lists s.enqueued c.in-Some.place x c.self.invariant there c.remove-row.ensures.value in
+    let within = level-here s.rows.items s.lists s.enqueued c.in_ok-place.place x c.self.invariant there c.remove-row.ensures.value in
     rw (← c.self.view_is) (list-visits s.rows.items s.lists s.enqueued c.self.invariant x.level (c.get.result - 1) c.index-self-get.result within.0 within.1 (ap (λ n. n - 1) level) c.take-taken.result.1 c.take-taken.ensures.visits)

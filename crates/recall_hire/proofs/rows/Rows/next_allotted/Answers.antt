@@ -10,6 +10,6 @@ loop-next-preserved g c = λ place from below.
     elim (cases_lt place c.loop-next.next) [
       | inl p ↦ c.loop-next.invariant place from p
       | inr p ↦
-          let here : allotted_at rows c.loop-next.next ≡ c.row.result.allotted = row-allotted rows c.loop-next.next c.row.result c.row.ensures.exact in
+          let here : allotted_at rows c.loop-next.next ≡ c.row-row.result.0.allotted = row-allotted rows c.loop-next.next c.row-row.result.0 c.row-row.ensures.exact in
           ap (allotted_at rows) (omega arith) ∙ here ∙ omega arith
     ]

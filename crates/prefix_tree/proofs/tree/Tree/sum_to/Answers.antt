@@ -1,9 +1,9 @@
 use Rattle.std.proofs.Common.{arith}
 use Rattle.prefix_tree.proofs.Whole.{small_tree, tree_height}
-use Rattle.prefix_tree.proofs.tree.Tree.place_of_sum.Goals as goal
+use Rattle.prefix_tree.proofs.tree.Tree.sum_to.Goals as goal
 
-pub place_of_sum-requires : goal.place_of_sum-requires
-place_of_sum-requires c = small_tree c.self.invariant
+pub sum_to-requires : goal.sum_to-requires
+sum_to-requires c = small_tree c.self.invariant
 
 pub returns-clause-visits : goal.returns-clause-visits
 returns-clause-visits c = rw (← c.self.view_is) (omega (arith, tree_height c.self.invariant))

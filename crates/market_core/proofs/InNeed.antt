@@ -1,0 +1,104 @@
+-- The arena that a worker is needed at.
+use Rattle.std.proofs.Common.{◌≡◌, ◌≢◌, ℕ, zero, suc, ◌+◌, ◌-◌, ◌<◌, ◌≤◌, Bool, true, false, cond, eqb, ltb, List, [], ◌∷◌, ◌++◌, Option, Some, None, refl, sym, ap, ◌∙◌, arith, inl, inr}
+use Rattle.std.specs.List.{find, flat_map, range_with_len}
+use Rattle.std.specs.Option.{option_map, is_some}
+use Rattle.std.proofs.lemmas.Bool.{cases_eq, cases_Bool, eq-eqb, ne_eqb, lt-ltb, le-ltb}
+use Rattle.std.proofs.lemmas.Option.{same_Some}
+use Rattle.market_types.specs.State.{Arena, State}
+use Rattle.market_types.specs.Claims.{is_mandated}
+use Rattle.market_types.specs.Allotment.{active, alloc, all_to, at_level, bound_of, hire, in_order, limit_of, mandatory_pick}
+use Rattle.allotment.specs.Levels.{number_of, pick_of}
+use Rattle.recall_hire.specs.Staffed.{need_among, need_of}
+use Rattle.market_core.specs.Store.{levels_from}
+use Rattle.market_core.proofs.Allotted.{alloc-picked, all_to_number, all_to-number}
+
+-- ---- level by level
+
+need-front : (s : State) (xs ys : List Arena) (n : ℕ) → need_among s xs ≡ Some n → need_among s (xs ++ ys) ≡ Some n
+need-front s [] ys n e = cc
+need-front s (x ∷ xs) ys n e =
+    elim (cases_Bool (ltb 0 (hire s x.number))) [
+      | inl t ↦ let here : Some x.number ≡ Some n = rw t at e in rw t here
+      | inr f ↦ let later : need_among s xs ≡ Some n = rw f at e in rw f (need-front s xs ys n later)
+    ]
+
+need-behind : (s : State) (xs ys : List Arena) → need_among s xs ≡ None → need_among s (xs ++ ys) ≡ need_among s ys
+need-behind s [] ys e = refl
+need-behind s (x ∷ xs) ys e =
+    elim (cases_Bool (ltb 0 (hire s x.number))) [
+      | inl t ↦ let here : Some x.number ≡ None = rw t at e in absurd (some-none x.number here)
+      | inr f ↦ let later : need_among s xs ≡ None = rw f at e in rw f (need-behind s xs ys later)
+    ]
+  where
+    some-none : (n : ℕ) → Some n ≡ None → ⊥
+    some-none n h = cc
+
+-- in the first of the levels, or after it
+need-here : (s : State) (from n m k : ℕ) → m ≡ suc n → need_among s (at_level from s.arenas) ≡ Some k → need_among s (levels_from from m s.arenas) ≡ Some k
+need-here s from n m k e h = rw e (need-front s (at_level from s.arenas) (levels_from (from + 1) n s.arenas) k h)
+
+need-past : (s : State) (from n m : ℕ) → m ≡ suc n → need_among s (at_level from s.arenas) ≡ None → need_among s (levels_from from m s.arenas) ≡ need_among s (levels_from (from + 1) n s.arenas)
+need-past s from n m e h = rw e (need-behind s (at_level from s.arenas) (levels_from (from + 1) n s.arenas) h)
+
+pub need-found : (s : State) (from n m : ℕ) (o : Option ℕ) → m ≡ suc n → is_some o ≡ true → o ≡ need_among s (at_level from s.arenas) → o ≡ need_among s (levels_from from m s.arenas)
+need-found s from n m None e yes_some f = cc
+need-found s from n m (Some k) e yes_some f = sym (need-here s from n m k e (sym f))
+
+pub need-later : (s : State) (from n m : ℕ) (o : Option ℕ) → m ≡ suc n → is_some o ≡ false → o ≡ need_among s (at_level from s.arenas) → need_among s (levels_from from m s.arenas) ≡ need_among s (levels_from (from + 1) n s.arenas)
+need-later s from n m None e nobody f = need-past s from n m e (sym f)
+need-later s from n m (Some k) e nobody f = cc
+
+pub need-done : (s : State) (from m : ℕ) → m ≡ 0 → need_among s (levels_from from m s.arenas) ≡ None
+need-done s from m e = rw e refl
+
+-- ---- where no worker may be active
+
+lacks : State → Arena → Bool
+lacks s a = ltb 0 (hire s a.number)
+
+find-nobody : (s : State) (xs : List Arena) → ((n : ℕ) → hire s n ≡ 0) → need_among s xs ≡ None
+find-nobody s [] h = refl
+find-nobody s (x ∷ xs) h =
+    let none : ltb 0 (hire s x.number) ≡ false = ap (ltb 0) (h x.number) in
+    rw none (find-nobody s xs h)
+
+picked-alloc : (s : State) (n : ℕ) → limit_of s ≡ 0 → alloc s n ≡ all_to_number (pick_of s) (bound_of s) n
+picked-alloc s n none = alloc-picked s n none ∙ all_to-number (mandatory_pick s) (bound_of s) n
+
+pub need-unpicked : (s : State) → limit_of s ≡ 0 → pick_of s ≡ None → need_of s ≡ None
+need-unpicked s none e =
+    find-nobody s (in_order s) (λ n. let given : alloc s n ≡ 0 = picked-alloc s n none ∙ ap (λ o. all_to_number o (bound_of s) n) e in omega arith)
+
+other-hires : (s : State) (picked n : ℕ) → limit_of s ≡ 0 → pick_of s ≡ Some picked → picked ≢ n → hire s n ≡ 0
+other-hires s picked n none e m =
+    let given : alloc s n ≡ 0 = picked-alloc s n none ∙ ap (λ o. all_to_number o (bound_of s) n) e ∙ rw (ne_eqb picked n m) refl in
+    omega arith
+
+own-hires : (s : State) (picked n : ℕ) → limit_of s ≡ 0 → pick_of s ≡ Some picked → picked ≡ n → hire s n ≡ bound_of s - active s picked
+own-hires s picked n none e m =
+    let given : alloc s n ≡ bound_of s = picked-alloc s n none ∙ ap (λ o. all_to_number o (bound_of s) n) e ∙ rw (eq-eqb picked n m) refl in
+    let placed : active s n ≡ active s picked = ap (active s) (sym m) in
+    omega arith
+
+pub need-served : (s : State) (picked : ℕ) → limit_of s ≡ 0 → pick_of s ≡ Some picked → bound_of s - active s picked ≡ 0 → need_of s ≡ None
+need-served s picked none e full =
+    find-nobody s (in_order s) (λ n. elim (cases_eq picked n) [ inl m ↦ own-hires s picked n none e m ∙ full | inr m ↦ other-hires s picked n none e m ])
+
+-- the arena with enqueued work is the first that lacks a worker
+picked-among : (s : State) (picked : ℕ) (xs : List Arena) → ((n : ℕ) → picked ≡ n → 0 < hire s n) → ((n : ℕ) → picked ≢ n → hire s n ≡ 0)
+    → number_of (find (λ (a : Arena). is_mandated a.claim) xs) ≡ Some picked → need_among s xs ≡ Some picked
+picked-among s picked [] yes_here no_other e = cc
+picked-among s picked (x ∷ xs) yes_here no_other e =
+    elim (cases_eq picked x.number) [
+      | inl m ↦ rw (lt-ltb 0 (hire s x.number) (yes_here x.number m)) (ap Some (sym m))
+      | inr m ↦
+          let none : ltb 0 (hire s x.number) ≡ false = ap (ltb 0) (no_other x.number m) in
+          elim (cases_Bool (is_mandated x.claim)) [
+            | inl t ↦ let found : Some x.number ≡ Some picked = rw t at e in absurd (m (sym (same_Some x.number picked found)))
+            | inr f ↦ let later : number_of (find (λ (a : Arena). is_mandated a.claim) xs) ≡ Some picked = rw f at e in rw none (picked-among s picked xs yes_here no_other later)
+          ]
+    ]
+
+pub need-picked : (s : State) (picked : ℕ) → limit_of s ≡ 0 → pick_of s ≡ Some picked → 0 < bound_of s - active s picked → need_of s ≡ Some picked
+need-picked s picked none e some =
+    picked-among s picked (in_order s) (λ n m. omega (arith, own-hires s picked n none e m, some)) (λ n m. other-hires s picked n none e m) e

@@ -1,0 +1,38 @@
+use Rattle.std.proofs.Common.{arith, refl, sym, ap, ◌∙◌, ◌≡◌, ℕ, ◌-◌, ◌+◌, ◌<◌, suc, Option}
+use Rattle.market_types.specs.State.{State}
+use Rattle.market_types.specs.Allotment.{at_level}
+use Rattle.recall_hire.specs.Staffed.{need_among}
+use Rattle.market_core.specs.Store.{levels_from}
+use Rattle.market_core.proofs.InNeed.{need-found, need-later, need-done}
+use Rattle.market_core.proofs.market.Market.in_need.Goals as goal
+
+pub loop-level-init : goal.loop-level-init
+loop-level-init c =
+    let s = c.args.self.now in
+    let all : s.levels ≡ s.levels - 0 = omega arith in
+    ap (λ n. need_among s (levels_from 1 n s.arenas)) all
+
+pub returns-then-is_some : goal.returns-then-is_some
+returns-then-is_some c =
+    let s = c.args.self.now in
+    let level = c.loop-level.level in
+    let levels : c.self.inside.levels ≡ s.levels = ap (λ (t : State). t.levels) c.self.view_is in
+    let here : c.first_in_need-found.result.0 ≡ need_among s (at_level (level + 1) s.arenas) = c.first_in_need-found.ensures.in_market s (at_level (level + 1) s.arenas) refl in
+    need-found s (level + 1) (s.levels - (level + 1)) (s.levels - level) c.first_in_need-found.result.0 (omega (arith, levels, c.loop-level-test.true)) (sym c.is_some.ensures ∙ c.if-is_some.true) here
+    ∙ sym c.loop-level.invariant
+
+pub loop-level-preserved : goal.loop-level-preserved
+loop-level-preserved c =
+    let s = c.args.self.now in
+    let level = c.loop-level.level in
+    let levels : c.self.inside.levels ≡ s.levels = ap (λ (t : State). t.levels) c.self.view_is in
+    let here : c.first_in_need-found.result.0 ≡ need_among s (at_level (level + 1) s.arenas) = c.first_in_need-found.ensures.in_market s (at_level (level + 1) s.arenas) refl in
+    c.loop-level.invariant
+    ∙ need-later s (level + 1) (s.levels - (level + 1)) (s.levels - level) c.first_in_need-found.result.0 (omega (arith, levels, c.loop-level-test.true)) (sym c.is_some.ensures ∙ c.if-is_some.false) here
+
+pub returns : goal.returns
+returns c =
+    let s = c.args.self.now in
+    let level = c.loop-level.level in
+    let levels : c.self.inside.levels ≡ s.levels = ap (λ (t : State). t.levels) c.self.view_is in
+    sym (c.loop-level.invariant ∙ need-done s (level + 1) (s.levels - level) (omega (arith, levels, c.loop-level-test.false)))

@@ -1,0 +1,9 @@
+use Rattle.std.proofs.Common.{arith}
+use Rattle.prefix_tree.proofs.Whole.{small_tree, tree_height}
+use Rattle.prefix_tree.proofs.tree.Tree.passing.Goals as goal
+
+pub passing-requires : goal.passing-requires
+passing-requires c = small_tree c.self.invariant
+
+pub returns-clause-visits : goal.returns-clause-visits
+returns-clause-visits c = rw (← c.self.view_is) (omega (arith, tree_height c.self.invariant))
