@@ -1,0 +1,38 @@
+//! Why a measurement stops.
+use std::alloc::AllocError;
+use std::io;
+use thiserror::Error;
+
+/// Why there is no table, or no more of it. Its text is what the program tells on standard error.
+#[derive(Debug, Drop, Error)]
+pub enum BenchFault {
+    /// There was no memory.
+    #[error("memory")]
+    Memory,
+    /// The market refused a command, so its time would say nothing.
+    #[error("a command was refused")]
+    Refused,
+    /// The clock, standard output or the command line failed.
+    #[error("{0}")]
+    System(io::Error),
+}
+
+impl From<AllocError> for BenchFault {
+    ghost use Rattle.std.specs.Prelude.{◌≡◌};
+    ghost use Rattle.market_bench.specs.declared.fault.BenchFault.TheVariants.{Memory};
+
+    ghost from_gives = { λ _ fault. fault ≡ Memory };
+
+    fn from(_error: AllocError) -> BenchFault {
+        BenchFault::Memory
+    }
+}
+
+impl From<io::Error> for BenchFault {
+    fn from(error: io::Error) -> BenchFault {
+        match error.kind() {
+            io::ErrorKind::OutOfMemory => BenchFault::Memory,
+            _ => BenchFault::System(error),
+        }
+    }
+}

@@ -1,0 +1,158 @@
+//! A market that is ready to be measured.
+ghost use Rattle.std.specs.Prelude.{◌≡◌, ◌+◌, ◌<◌, ◌≤◌, ◌↔◌, [], length, true, IsTrue, IsSome, OnOk, IfOk};
+ghost use Rattle.market_types.specs.Step.{step};
+ghost use Rattle.market_bench.specs.Done.{is_done};
+ghost use Rattle.market_bench.specs.Turns.{is_in_turns};
+
+use crate::fault::BenchFault;
+use market_core::Market;
+use market_types::{ArenaId, Cmd, Level, Reply, SeatNo};
+use std::alloc::Global;
+
+/// How many seats there are.
+const SEATS: u8 = 64;
+
+/// Slots of an arena, of which one is reserved.
+const SLOTS: u32 = 8;
+
+/// How many workers an arena asks for.
+const WORKERS: i32 = 3;
+
+/// A number out of a reply; `None` of a refusal.
+fn number_in(reply: &Reply) -> Option<u64>
+    ensures { IsSome result ↔ IsTrue (is_done reply.now) }
+{
+    match reply {
+        Reply::Opened(arena)
+        | Reply::Placed(arena)
+        | Reply::Stays(arena)
+        | Reply::Recalled(arena)
+        | Reply::Left(arena) => Some(u64::from(arena.get())),
+        Reply::Controlled(control) => Some(u64::from(control.get())),
+        Reply::Resized(request) | Reply::Requested(request) => Some(u64::from(*request)),
+        Reply::Shown(view) => Some(u64::from(view.allot)),
+        Reply::Listed(lists) => Some(
+            (lists.recalls.len() as u64).wrapping_add(lists.hires.len() as u64),
+        ),
+        Reply::Limits(limits) => Some(u64::from(limits.effective)),
+        Reply::Closed | Reply::Moved | Reply::Uncontrolled | Reply::Idle => Some(1),
+        Reply::Refused(_) => None,
+    }
+}
+
+/// Gives a seat's command to a market, and answers a number out of its reply. A refusal is a fault.
+#[tactic(auto, using(crate::proofs::Living::same_living))]
+fn ask(alloc: Global, market: &mut Market, seat: u8, cmd: Cmd) -> Result<u64, BenchFault>
+    requires { seat < length market.old.seats }
+    ensures next { OnOk result (market.new ≡ (step market.old seat cmd).1) }
+    ensures done { OnOk result (IsTrue (is_done (step market.old seat cmd).0)) }
+    ensures same_seats { length market.new.seats ≡ length market.old.seats }
+    ensures same_arenas { is_in_turns cmd ≡ true → length market.new.arenas ≡ length market.old.arenas }
+{
+    let reply = market.apply(alloc, SeatNo::new(seat), cmd)?;
+    number_in(&reply).ok_or(BenchFault::Refused)
+}
+
+/// Opens an arena, the one of this number, and has it ask for its workers.
+fn open_arena(
+    alloc: Global,
+    market: &mut Market,
+    arena: ArenaId,
+    level: u32,
+) -> Result<(), BenchFault>
+    requires level { (1 ≤ level) × (level ≤ 8) }
+    requires seats { length market.old.seats ≡ 64 }
+    ensures one_more { OnOk result (length market.new.arenas ≡ length market.old.arenas + 1) }
+    ensures same_seats { length market.new.seats ≡ length market.old.seats }
+{
+    let Some(level) = Level::new(level) else {
+        unreachable!()
+    };
+    ask(alloc, market, 0, Cmd::Open(SLOTS, 1, level))?;
+    ask(alloc, market, 0, Cmd::Request(arena, WORKERS, 0))?;
+    Ok(())
+}
+
+/// Opens so many arenas in a market that has none, level by level in turn.
+fn open_arenas(
+    alloc: Global,
+    market: &mut Market,
+    levels: u32,
+    arenas: u32,
+) -> Result<(), BenchFault>
+    requires levels { (1 ≤ levels) × (levels ≤ 8) }
+    requires arenas { arenas ≤ 1024 }
+    requires none { market.old.arenas ≡ [] }
+    requires seats { length market.old.seats ≡ 64 }
+    ensures all { OnOk result (length market.new.arenas ≡ arenas) }
+    ensures same_seats { length market.new.seats ≡ length market.old.seats }
+{
+    for place in 0..arenas {
+        open_arena(alloc, market, ArenaId::new(place + 1), place % levels + 1)?;
+    }
+    Ok(())
+}
+
+/// A market of 64 seats and 1 to 1,024 arenas of 8 slots, numbered from 1 on, which asked for three workers each.
+#[derive(Drop)]
+pub struct Stage {
+    pub alloc: Global,
+    pub market: Market,
+    pub arenas: u32,
+    ghost seats: { length market.seats ≡ 64 },
+    ghost living: { length market.arenas ≡ arenas },
+    ghost some: { 1 ≤ arenas },
+    ghost few: { arenas ≤ 1024 },
+}
+
+impl Stage {
+    /// Opens a market, and its arenas level by level in turn.
+    pub fn new(alloc: Global, base: u32, levels: u32, arenas: u32) -> Result<Stage, BenchFault>
+        requires base { (1 ≤ base) × (base ≤ 65536) }
+        requires levels { (1 ≤ levels) × (levels ≤ 8) }
+        requires arenas { (1 ≤ arenas) × (arenas ≤ 1024) }
+        ensures arenas { IfOk result (λ stage. stage.arenas ≡ arenas) }
+    {
+        let Ok(mut market) = Market::new(alloc, base, 65_535, SEATS, levels) else {
+            return Err(BenchFault::Memory);
+        };
+        open_arenas(alloc, &mut market, levels, arenas)?;
+        Ok(Stage {
+            alloc,
+            market,
+            arenas,
+        })
+    }
+
+    /// Has every seat but seat 0 join.
+    pub fn place_others(&mut self) -> Result<(), BenchFault>
+        ensures { self.new.arenas ≡ self.old.arenas }
+    {
+        for seat in 1..SEATS {
+            self.ask(seat, Cmd::Join)?;
+        }
+        Ok(())
+    }
+
+    /// Gives a seat's command, and answers a number out of its reply. A refusal is a fault.
+    pub fn ask(&mut self, seat: u8, cmd: Cmd) -> Result<u64, BenchFault>
+        requires seat { seat < 64 }
+        requires turns { is_in_turns cmd ≡ true }
+        ensures next { OnOk result (self.new.market ≡ (step self.old.market seat cmd).1) }
+        ensures done { OnOk result (IsTrue (is_done (step self.old.market seat cmd).0)) }
+        ensures arenas { self.new.arenas ≡ self.old.arenas }
+    {
+        ask(self.alloc, &mut self.market, seat, cmd)
+    }
+
+    /// An arena for a turn, spread evenly by a multiplicative hash.
+    pub fn some_arena(&self, turn: u64) -> ArenaId
+        ensures low { 1 ≤ result }
+        ensures high { result ≤ self.now.arenas }
+    {
+        let mixed = turn.wrapping_mul(0x9E37_79B9_7F4A_7C15);
+        let mixed = (mixed ^ (mixed >> 29)).wrapping_mul(0xBF58_476D_1CE4_E5B9);
+        let place = (mixed ^ (mixed >> 32)) % u64::from(self.arenas);
+        ArenaId::new(place as u32 + 1)
+    }
+}
