@@ -1,18 +1,17 @@
 -- The arenas in order, by their places.
-use Rattle.std.proofs.Common.{◌≡◌, ◌≢◌, ℕ, zero, suc, ◌+◌, ◌-◌, ◌<◌, ◌≤◌, Bool, true, false, cond, eqb, ltb, List, [], ◌∷◌, ◌++◌, length, get_or, map, Option, Some, None, refl, sym, ap, ◌∙◌, arith, inl, inr, length-append}
+use Rattle.std.proofs.Common.{◌≡◌, ◌≢◌, ℕ, zero, suc, ◌+◌, ◌-◌, ◌<◌, ◌≤◌, List, [], ◌∷◌, ◌++◌, length, get_or, Option, Some, None, refl, sym, ap, ◌∙◌, arith, inl, inr, length-append}
 use Rattle.std.specs.Prelude.{slice_get}
-use Rattle.std.specs.List.{All, AllPairs, sum_by, flat_map, range_with_len}
+use Rattle.std.specs.List.{All, sum_by}
 use Rattle.std.specs.Option.{option_map}
 use Rattle.std.proofs.lemmas.Bool.{cases_eq, cases_lt, eq-eqb, ne_eqb}
 use Rattle.std.proofs.lemmas.List.Elements.{All-head, All-tail}
 use Rattle.std.proofs.lemmas.List.Sums.{sum_by-cons, sum_by-append}
 use Rattle.std.proofs.lemmas.Option.{slice_get-get_or, slice_get_past, slice_get_within, get_or_from_slice_get, slice_get-map, same_Some}
 use Rattle.market_types.specs.declared.row.Row.{Row}
-use Rattle.market_types.specs.State.{Arena, State}
-use Rattle.market_types.specs.Allotment.{at_level, in_order}
+use Rattle.market_types.specs.State.{Arena}
+use Rattle.market_types.specs.Allotment.{at_level}
 use Rattle.market_types.specs.Step.{arena_at}
 use Rattle.market_core.specs.Store.{IsApart, levels_from, in_levels, entries, entry_of}
-use Rattle.market_core.proofs.ByStamp.{has_number}
 use Rattle.market_core.proofs.Found.{AllPairs-head, AllPairs-tail, All-found}
 
 -- ---- an arena of a level is found by its number

@@ -1,5 +1,5 @@
 -- What a binary search finds among records with rising numbers.
-use Rattle.std.proofs.Common.{◌≡◌, ◌≢◌, ℕ, zero, suc, ◌+◌, ◌-◌, ◌<◌, ◌≤◌, List, length, take, drop, get_or, Option, Some, Result, Ok, Err, IfNone, IfSome, sym, ap, ◌∙◌, arith, inl, inr, get_or-take, get_or-drop, length-take, length-drop}
+use Rattle.std.proofs.Common.{◌≡◌, ◌≢◌, ℕ, zero, suc, ◌+◌, ◌-◌, ◌<◌, ◌≤◌, List, length, drop, get_or, Option, Some, Result, Ok, Err, IfNone, IfSome, sym, ap, ◌∙◌, arith, inl, inr, get_or-take, get_or-drop, length-take, length-drop}
 use Rattle.std.specs.Prelude.{slice_range}
 use Rattle.std.proofs.lemmas.List.{get_or_default}
 use Rattle.std.specs.List.{All}
@@ -70,14 +70,14 @@ near-missing xs n low high near h k d within =
     elim (cases_lt k low) [
       | inl below ↦ let other : (get_or xs k d).number < n = near.before k d below in λ e. omega arith
       | inr above ↦ elim (cases_lt k high) [
-          | inl inside ↦
-              let size : length (slice_range xs low high) ≡ high - low = omega (arith, length-take (high - low) (drop low xs), length-drop low xs, near.within) in
-              let here : (get_or (slice_range xs low high) (k - low) d).number ≢ n = h (k - low) d (omega arith) in
-              let place : low + (k - low) ≡ k = omega arith in
-              let same : get_or (slice_range xs low high) (k - low) d ≡ get_or xs k d = part-at xs low high (k - low) d (omega arith) ∙ ap (λ i. get_or xs i d) place in
-              λ e. here (ap (λ (a : Arena). a.number) same ∙ e)
-          | inr past ↦ let other : n < (get_or xs k d).number = near.behind k d past within in λ e. omega arith
-        ]
+        | inl inside ↦
+            let size : length (slice_range xs low high) ≡ high - low = omega (arith, length-take (high - low) (drop low xs), length-drop low xs, near.within) in
+            let here : (get_or (slice_range xs low high) (k - low) d).number ≢ n = h (k - low) d (omega arith) in
+            let place : low + (k - low) ≡ k = omega arith in
+            let same : get_or (slice_range xs low high) (k - low) d ≡ get_or xs k d = part-at xs low high (k - low) d (omega arith) ∙ ap (λ i. get_or xs i d) place in
+            λ e. here (ap (λ (a : Arena). a.number) same ∙ e)
+        | inr past ↦ let other : n < (get_or xs k d).number = near.behind k d past within in λ e. omega arith
+      ]
     ]
 
 pub near-found : (xs : List Arena) (n low high place : ℕ) → place < high - low → ((d : Arena) → (get_or (slice_range xs low high) place d).number ≡ n) → (d : Arena) → (get_or xs (low + place) d).number ≡ n

@@ -1,11 +1,11 @@
 -- The next arena of a level that is allotted a worker, by what the arenas before it ask for.
-use Rattle.std.proofs.Common.{◌≡◌, ◌≢◌, ℕ, zero, suc, ◌+◌, ◌-◌, ◌*◌, ◌/◌, ◌%◌, ◌<◌, ◌≤◌, Bool, true, false, cond, eqb, ltb, List, [], ◌∷◌, ◌++◌, length, get_or, take, map, Option, Some, None, refl, sym, ap, subst, ◌∙◌, arith, inl, inr, add-one}
-use Rattle.std.specs.Prelude.{slice_get, slice_index, IfSome, IfNone}
-use Rattle.std.specs.List.{All, AllPairs, filter, find, flat_map, sum_by}
+use Rattle.std.proofs.Common.{◌≡◌, ℕ, zero, suc, ◌+◌, ◌-◌, ◌*◌, ◌/◌, ◌<◌, ◌≤◌, eqb, ltb, List, [], ◌∷◌, length, get_or, take, map, Option, Some, None, refl, sym, ap, subst, ◌∙◌, arith, inl, inr, add-one}
+use Rattle.std.specs.Prelude.{slice_get, IfSome, IfNone}
+use Rattle.std.specs.List.{All, sum_by}
 use Rattle.std.specs.Option.{option_map}
 use Rattle.std.proofs.Math.Nat.{zero-mul, zero-div}
-use Rattle.std.proofs.lemmas.Bool.{cases_eq, cases_lt, cases_Bool, eq-eqb, ne_eqb, eqb-true, lt-ltb}
-use Rattle.std.proofs.lemmas.List.{take_all, length-map}
+use Rattle.std.proofs.lemmas.Bool.{cases_eq, cases_lt, cases_Bool, eq-eqb, ne_eqb, lt-ltb}
+use Rattle.std.proofs.lemmas.List.{length-map}
 use Rattle.std.proofs.lemmas.List.Elements.{All-nil, All-cons, All-filter, All-weaker}
 use Rattle.std.proofs.lemmas.List.Sums.{sum_by-cons}
 use Rattle.std.proofs.lemmas.Option.{slice_get-get_or, slice_get_within, get_or_from_slice_get, slice_get-map, same_Some}
@@ -19,11 +19,10 @@ use Rattle.recall_hire.specs.Staffed.{row_of, rows_among, allotted_at, IsNext, N
 use Rattle.level_list.specs.Passing.{Passing}
 use Rattle.level_list.specs.Rows.{IsPassing as IsRowPassing}
 use Rattle.market_core.specs.Divided.{rows_at}
-use Rattle.market_core.specs.Store.{IsKept, IsNewestFirst, IsPassedAt, IsPassing, newer, entry_of, entries}
+use Rattle.market_core.specs.Store.{IsKept, IsNewestFirst, IsPassing, newer, entry_of, entries}
 use Rattle.market_core.proofs.Found.{Found, found-at, All-found, newer-none, AllPairs-head, AllPairs-tail}
-use Rattle.market_core.proofs.Order.{level-at, get-none}
+use Rattle.market_core.proofs.Order.{level-at}
 use Rattle.market_core.proofs.Allotted.{alloc-found, request-within}
-use Rattle.market_core.proofs.Entries.{entries-demand}
 
 -- ---- the arenas of a level before one are those that are newer
 
@@ -200,6 +199,7 @@ module _ (s : State) (level p : ℕ) (a : Arena) (h : Shared s) (e : slice_get (
     where
       due-nothing : (d b q : ℕ) → due 0 d b q ≡ 0
       due-nothing d b q = rw (zero-mul, zero-mul, zero-div) refl
+
       idle-share : (K D : ℕ → ℕ) (carry : ℕ) → request_of a.claim ≡ 0 → share_of K D carry a ≡ 0
       idle-share K D carry idle = rw idle refl
 
@@ -293,7 +293,7 @@ module _ (s : State) (level place given asked before sum : ℕ) (h : Search s le
             | inr g ↦ g
           ];
           row = slice_get-map (row_of s) xs passing.place ∙ ap (option_map (row_of s)) passed.1
-            ∙ ap Some (same-staffing a.number passing.row.arena (alloc s a.number) workers (active s a.number) placed number allotted_is (ap (active s) number ∙ sym placed_here));
+              ∙ ap Some (same-staffing a.number passing.row.arena (alloc s a.number) workers (active s a.number) placed number allotted_is (ap (active s) number ∙ sym placed_here));
           allotted = subst (λ n. 0 < n) workers_are more;
           first = nobody-to passing.place (omega (arith, found.at.in_range)) found.at.within;
         }

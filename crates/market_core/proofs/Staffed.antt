@@ -1,5 +1,5 @@
 -- How many workers an arena has after one was placed or recalled.
-use Rattle.std.proofs.Common.{◌≡◌, ℕ, ◌+◌, ◌-◌, ◌<◌, ◌≤◌, Bool, true, false, cond, eqb, ltb, List, [], ◌∷◌, length, get_or, set, Option, Some, None, refl, sym, ap, ◌∙◌, arith, inl, inr}
+use Rattle.std.proofs.Common.{◌≡◌, ℕ, ◌+◌, ◌<◌, Bool, true, cond, ltb, List, [], ◌∷◌, get_or, set, Option, Some, None, refl, ap, ◌∙◌, arith, inl, inr}
 use Rattle.std.specs.Prelude.{slice_get}
 use Rattle.std.specs.List.{find, count_by}
 use Rattle.std.specs.Option.{option_map}
@@ -7,7 +7,7 @@ use Rattle.std.proofs.lemmas.Bool.{cases_Bool, ltb-true, eq-eqb}
 use Rattle.std.proofs.lemmas.List.Sums.{sum_by-set}
 use Rattle.std.proofs.lemmas.Option.{same_Some, slice_get_within, get_or_from_slice_get}
 use Rattle.market_types.specs.State.{Arena, State}
-use Rattle.market_types.specs.Allotment.{active, alloc, hire, need, in_order, is_just}
+use Rattle.market_types.specs.Allotment.{active, alloc, hire, in_order, is_just}
 use Rattle.recall_hire.specs.Staffed.{need_of}
 
 find-passes : (p : Arena → Bool) (xs : List Arena) (n : ℕ) → option_map (λ (a : Arena). a.number) (find p xs) ≡ Some n → (a : Arena) × (p a ≡ true) × (a.number ≡ n)

@@ -61,7 +61,11 @@ fn walks_newest_first(rt: HostRuntime) -> Result<(), Fail> {
         (14, Some(2)),
         (15, None),
     ] {
-        assert_eq!(rt; tree.passing(sum).0.map(|passing| passing.place), place, "at {sum}");
+        assert_eq!(rt;
+            tree.passing(sum).0.map(|passing| passing.place),
+            place,
+            "at {sum}"
+        );
     }
     Ok(())
 }

@@ -1,6 +1,5 @@
-use Rattle.std.proofs.Common.{arith, inl, inr, ◌∙◌, ◌≡◌, ◌-◌, ◌<◌, length, get_or}
+use Rattle.std.proofs.Common.{arith, inl, inr, ◌∙◌, ◌≡◌, ◌-◌, length, get_or}
 use Rattle.std.proofs.lemmas.Bool.{cases_lt}
-use Rattle.market_types.specs.State.{Arena}
 use Rattle.market_core.proofs.Search.{rising, number-at}
 use Rattle.market_core.proofs.row.bounds_of.Goals as goal
 

@@ -1,4 +1,4 @@
-use Rattle.std.proofs.Common.{◌≡◌, None, length, sym, ◌∙◌, arith, rules}
+use Rattle.std.proofs.Common.{length, sym, ◌∙◌, arith}
 use Rattle.std.proofs.lemmas.Option.{slice_get_within}
 use Rattle.recall_hire.proofs.Staffings.{NoneNeeds, needs-to, needs-more, need-found, need-none, need-in_market}
 use Rattle.recall_hire.proofs.needs.first_in_need.Goals as goal

@@ -1,4 +1,4 @@
-use Rattle.std.proofs.Common.{arith, refl, sym, ap, ◌∙◌, ◌≡◌, ℕ, ◌-◌, ◌+◌, ◌<◌, suc, Option}
+use Rattle.std.proofs.Common.{arith, refl, sym, ap, ◌∙◌, ◌≡◌, ◌-◌, ◌+◌}
 use Rattle.market_types.specs.State.{State}
 use Rattle.market_types.specs.Allotment.{at_level}
 use Rattle.recall_hire.specs.Staffed.{need_among}

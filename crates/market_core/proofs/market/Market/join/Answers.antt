@@ -1,8 +1,6 @@
-use Rattle.std.proofs.Common.{arith, sym, ap, ◌∙◌, ◌≡◌, ◌+◌, ◌<◌, ◌≤◌, ℕ, Some, None, Option, set}
+use Rattle.std.proofs.Common.{arith, sym, ap, ◌∙◌, ◌≡◌, ◌+◌, ◌<◌, ◌≤◌, Some, None, set}
 use Rattle.std.specs.Prelude.{slice_get}
-use Rattle.std.specs.List.{count_by}
-use Rattle.market_types.specs.State.{State}
-use Rattle.market_types.specs.Allotment.{active, alloc, is_just}
+use Rattle.market_types.specs.Allotment.{active, alloc}
 use Rattle.recall_hire.specs.Staffed.{need_of}
 use Rattle.market_core.specs.Shown.{shown}
 use Rattle.market_core.proofs.Staffed.{need-lacks, placed-one}

@@ -1,7 +1,7 @@
-use Rattle.std.proofs.Common.{arith, refl, sym, ap, subst, ◌∙◌, ◌≡◌, ℕ, ◌+◌, ◌-◌, ◌≤◌, ◌<◌, get_or, take}
+use Rattle.std.proofs.Common.{arith, sym, ap, subst, ◌∙◌, ◌≡◌, ◌-◌, ◌≤◌, get_or, take}
 use Rattle.std.specs.Prelude.{IfSome, IfNone}
 use Rattle.market_types.specs.State.{State}
-use Rattle.market_types.specs.Allotment.{at_level, total_request, assigned, demand, active}
+use Rattle.market_types.specs.Allotment.{at_level, total_request, assigned, active}
 use Rattle.market_core.specs.Sound.{IsSound}
 use Rattle.market_core.specs.Store.{IsKept, IsPassing}
 use Rattle.market_core.proofs.Searched.{Shared, Search, due, none-given, next-none, passing-part, next-at}

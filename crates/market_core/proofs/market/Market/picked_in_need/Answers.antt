@@ -1,7 +1,6 @@
-use Rattle.std.proofs.Common.{arith, refl, sym, ap, ◌∙◌, ◌≡◌, ℕ, ◌-◌, ◌<◌, Some, None}
-use Rattle.std.specs.List.{count_by}
+use Rattle.std.proofs.Common.{arith, sym, ap, ◌∙◌, ◌≡◌, Some, None}
 use Rattle.market_types.specs.State.{State}
-use Rattle.market_types.specs.Allotment.{active, bound_of, is_just}
+use Rattle.market_types.specs.Allotment.{active}
 use Rattle.allotment.specs.Levels.{pick_of}
 use Rattle.market_core.proofs.InNeed.{need-unpicked, need-served, need-picked}
 use Rattle.market_core.proofs.market.Market.picked_in_need.Goals as goal

@@ -1,13 +1,11 @@
-use Rattle.std.proofs.Common.{arith, refl, sym, ap, ◌∙◌, ◌≡◌, ℕ, ◌<◌, ◌≤◌, length, Some}
+use Rattle.std.proofs.Common.{arith, sym, ap, ◌∙◌, ◌≡◌, ◌≤◌, length, Some}
 use Rattle.std.specs.Prelude.{slice_get}
-use Rattle.std.specs.List.{count_by}
 use Rattle.std.specs.Option.{option_map}
 use Rattle.std.proofs.lemmas.List.{length-map}
 use Rattle.std.proofs.lemmas.Option.{slice_get-map}
-use Rattle.market_types.specs.State.{Arena, State}
-use Rattle.market_types.specs.Allotment.{in_order, alloc, active, is_just}
+use Rattle.market_types.specs.State.{State}
+use Rattle.market_types.specs.Allotment.{in_order}
 use Rattle.recall_hire.specs.Staffed.{row_of}
-use Rattle.recall_hire.specs.declared.rows.Staffing.{Staffing}
 use Rattle.market_core.proofs.Order.{get-none}
 use Rattle.market_core.proofs.market.Market.staffing.Goals as goal
 

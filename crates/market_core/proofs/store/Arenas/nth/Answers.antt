@@ -1,4 +1,4 @@
-use Rattle.std.proofs.Common.{arith, refl, sym, ap, ◌∙◌, ◌≡◌, ℕ, ◌+◌, ◌-◌, ◌<◌, ◌≤◌, length}
+use Rattle.std.proofs.Common.{arith, sym, ap, ◌∙◌, ◌≡◌, ◌+◌, ◌-◌, length}
 use Rattle.std.specs.Prelude.{slice_get}
 use Rattle.market_types.specs.Allotment.{at_level}
 use Rattle.market_core.specs.Store.{levels_from}
