@@ -1,7 +1,7 @@
 //! A market that is ready to be measured.
-ghost use Rattle.std.specs.Prelude.{◌≡◌, ◌+◌, ◌<◌, ◌≤◌, ◌↔◌, [], length, true, IsTrue, IsSome, OnOk, IfOk};
+ghost use Rattle.std.specs.Prelude.{◌≡◌, ◌+◌, ◌<◌, ◌≤◌, [], length, true, Some, OnOk, IfOk};
 ghost use Rattle.market_types.specs.Step.{step};
-ghost use Rattle.market_bench.specs.Done.{is_done};
+ghost use Rattle.market_bench.specs.Replies.{number_in};
 ghost use Rattle.market_bench.specs.Turns.{is_in_turns};
 
 use crate::fault::BenchFault;
@@ -20,7 +20,7 @@ const WORKERS: i32 = 3;
 
 /// A number out of a reply; `None` of a refusal.
 fn number_in(reply: &Reply) -> Option<u64>
-    ensures { IsSome result ↔ IsTrue (is_done reply.now) }
+    ensures { result ≡ number_in reply.now }
 {
     match reply {
         Reply::Opened(arena)
@@ -45,7 +45,7 @@ fn number_in(reply: &Reply) -> Option<u64>
 fn ask(alloc: Global, market: &mut Market, seat: u8, cmd: Cmd) -> Result<u64, BenchFault>
     requires { seat < length market.old.seats }
     ensures next { OnOk result (market.new ≡ (step market.old seat cmd).1) }
-    ensures done { OnOk result (IsTrue (is_done (step market.old seat cmd).0)) }
+    ensures number { IfOk result (λ n. number_in (step market.old seat cmd).0 ≡ Some n) }
     ensures same_seats { length market.new.seats ≡ length market.old.seats }
     ensures same_arenas { is_in_turns cmd ≡ true → length market.new.arenas ≡ length market.old.arenas }
 {
@@ -139,7 +139,7 @@ impl Stage {
         requires seat { seat < 64 }
         requires turns { is_in_turns cmd ≡ true }
         ensures next { OnOk result (self.new.market ≡ (step self.old.market seat cmd).1) }
-        ensures done { OnOk result (IsTrue (is_done (step self.old.market seat cmd).0)) }
+        ensures number { IfOk result (λ n. number_in (step self.old.market seat cmd).0 ≡ Some n) }
         ensures arenas { self.new.arenas ≡ self.old.arenas }
     {
         ask(self.alloc, &mut self.market, seat, cmd)
