@@ -71,6 +71,7 @@ impl Lines {
     fn end_line(&mut self, part: &[u8]) -> Result<(), AllocError>
         requires whole { NoLf part.now }
         requires few { self.old.session.unread + 1 < 2 ^ 64 }
+        requires room { length self.old.session.replies.items < 65536 }
         ensures carry { OnOk result (self.new.carry.items ≡ []) }
         ensures told { OnOk result (so_far self.new.session ≡ joined (so_far self.old.session) (λ s. answer_of s (self.old.carry.items ++ part.now))) }
         ensures few { OnOk result (self.new.session.unread ≤ self.old.session.unread + 1) }
@@ -87,6 +88,7 @@ impl Lines {
     /// Answers the lines that end in the piece, and hands over all replies. What the piece leaves open is kept.
     pub fn feed<W: Sink>(&mut self, sink: &mut W, piece: &[u8]) -> Result<(), RunFault>
         requires few { self.old.session.unread + length piece.now < 2 ^ 64 }
+        requires room { length self.old.session.replies.items < 65536 }
         requires working { W.failed sink.old ≡ false }
         ensures takes { OnOk result (Takes (W.taken sink.old) (W.taken sink.new) (so_far self.old.session) self.old.carry.items piece.now (so_far self.new.session) self.new.carry.items) }
         ensures handed { OnOk result (self.new.session.replies.items ≡ []) }
@@ -110,7 +112,8 @@ impl Lines {
 
     /// Answers what the script's end leaves open.
     fn answer_last(&mut self) -> Result<(), AllocError>
-        requires { self.old.session.unread + 1 < 2 ^ 64 }
+        requires few { self.old.session.unread + 1 < 2 ^ 64 }
+        requires room { length self.old.session.replies.items < 65536 }
         ensures { OnOk result (so_far self.new.session ≡ joined (so_far self.old.session) (λ s. told s self.old.carry.items)) }
     {
         if self.carry.is_empty() {
@@ -122,6 +125,7 @@ impl Lines {
     /// Answers what the script's end leaves open, and hands over all replies. The result is the number of unread lines.
     pub fn finish<W: Sink>(&mut self, sink: &mut W) -> Result<u64, RunFault>
         requires few { self.old.session.unread + 1 < 2 ^ 64 }
+        requires room { length self.old.session.replies.items < 65536 }
         requires working { W.failed sink.old ≡ false }
         ensures wrote { OnOk result (Appends (W.taken sink.old) (W.taken sink.new) (joined (so_far self.old.session) (λ s. told s self.old.carry.items)).text) }
         ensures count { IfOk result (λ n. n ≡ (joined (so_far self.old.session) (λ s. told s self.old.carry.items)).unread) }

@@ -59,9 +59,11 @@ impl Session {
         Ok(())
     }
 
-    /// Answers one line, of which the first 257 bytes are enough.
+    /// Answers one line, of which the first 257 bytes are enough. The replies that wait are fewer than 65,536 bytes, so that
+    /// the memory for them has a bound.
     pub fn answer(&mut self, line: &[u8]) -> Result<(), AllocError>
-        requires { self.old.unread + 1 < 2 ^ 64 }
+        requires few { self.old.unread + 1 < 2 ^ 64 }
+        requires room { length self.old.replies.items < 65536 }
         ensures told { OnOk result (so_far self.new ≡ joined (so_far self.old) (λ s. answer_of s line.now)) }
         ensures few { OnOk result (self.new.unread ≤ self.old.unread + 1) }
     {

@@ -14,6 +14,7 @@ loop-line-preserved g c =
       taking = rw e.carry (taking-line _ _ (so_far c.args.self.now.session) c.args.self.now.carry.items c.args.piece.now (so_far l.self.session) (so_far c.end_line.new.self.session) l.self.carry.items c.in-Some.line.now c.in-Some.more.now before l.self.open cut.1 e.told);
       few = omega (arith, l.invariant.few, e.few, ap length cut.0, length-append c.in-Some.line.now (10 ∷ c.in-Some.more.now));
       working = l.invariant.working;
+      room = omega (arith, c.end_line.new.self.session.replies.ok.0);
     }
 
 pub loop-line-preserved-in_ok-hand_over : goal.loop-line-preserved-in_ok-hand_over
@@ -28,6 +29,7 @@ loop-line-preserved-in_ok-hand_over g c =
       taking = rw e.carry (taking-handed _ _ _ _ _ _ (so_far c.end_line.new.self.session) (so_far c.hand_over.new.self) _ c.in-Some.more.now told h.all h.handed h.unread h.market);
       few = omega (arith, l.invariant.few, e.few, h.unread, ap length cut.0, length-append c.in-Some.line.now (10 ∷ c.in-Some.more.now));
       working = h.working ∙ l.invariant.working;
+      room = omega (arith, ap length h.handed);
     }
 
 pub returns-in_err-hand_over-clause-prefix : goal.returns-in_err-hand_over-clause-prefix
