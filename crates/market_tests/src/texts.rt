@@ -3,11 +3,29 @@ use market_types::{
     ArenaId, ArenaView, Fault, LimitView, Lists, OpenFault, Reply, cmd_text, open_fault_text,
     push_reply, read_cmd, read_line, reply_text,
 };
+use market_prog::RunFault;
 use std::test::Fail;
 
+/// The canonical text of each command.
+const TEXTS: [&str; 13] = [
+    "open 8 1 normal",
+    "close 1",
+    "priority 1 high",
+    "resize 1 4 1",
+    "request 1 3 0",
+    "control 4",
+    "uncontrol 1",
+    "join",
+    "stay",
+    "leave",
+    "show 1",
+    "lists",
+    "limit",
+];
+
 #[test]
-fn served_commands_are_read_and_written(rt: HostRuntime) -> Result<(), Fail> {
-    for text in ["open 8 1 normal", "request 1 3 0", "show 1", "limit"] {
+fn commands_are_read_and_written(rt: HostRuntime) -> Result<(), Fail> {
+    for text in TEXTS {
         let cmd = read_cmd(text.as_bytes(), 3).ok_or("unread")?;
         let written = cmd_text(rt.alloc(), &cmd, 3)?;
         assert_eq!(rt; written.as_str(), text);
@@ -57,5 +75,21 @@ fn replies_are_written(rt: HostRuntime) -> Result<(), Fail> {
     let busy = reply_text(rt.alloc(), &Reply::Refused(Fault::Busy(1)))?;
     assert_eq!(rt; busy.as_str(), "F06 busy 1");
     assert_eq!(rt; open_fault_text(OpenFault::BadLevels), "O5 bad levels");
+    Ok(())
+}
+
+#[test]
+fn faults_of_a_run_have_texts(rt: HostRuntime) -> Result<(), Fail> {
+    for (fault, text) in [
+        (RunFault::Open(OpenFault::BadSeats), "O3 bad seats"),
+        (RunFault::Read, "read fault"),
+        (RunFault::TooLong, "input too long"),
+        (RunFault::Write, "write fault"),
+        (RunFault::Memory, "memory"),
+        (RunFault::HistoryFull, "history full"),
+    ] {
+        let told = format!(in rt.alloc(); "{fault}")?;
+        assert_eq!(rt; told.as_str(), text);
+    }
     Ok(())
 }
