@@ -2,7 +2,7 @@
 //!
 //! A [`LevelList`] is a [`prefix_tree::Tree`] in which a new row is newer than all others, so that its contracts put it
 //! at the front. A row that is taken out is a [`Taken`], which can be put back, here or in another level's list, without
-//! memory. Only `push` takes memory.
+//! memory. Only `push` and `rows` take memory.
 //!
 //! Each call but `new`, `len`, `is_empty` and `demand` says how many nodes of the tree it entered, as `Tree` counts them.
 #![tactic(auto)]

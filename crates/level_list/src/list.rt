@@ -12,7 +12,7 @@ use std::marker::Model;
 /// see it as the list of its rows, newest first.
 ///
 /// A call on `n` rows enters at most twice as many nodes as `n` has binary digits, and one more where it puts a row
-/// in. The last part of its answer is their number. Only `push` takes memory.
+/// in; `rows` enters all. The last part of its answer is their number. Only `push` and `rows` take memory.
 #[derive(Drop)]
 pub struct LevelList {
     rows: Tree,
@@ -110,6 +110,14 @@ impl LevelList {
         ensures visits { result.1 ≤ 2 * bits (length self.now) }
     {
         self.rows.place_of(stamp)
+    }
+
+    /// All rows, newest first. Enters each node once.
+    pub fn rows(&self, alloc: Global) -> Result<(Vec<Row>, u32), AllocError>
+        ensures exact { IfOk result (λ listed. listed.0.items ≡ self.now) }
+        ensures visits { IfOk result (λ listed. listed.1 ≡ length self.now) }
+    {
+        self.rows.rows(alloc)
     }
 
     /// Sets the request and the mandate of the row with that stamp, and leaves all others; nothing where no row has it.

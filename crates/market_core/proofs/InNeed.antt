@@ -9,8 +9,8 @@ use Rattle.market_types.specs.Claims.{is_mandated}
 use Rattle.market_types.specs.Allotment.{active, alloc, at_level, bound_of, hire, in_order, limit_of, mandatory_pick}
 use Rattle.allotment.specs.Levels.{number_of, pick_of}
 use Rattle.recall_hire.specs.Staffed.{need_among, need_of}
-use Rattle.market_core.specs.Store.{levels_from}
 use Rattle.market_core.proofs.Allotted.{alloc-picked, all_to_number, all_to-number}
+use Rattle.market_core.proofs.Order.{levels_from}
 
 -- ---- level by level
 

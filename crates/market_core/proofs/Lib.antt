@@ -14,3 +14,4 @@ mod Totals
 mod Assigned
 mod Searched
 mod InNeed
+mod Listed

@@ -1,17 +1,17 @@
 -- The arenas in order, by their places.
-use Rattle.std.proofs.Common.{◌≡◌, ◌≢◌, ℕ, zero, suc, ◌+◌, ◌-◌, ◌<◌, ◌≤◌, List, [], ◌∷◌, ◌++◌, length, get_or, Option, Some, None, refl, sym, ap, ◌∙◌, arith, inl, inr, length-append}
+use Rattle.std.proofs.Common.{◌≡◌, ◌≢◌, ℕ, zero, suc, ◌+◌, ◌<◌, ◌≤◌, List, [], ◌∷◌, length, get_or, Option, Some, None, refl, sym, ap, ◌∙◌, arith, inl, inr}
 use Rattle.std.specs.Prelude.{slice_get}
-use Rattle.std.specs.List.{All, sum_by}
+use Rattle.std.specs.List.{All, flat_map, range_with_len, sum_by}
 use Rattle.std.specs.Option.{option_map}
-use Rattle.std.proofs.lemmas.Bool.{cases_eq, cases_lt, eq-eqb, ne_eqb}
+use Rattle.std.proofs.lemmas.Bool.{cases_eq, eq-eqb, ne_eqb}
 use Rattle.std.proofs.lemmas.List.Elements.{All-head, All-tail}
 use Rattle.std.proofs.lemmas.List.Sums.{sum_by-cons, sum_by-append}
-use Rattle.std.proofs.lemmas.Option.{slice_get-get_or, slice_get_past, slice_get_within, get_or_from_slice_get, slice_get-map, same_Some}
+use Rattle.std.proofs.lemmas.Option.{slice_get_within, get_or_from_slice_get, slice_get-map, same_Some}
 use Rattle.market_types.specs.declared.row.Row.{Row}
 use Rattle.market_types.specs.State.{Arena}
 use Rattle.market_types.specs.Allotment.{at_level}
 use Rattle.market_types.specs.Step.{arena_at}
-use Rattle.market_core.specs.Store.{IsApart, levels_from, in_levels, entries, entry_of}
+use Rattle.market_core.specs.Store.{IsApart, entries, entry_of}
 use Rattle.market_core.proofs.Found.{AllPairs-head, AllPairs-tail, All-found}
 
 -- ---- an arena of a level is found by its number
@@ -49,42 +49,15 @@ pub level-at : (l p : ℕ) (arenas : List Arena) (a : Arena) → IsApart arenas 
 level-at l p arenas a apart e =
     level-found l p arenas a apart (slice_get_within (at_level l arenas) p a e) (sym (get_or_from_slice_get (at_level l arenas) p a a e))
 
--- ---- places level by level
+-- ---- level by level
 
-get-append : {X : Type 0} (xs ys : List X) (k : ℕ) → k < length xs → slice_get (xs ++ ys) k ≡ slice_get xs k
-get-append [] ys k h = absurd (omega arith)
-get-append (x ∷ xs) ys k h =
-    slice_get-get_or ((x ∷ xs) ++ ys) k x (omega (arith, length-append (x ∷ xs) ys)) ∙ ap Some (get_or-front (x ∷ xs) ys k x h) ∙ sym (slice_get-get_or (x ∷ xs) k x h)
-  where
-    get_or-front : {X : Type 0} (xs ys : List X) (k : ℕ) (d : X) → k < length xs → get_or (xs ++ ys) k d ≡ get_or xs k d
-    get_or-front [] ys k d h = absurd (omega arith)
-    get_or-front (x ∷ xs) ys zero d h = refl
-    get_or-front (x ∷ xs) ys (suc k) d h = get_or-front xs ys k d (omega arith)
+-- the arenas of so many levels from one on, level by level
+abbrev pub levels_from : ℕ → ℕ → List Arena → List Arena
+levels_from from n arenas = flat_map (λ level. at_level level arenas) (range_with_len from n)
 
-get_or-back : {X : Type 0} (xs ys : List X) (k : ℕ) (d : X) → get_or (xs ++ ys) (length xs + k) d ≡ get_or ys k d
-get_or-back [] ys k d = let same : 0 + k ≡ k = omega arith in ap (λ n. get_or ys n d) same
-get_or-back (x ∷ xs) ys k d = let same : length (x ∷ xs) + k ≡ suc (length xs + k) = omega arith in ap (λ n. get_or (x ∷ (xs ++ ys)) n d) same ∙ get_or-back xs ys k d
-
-get-append_past : {X : Type 0} (xs ys : List X) (k : ℕ) → length xs ≤ k → slice_get (xs ++ ys) k ≡ slice_get ys (k - length xs)
-get-append_past xs [] k h = slice_get_past (xs ++ []) k (omega (arith, length-append xs [])) ∙ sym (slice_get_past [] (k - length xs) (omega arith))
-get-append_past xs (y ∷ ys) k h =
-    elim (cases_lt (k - length xs) (length (y ∷ ys))) [
-      | inl l ↦
-          slice_get-get_or (xs ++ y ∷ ys) k y (omega (arith, length-append xs (y ∷ ys)))
-          ∙ (let same : k ≡ length xs + (k - length xs) = omega arith in ap (λ n. Some (get_or (xs ++ y ∷ ys) n y)) same) ∙ ap Some (get_or-back xs (y ∷ ys) (k - length xs) y)
-          ∙ sym (slice_get-get_or (y ∷ ys) (k - length xs) y l)
-      | inr g ↦ slice_get_past (xs ++ y ∷ ys) k (omega (arith, length-append xs (y ∷ ys))) ∙ sym (slice_get_past (y ∷ ys) (k - length xs) g)
-    ]
-
--- in the first of the levels, or after it
-pub levels-here : (arenas : List Arena) (from n m rest : ℕ) → m ≡ suc n → rest < length (at_level from arenas) → slice_get (levels_from from m arenas) rest ≡ slice_get (at_level from arenas) rest
-levels-here arenas from n m rest e h = rw e (get-append (at_level from arenas) (levels_from (from + 1) n arenas) rest h)
-
-pub levels-past : (arenas : List Arena) (from n m rest : ℕ) → m ≡ suc n → length (at_level from arenas) ≤ rest → slice_get (levels_from from m arenas) rest ≡ slice_get (levels_from (from + 1) n arenas) (rest - length (at_level from arenas))
-levels-past arenas from n m rest e h = rw e (get-append_past (at_level from arenas) (levels_from (from + 1) n arenas) rest h)
-
-pub levels-done : (arenas : List Arena) (from m rest : ℕ) → m ≡ 0 → slice_get (levels_from from m arenas) rest ≡ None
-levels-done arenas from m rest e = rw e refl
+-- the arenas of the first levels, in order
+abbrev pub in_levels : ℕ → List Arena → List Arena
+in_levels levels arenas = levels_from 1 levels arenas
 
 -- ---- each arena stands once in order
 
@@ -122,13 +95,6 @@ sum-in_levels f levels (a ∷ arenas) h =
     ∙ ap (λ n. f a + n) (sum-in_levels f levels arenas (All-tail P a arenas h))
     ∙ sym (sum_by-cons f a arenas)
 
-length-sum : (xs : List Arena) → length xs ≡ sum_by (λ (a : Arena). 1) xs
-length-sum [] = refl
-length-sum (x ∷ xs) = omega (arith, length-sum xs, sum_by-cons (λ (a : Arena). 1) x xs)
-
-pub length-in_order : (levels : ℕ) (arenas : List Arena) → All (λ (a : Arena). (1 ≤ a.level) × (a.level ≤ levels)) arenas → length (in_levels levels arenas) ≡ length arenas
-length-in_order levels arenas h = length-sum (in_levels levels arenas) ∙ sum-in_levels (λ (a : Arena). 1) levels arenas h ∙ sym (length-sum arenas)
-
 -- the row at a place of a level's list names the arena there
 walked : (level place : ℕ) (arenas : List Arena) (row : Row) → IsApart arenas → (o : Option Arena) → slice_get (at_level level arenas) place ≡ o → Some row ≡ option_map entry_of o → arena_at row.arena arenas ≡ o
 walked level place arenas row apart None f g = absurd (some-none row g)
@@ -140,14 +106,3 @@ walked level place arenas row apart (Some a) f g = ap (λ (r : Row). arena_at r.
 pub walk-found : (level place : ℕ) (arenas : List Arena) (row : Row) → IsApart arenas → Some row ≡ slice_get (entries level arenas) place → arena_at row.arena arenas ≡ slice_get (at_level level arenas) place
 walk-found level place arenas row apart e =
     walked level place arenas row apart (slice_get (at_level level arenas) place) refl (e ∙ slice_get-map entry_of (at_level level arenas) place)
-
-pub get-none : (xs : List Arena) (k : ℕ) → slice_get xs k ≡ None → length xs ≤ k
-get-none [] k e = omega arith
-get-none (x ∷ xs) k e =
-    elim (cases_lt k (length (x ∷ xs))) [
-      | inl l ↦ absurd (some-none (get_or (x ∷ xs) k x) (sym (slice_get-get_or (x ∷ xs) k x l) ∙ e))
-      | inr g ↦ g
-    ]
-  where
-    some-none : (r : Arena) → Some r ≡ None → ⊥
-    some-none r h = cc

@@ -19,7 +19,7 @@ use Rattle.recall_hire.specs.Staffed.{row_of, rows_among, allotted_at, IsNext, N
 use Rattle.level_list.specs.Passing.{Passing}
 use Rattle.level_list.specs.Rows.{IsPassing as IsRowPassing}
 use Rattle.market_core.specs.Divided.{rows_at}
-use Rattle.market_core.specs.Store.{IsKept, IsNewestFirst, IsPassing, newer, entry_of, entries}
+use Rattle.market_core.specs.Store.{IsKept, IsNewestFirst, IsEntry, IsPassing, newer, entry_of, entries}
 use Rattle.market_core.proofs.Found.{Found, found-at, All-found, newer-none, AllPairs-head, AllPairs-tail}
 use Rattle.market_core.proofs.Order.{level-at}
 use Rattle.market_core.proofs.Allotted.{alloc-found, request-within}
@@ -187,6 +187,12 @@ module _ (s : State) (level p : ℕ) (a : Arena) (h : Shared s) (e : slice_get (
       ∙ ap (λ l. due (assigned s l) (demand s l) (total_request (at_level a.level (newer a.stamp s.arenas))) (request_of a.claim)) here
       ∙ ap (λ n. due (assigned s level) (demand s level) n (request_of a.claim)) before
 
+  pub alloc-idle : request_of a.claim ≡ 0 → alloc s a.number ≡ 0
+  alloc-idle idle = shared ∙ idle-share (assigned s) (demand s) (carry_after (assigned s) (demand s) 0 (at_level a.level (newer a.stamp s.arenas))) idle
+    where
+      idle-share : (K D : ℕ → ℕ) (carry : ℕ) → request_of a.claim ≡ 0 → share_of K D carry a ≡ 0
+      idle-share K D carry idle = rw idle refl
+
   pub alloc-nobody : assigned s level ≡ 0 → alloc s a.number ≡ 0
   alloc-nobody none =
       elim (cases_lt 0 (demand s level)) [
@@ -194,7 +200,7 @@ module _ (s : State) (level p : ℕ) (a : Arena) (h : Shared s) (e : slice_get (
         | inr z ↦
             let asked : demand s a.level ≡ demand s level = ap (demand s) here in
             let idle : request_of a.claim ≡ 0 = omega (arith, request-within a.number a s.arenas found) in
-            shared ∙ idle-share (assigned s) (demand s) (carry_after (assigned s) (demand s) 0 (at_level a.level (newer a.stamp s.arenas))) idle
+            alloc-idle idle
       ]
     where
       due-nothing : (d b q : ℕ) → due 0 d b q ≡ 0
@@ -202,6 +208,46 @@ module _ (s : State) (level p : ℕ) (a : Arena) (h : Shared s) (e : slice_get (
 
       idle-share : (K D : ℕ → ℕ) (carry : ℕ) → request_of a.claim ≡ 0 → share_of K D carry a ≡ 0
       idle-share K D carry idle = rw idle refl
+
+-- ---- the entries of a level
+
+-- an entry's arena
+pub entry-arena : (before : ℕ) (entry : Row) (arenas : List Arena) (h : IsEntry before entry arenas) → (a : Arena) × (slice_get arenas h.place ≡ Some a) × (entry_of a ≡ entry)
+entry-arena before entry arenas h = there (slice_get arenas h.place) refl h.row
+  where
+    none-some : (r : Row) → ◌≡◌ {A = Option Row} None (Some r) → ⊥
+    none-some r e = cc
+
+    there : (o : Option Arena) → slice_get arenas h.place ≡ o → option_map entry_of o ≡ Some entry → (a : Arena) × (slice_get arenas h.place ≡ Some a) × (entry_of a ≡ entry)
+    there None f g = absurd (none-some entry g)
+    there (Some a) f g = (a, f, same_Some (entry_of a) entry g)
+
+-- it asks for no more than is left of what all ask for
+pub entry-part : (sum : ℕ) (entry : Row) (arenas : List Arena) → IsEntry sum entry arenas → sum + entry.request ≤ total_request arenas
+entry-part sum entry arenas e =
+    let a = entry-arena sum entry arenas e in
+    let asked : request_of a.0.claim ≡ entry.request = ap (λ (r : Row). r.request) a.2 in
+    omega (arith, e.before_is, asked, sum-with e.place arenas a.0 a.1, sum-part (e.place + 1) arenas)
+
+module _ (s : State) (level sum : ℕ) (entry : Row) (h : Shared s) (e : IsEntry sum entry (at_level level s.arenas)) where
+  number-of : (entry-arena sum entry (at_level level s.arenas) e).0.number ≡ entry.arena
+  number-of = ap (λ (r : Row). r.arena) (entry-arena sum entry (at_level level s.arenas) e).2
+
+  request-of : request_of (entry-arena sum entry (at_level level s.arenas) e).0.claim ≡ entry.request
+  request-of = ap (λ (r : Row). r.request) (entry-arena sum entry (at_level level s.arenas) e).2
+
+  pub entry-idle : entry.request ≡ 0 → alloc s entry.arena ≡ 0
+  entry-idle idle =
+      let a = entry-arena sum entry (at_level level s.arenas) e in
+      ap (alloc s) (sym number-of) ∙ alloc-idle s level e.place a.0 h a.1 (request-of ∙ idle)
+
+  pub entry-due : 0 < demand s level → alloc s entry.arena ≡ due (assigned s level) (demand s level) sum entry.request
+  entry-due some =
+      let xs = at_level level s.arenas in
+      let a = entry-arena sum entry xs e in
+      ap (alloc s) (sym number-of) ∙ alloc-due s level e.place a.0 h a.1 some
+      ∙ ap (λ n. due (assigned s level) (demand s level) n (request_of a.0.claim)) (sym e.before_is)
+      ∙ ap (due (assigned s level) (demand s level) sum) request-of
 
 -- ---- the rows of a level
 

@@ -1,6 +1,6 @@
 -- How the market keeps its arenas: a table by number, and for each level a list by stamp.
 use Rattle.std.specs.Prelude.{◌≡◌, ◌≢◌, ℕ, ◌+◌, ◌-◌, ◌<◌, ◌≤◌, Bool, nat_lt, if◌then◌else◌, List, [], ◌∷◌, length, take, map, Some, option_map, slice_get, slice_index_or}
-use Rattle.std.specs.List.{All, AllPairs, filter, flat_map, range_with_len, count_by}
+use Rattle.std.specs.List.{All, AllPairs, filter, count_by}
 use Rattle.market_types.specs.declared.row.Row.{Row}
 use Rattle.level_list.specs.Passing.{Passing}
 use Rattle.market_types.specs.State.{Arena}
@@ -54,6 +54,12 @@ pub record IsPassing (sum : ℕ) (passing : Passing) (arenas : List Arena) : Typ
   pub row : option_map entry_of (slice_get arenas passing.place) ≡ Some passing.row
   pub before : passing.before ≡ total_request (take passing.place arenas)
 
+-- it is the entry of one of these arenas, and those before that ask for `before`
+pub record IsEntry (before : ℕ) (entry : Row) (arenas : List Arena) : Type 0 where
+  pub place : ℕ
+  pub row : option_map entry_of (slice_get arenas place) ≡ Some entry
+  pub before_is : before ≡ total_request (take place arenas)
+
 -- what holds of the living arenas: they are at most 1,024, each at a level that a market can have, newest first
 pub record IsKept (arenas : List Arena) : Type 0 where
   pub few : length arenas ≤ 1024
@@ -78,11 +84,3 @@ pub record IsStored (records : List Arena) (lists : List (List Row)) (count : �
   pub leveled : All (λ (a : Arena). (1 ≤ a.level) × (a.level ≤ 8)) records
   pub listed : IsListed lists (by_stamp records)
   pub enqueued : count ≡ count_by has_work records
-
--- the arenas of so many levels from one on, level by level
-abbrev pub levels_from : ℕ → ℕ → List Arena → List Arena
-levels_from from n arenas = flat_map (λ level. at_level level arenas) (range_with_len from n)
-
--- the arenas of the first levels, in order
-abbrev pub in_levels : ℕ → List Arena → List Arena
-in_levels levels arenas = levels_from 1 levels arenas

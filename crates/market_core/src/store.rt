@@ -7,7 +7,7 @@ ghost use Rattle.market_types.specs.Allotment.{total_request, at_level, has_mand
 ghost use Rattle.market_types.specs.Step.{arena_at, with_claim, without};
 ghost use Rattle.allotment.specs.Levels.{number_of};
 ghost use Rattle.market_core.specs.Changed.{changed_at};
-ghost use Rattle.market_core.specs.Store.{IsKept, IsPassing, newer, entry_of, in_levels};
+ghost use Rattle.market_core.specs.Store.{IsKept, IsPassing, newer, entry_of, entries};
 ghost use Rattle.level_list.specs.Bits.{bits};
 
 use crate::change::Change;
@@ -176,22 +176,13 @@ impl Arenas {
         row
     }
 
-    /// The arena at a place, from 0 on, of the levels up to one in order.
-    pub fn nth(&self, levels: u32, place: usize) -> (Option<ArenaRow>, u32)
-        requires few { levels ≤ 8 }
-        ensures exact { result.0 ≡ slice_get (in_levels levels self.now) place }
-        ensures there { IfSome result.0 (λ row. arena_at row.number self.now ≡ Some row) }
-        ensures few { result.1 ≤ 22 }
+    /// What the list of a level, 1 to 8, keeps of its arenas.
+    pub fn entries(&self, alloc: Global, level: u32) -> Result<(Vec<Row>, u32), AllocError>
+        requires low { 1 ≤ level }
+        requires high { level ≤ 8 }
+        ensures exact { IfOk result (λ listed. listed.0.items ≡ entries level self.now) }
     {
-        let mut rest = place;
-        for level in 0..levels {
-            let count = self.count(level + 1);
-            if rest < count {
-                return self.walk(level + 1, rest);
-            }
-            rest -= count;
-        }
-        (None, 0)
+        self.lists[level as usize - 1].rows(alloc)
     }
 
     /// What the arenas of a level, 1 to 8, before a place ask for together.

@@ -83,7 +83,9 @@ fn joins_pass_over_idle_arenas(rt: HostRuntime) {
         assert!(&rt; visits >= 2 * passed && visits <= 44 * passed);
     }
     let lists = answer(&rt, rt.alloc(), &mut market, Cmd::Lists);
-    assert!(&rt; matches!(&lists, Reply::Listed(lists) if lists.recalls.is_empty() && lists.hires.is_empty()));
+    assert!(&rt;
+        matches!(&lists, Reply::Listed(lists) if lists.recalls.is_empty() && lists.hires.is_empty())
+    );
 }
 
 #[test]

@@ -1,9 +1,9 @@
 //! Texts of commands and replies.
+use market_prog::RunFault;
 use market_types::{
     ArenaId, ArenaView, Fault, LimitView, Lists, OpenFault, Reply, cmd_text, open_fault_text,
     push_reply, read_cmd, read_line, reply_text,
 };
-use market_prog::RunFault;
 use std::test::Fail;
 
 /// The canonical text of each command.

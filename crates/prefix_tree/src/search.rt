@@ -1,5 +1,5 @@
 //! Reading a side: one walk down from its topmost node.
-ghost use Rattle.std.specs.Prelude.{◌≡◌, ◌≤◌, IfNone, IfSome, slice_get, take};
+ghost use Rattle.std.specs.Prelude.{◌≡◌, ◌≤◌, ◌++◌, length, IfNone, IfSome, IfOk, OnOk, slice_get, take};
 ghost use Rattle.prefix_tree.specs.Rows.{requests, requests_above, first_mandated, IsPassing, place_of};
 ghost use Rattle.prefix_tree.specs.Nodes.{IsSmall};
 
@@ -7,6 +7,7 @@ use crate::node::{Node, visit};
 use crate::passing::Passing;
 use crate::side::Side;
 use market_types::Row;
+use std::alloc::AllocError;
 
 impl Side {
     /// The sum of the requests of the rows that are newer than `stamp`.
@@ -163,5 +164,21 @@ impl Side {
             }
         }
         (None, visits)
+    }
+
+    /// Puts the rows at the end of others, newest first.
+    pub(crate) fn list(&self, out: &mut Vec<Row>) -> Result<u32, AllocError>
+        requires { IsSmall self.now }
+        ensures rows { OnOk result (out.new.items ≡ out.old.items ++ self.now.0) }
+        ensures visits { IfOk result (λ visits. visits ≡ length self.now.0) }
+    {
+        let Some(node) = &self.root else {
+            return Ok(0);
+        };
+        let node: &Node = node;
+        let newer = node.left.list(out)?;
+        out.push(node.row)?;
+        let older = node.right.list(out)?;
+        Ok(visit(newer + older))
     }
 }

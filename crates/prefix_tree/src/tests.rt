@@ -50,6 +50,10 @@ fn walks_newest_first(rt: HostRuntime) -> Result<(), Fail> {
         assert_eq!(rt; tree.walk(place).0, Some(row(stamp, 5, stamp < 3)));
     }
     assert_eq!(rt; tree.walk(3).0, None);
+    let (rows, visits) = tree.rows(rt.alloc())?;
+    let stamps: [u32; 3] = [3, 2, 1];
+    assert!(rt; rows.iter().map(|row| row.stamp).eq(stamps));
+    assert_eq!(rt; visits, 3);
     assert_eq!(rt; tree.sum_before(2).0, 5);
     assert_eq!(rt; tree.total(), 15);
     assert_eq!(rt; tree.len(), 3);

@@ -17,7 +17,7 @@ use std::mem;
 /// as the list of its rows, newest first.
 ///
 /// A call on `n` rows enters at most twice as many nodes as `n` has binary digits, and one more where it puts a row
-/// in. The last part of its answer is their number. Only `insert` takes memory.
+/// in; `rows` enters all. The last part of its answer is their number. Only `insert` and `rows` take memory.
 #[derive(Drop)]
 pub struct Tree {
     root: Side,
@@ -119,6 +119,16 @@ impl Tree {
         ensures visits { result.1 ≤ 2 * bits (length self.now) }
     {
         self.root.place_of(stamp)
+    }
+
+    /// All rows, newest first. Enters each node once.
+    pub fn rows(&self, alloc: Global) -> Result<(Vec<Row>, u32), AllocError>
+        ensures exact { IfOk result (λ listed. listed.0.items ≡ self.now) }
+        ensures visits { IfOk result (λ listed. listed.1 ≡ length self.now) }
+    {
+        let mut rows = Vec::with_capacity(alloc, self.len())?;
+        let visits = self.root.list(&mut rows)?;
+        Ok((rows, visits))
     }
 
     /// Sets the request and the mandate of the row with that stamp, and leaves all others; nothing where no row has it.

@@ -4,7 +4,7 @@ ghost use Rattle.market_types.specs.State.{State, Arena};
 ghost use Rattle.market_types.specs.Step.{counts_of};
 ghost use Rattle.recall_hire.specs.Staffed.{first_in_need, counts_in, listed, rows_of, rows_among, need_among};
 
-use crate::rows::{Rows, hire, recall};
+use crate::rows::{Rows, Staffing, hire, recall};
 use market_types::{ArenaId, Lists};
 use std::alloc::{AllocError, Global};
 
@@ -32,22 +32,19 @@ pub fn first_in_need<R: Rows>(rows: &R) -> (Option<ArenaId>, u32)
     (None, visits)
 }
 
-/// The arenas with workers too many, and those with too few, each with how many, in order; and how many nodes the rows
-/// entered.
-pub fn lists<R: Rows>(alloc: Global, rows: &R) -> Result<(Lists, u32), AllocError>
-    ensures exact { IfOk result (λ answer. answer.0 ≡ counts_in (R.rows rows.now)) }
-    ensures in_market { (s : State) → R.rows rows.now ≡ rows_of s → IfOk result (λ answer. answer.0 ≡ counts_of s) }
+/// The arenas with workers too many, and those with too few, each with how many, in order.
+pub fn lists(alloc: Global, rows: &[Staffing]) -> Result<Lists, AllocError>
+    ensures exact { IfOk result (λ lists. lists ≡ counts_in rows.now) }
+    ensures in_market { (s : State) → rows.now ≡ rows_of s → IfOk result (λ lists. lists ≡ counts_of s) }
 {
     let mut recalls = Vec::new(alloc);
     let mut hires = Vec::new(alloc);
-    let mut visits = 0_u32;
     for place in 0..rows.len() {
-        let (row, more) = rows.row(place);
-        visits = visits.saturating_add(more);
+        let row = rows[place];
         list(&mut recalls, row.arena, recall(row.active, row.allotted))?;
         list(&mut hires, row.arena, hire(row.active, row.allotted))?;
     }
-    Ok((Lists { recalls, hires }, visits))
+    Ok(Lists { recalls, hires })
 }
 
 /// Puts a count above 0 at the end of a list.

@@ -1,38 +1,18 @@
 //! The arenas in the order in which they are served, beside what they are allotted and have.
-ghost use Rattle.std.specs.Prelude.{◌≡◌, ◌<◌, ◌≤◌, Some, length, slice_get, IfOk, IfSome, IfNone};
-ghost use Rattle.market_types.specs.Allotment.{limit_of};
+ghost use Rattle.std.specs.Prelude.{◌≡◌, ◌<◌, ◌≤◌, ◌++◌, Some, length, slice_get, IfOk, OnOk, IfSome, IfNone};
+ghost use Rattle.market_types.specs.Allotment.{alloc, at_level, limit_of};
 ghost use Rattle.market_types.specs.Step.{arena_at, counts_of};
-ghost use Rattle.recall_hire.specs.Staffed.{IsNext, NoneAllotted, row_of, rows_of, need_of};
+ghost use Rattle.recall_hire.specs.Staffed.{IsNext, NoneAllotted, row_of, need_of};
 ghost use Rattle.market_core.specs.Divided.{IsDivisionOf, IsSharedAt, rows_at};
-ghost use Rattle.market_core.specs.Store.{IsKept};
+ghost use Rattle.market_core.specs.Store.{IsEntry, IsKept};
 
 use super::Market;
 use crate::division::Division;
 use crate::row::ArenaRow;
 use allotment::{no_carry_to_keep, share, sum_before_next};
-use market_types::{ArenaId, Lists};
+use market_types::{ArenaId, Lists, Row};
 use recall_hire::{Next, Rows, Staffing, first_in_need, hire, lists};
 use std::alloc::{AllocError, Global};
-
-/// A market's arenas in order, and how its workers are divided.
-#[derive(Drop)]
-struct Order<'a> {
-    market: &'a Market,
-    division: &'a Division,
-    ghost divided: { IsDivisionOf market.now division.now },
-}
-
-impl Rows for Order<'_> {
-    ghost rows = { λ o. rows_of o.market.now };
-
-    fn len(&self) -> usize {
-        self.market.count()
-    }
-
-    fn row(&self, place: usize) -> (Staffing, u32) {
-        self.market.staffing(self.division, place)
-    }
-}
 
 /// A level's arenas in order where some worker may be active, and how the market's workers are divided.
 #[derive(Drop)]
@@ -60,14 +40,6 @@ impl Rows for LevelOrder<'_> {
 }
 
 impl Market {
-    /// How many arenas live.
-    fn count(&self) -> usize
-        ensures { result ≡ length (rows_of self.now) }
-    {
-        let _ = self.levels;
-        self.arenas.len()
-    }
-
     /// How many arenas a level has.
     fn count_at(&self, level: u32) -> usize
         requires low { 1 ≤ level }
@@ -93,21 +65,6 @@ impl Market {
             active: self.roster.active(row.arena()),
         };
         (staffing, visits)
-    }
-
-    /// What the arena at a place is allotted, and how many seats it has.
-    fn staffing(&self, division: &Division, place: usize) -> (Staffing, u32)
-        requires known { place < length (rows_of self.now) }
-        requires divided { IsDivisionOf self.now division.now }
-        ensures { slice_get (rows_of self.now) place ≡ Some result.0 }
-    {
-        let _ = self.arenas.len();
-        let (row, first) = self.arenas.nth(self.levels, place);
-        let Some(row) = row else {
-            unreachable!();
-        };
-        let (staffing, more) = self.staff(row, division);
-        (staffing, first + more)
     }
 
     /// What the arena at a place of a level is allotted, and how many seats it has.
@@ -198,18 +155,67 @@ impl Market {
         (None, visits)
     }
 
+    /// How many workers the arena of an entry of a level is allotted, where the arenas before it there ask for `before`.
+    fn allot_entry(&self, division: &Division, level: u32, entry: Row, before: u64) -> u32
+        requires divided { IsDivisionOf self.now division.now }
+        requires low { 1 ≤ level }
+        requires high { level ≤ self.now.levels }
+        requires there { IsEntry before entry (at_level level self.now.arenas) }
+        ensures { result ≡ alloc self.now entry.arena }
+    {
+        let _ = self.arenas.len();
+        if division.limit == 0 {
+            return division.picked_workers(entry.arena);
+        }
+        no_carry_to_keep();
+        if entry.request == 0 {
+            return 0;
+        }
+        let at = level as usize - 1;
+        let (given, asked) = (division.assigned[at], division.demands[at]);
+        share(given, asked, before, u64::from(entry.request)) as u32
+    }
+
+    /// Puts the rows of a level at the end of others, in one pass over its arenas.
+    fn add_rows(
+        &self,
+        alloc: Global,
+        division: &Division,
+        level: u32,
+        rows: &mut Vec<Staffing>,
+    ) -> Result<u32, AllocError>
+        requires divided { IsDivisionOf self.now division.now }
+        requires low { 1 ≤ level }
+        requires high { level ≤ self.now.levels }
+        ensures rows { OnOk result (rows.new.items ≡ rows.old.items ++ rows_at self.now level) }
+    {
+        let _ = self.levels;
+        let (entries, visits) = self.arenas.entries(alloc, level)?;
+        let mut before = 0;
+        for place in 0..entries.len() {
+            let entry = entries[place];
+            let (arena, request) = (entry.arena, entry.request);
+            let row = Staffing {
+                arena,
+                allotted: self.allot_entry(division, level, entry, before),
+                active: self.roster.active(arena),
+            };
+            rows.push(row)?;
+            before += u64::from(request);
+        }
+        Ok(visits)
+    }
+
     /// The arenas with workers too many, and those with too few.
     pub(super) fn lists(&self, alloc: Global) -> Result<(Lists, u32), AllocError>
         ensures { IfOk result (λ answer. answer.0 ≡ counts_of self.now) }
     {
-        let (division, first) = self.divide();
-        let (lists, more) = lists(
-            alloc,
-            &Order {
-                market: self,
-                division: &division,
-            },
-        )?;
-        Ok((lists, first.saturating_add(more)))
+        let (division, mut visits) = self.divide();
+        let mut rows = Vec::with_capacity(alloc, self.arenas.len())?;
+        for level in 0..self.levels {
+            let more = self.add_rows(alloc, &division, level + 1, &mut rows)?;
+            visits = visits.saturating_add(more);
+        }
+        Ok((lists(alloc, &rows)?, visits))
     }
 }

@@ -2,9 +2,9 @@ use Rattle.std.proofs.Common.{arith, refl, sym, ap, ◌∙◌, ◌≡◌, ◌-�
 use Rattle.market_types.specs.State.{State}
 use Rattle.market_types.specs.Allotment.{at_level}
 use Rattle.recall_hire.specs.Staffed.{need_among}
-use Rattle.market_core.specs.Store.{levels_from}
 use Rattle.market_core.proofs.InNeed.{need-found, need-later, need-done}
 use Rattle.market_core.proofs.market.Market.in_need.Goals as goal
+use Rattle.market_core.proofs.Order.{levels_from}
 
 pub loop-level-init : goal.loop-level-init
 loop-level-init c =

@@ -1,0 +1,30 @@
+use Rattle.std.proofs.Common.{arith, sym, ap, ◌∙◌, ◌≡◌, ◌+◌, ◌-◌, ◌++◌, append-nil}
+use Rattle.market_types.specs.State.{State}
+use Rattle.recall_hire.specs.Staffed.{rows_among, rows_of}
+use Rattle.market_core.proofs.Order.{levels_from}
+use Rattle.market_core.proofs.Listed.{level-added}
+use Rattle.market_core.proofs.market.Market.lists.Goals as goal
+
+pub loop-level-init : goal.loop-level-init
+loop-level-init c =
+    let s = c.args.self.now in
+    let all : s.levels - 0 ≡ s.levels = omega arith in
+    ap (λ rows. rows ++ rows_among s (levels_from 1 (s.levels - 0) s.arenas)) c.in_ok-rows.ensures.items
+    ∙ ap (λ n. rows_among s (levels_from 1 n s.arenas)) all
+
+pub loop-level-preserved : goal.loop-level-preserved
+loop-level-preserved c =
+    let s = c.args.self.now in
+    let level = c.loop-level.level in
+    let levels : c.self.inside.levels ≡ s.levels = ap (λ (t : State). t.levels) c.self.view_is in
+    level-added s (level + 1) (s.levels - (level + 1)) (s.levels - level) c.loop-level.rows.items c.add_rows.new.rows.items (rows_of s) (omega (arith, levels, c.loop-level-test.true)) c.in_ok-more.ensures.rows c.loop-level.invariant
+
+pub returns : goal.returns
+returns c =
+    let s = c.args.self.now in
+    let level = c.loop-level.level in
+    let levels : c.self.inside.levels ≡ s.levels = ap (λ (t : State). t.levels) c.self.view_is in
+    let none : s.levels - level ≡ 0 = omega (arith, levels, c.loop-level-test.false) in
+    let whole : c.loop-level.rows.items ≡ rows_of s =
+    sym (append-nil c.loop-level.rows.items) ∙ ap (λ n. c.loop-level.rows.items ++ rows_among s (levels_from (level + 1) n s.arenas)) (sym none) ∙ c.loop-level.invariant in
+    c.in_ok-lists.ensures.in_market s (c.deref.ensures.value ∙ whole)
