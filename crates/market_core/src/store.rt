@@ -181,6 +181,7 @@ impl Arenas {
         requires low { 1 ≤ level }
         requires high { level ≤ 8 }
         ensures exact { IfOk result (λ listed. listed.0.items ≡ entries level self.now) }
+        ensures visits { IfOk result (λ listed. listed.1 ≡ length (entries level self.now)) }
     {
         self.lists[level as usize - 1].rows(alloc)
     }

@@ -188,6 +188,7 @@ impl Market {
         requires low { 1 ≤ level }
         requires high { level ≤ self.now.levels }
         ensures rows { OnOk result (rows.new.items ≡ rows.old.items ++ rows_at self.now level) }
+        ensures visits { IfOk result (λ visits. visits ≡ length (rows_at self.now level)) }
     {
         let _ = self.levels;
         let (entries, visits) = self.arenas.entries(alloc, level)?;

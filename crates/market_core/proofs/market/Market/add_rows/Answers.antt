@@ -1,8 +1,10 @@
-use Rattle.std.proofs.Common.{arith, ap, ◌∙◌, ◌≡◌, ◌+◌, ◌-◌, ◌<◌, length, Some}
+use Rattle.std.proofs.Common.{arith, sym, ap, ◌∙◌, ◌≡◌, ◌+◌, ◌-◌, ◌<◌, length, Some}
 use Rattle.std.specs.Prelude.{slice_get}
 use Rattle.std.specs.Option.{option_map}
+use Rattle.std.proofs.lemmas.List.{length-map}
 use Rattle.market_types.specs.State.{State}
 use Rattle.market_types.specs.Allotment.{active, at_level}
+use Rattle.recall_hire.specs.Staffed.{row_of}
 use Rattle.market_core.specs.Store.{IsEntry, entry_of, entries}
 use Rattle.market_core.proofs.Searched.{entry-part}
 use Rattle.market_core.proofs.Listed.{entry-read, sum-added, row-added}
@@ -43,3 +45,10 @@ loop-place-preserved c =
           (read here) c.loop-place.invariant.before c.allot_entry.ensures placed c.loop-place.invariant.rows c.in_ok-push.ensures.items;
       before = ap (λ n. c.loop-place.before + n) c.from-before.ensures ∙ sum-added c.loop-place.before c.loop-place.place c.index-entry.result.now (at_level c.args.level s.arenas) (read here) c.loop-place.invariant.before;
     }
+
+pub returns-clause-visits : goal.returns-clause-visits
+returns-clause-visits c =
+    let s = c.args.self.now in
+    let xs = at_level c.args.level s.arenas in
+    let listed : c.in_ok-entries.visits ≡ length (entries c.args.level s.arenas) = c.in_ok-entries.ensures.visits ∙ ap (λ (t : State). length (entries c.args.level t.arenas)) c.self.view_is in
+    listed ∙ length-map xs entry_of ∙ sym (length-map xs (row_of s))
