@@ -41,6 +41,8 @@ fn number_in(reply: &Reply) -> Option<u64>
 }
 
 /// Gives a seat's command to a market, and answers a number out of its reply. A refusal is a fault.
+// As in a program that knows its commands.
+#[inline(always)]
 #[tactic(auto, using(crate::proofs::Living::same_living))]
 fn ask(alloc: Global, market: &mut Market, seat: u8, cmd: Cmd) -> Result<u64, BenchFault>
     requires { seat < length market.old.seats }
@@ -135,6 +137,7 @@ impl Stage {
     }
 
     /// Gives a seat's command, and answers a number out of its reply. A refusal is a fault.
+    #[inline(always)]
     pub fn ask(&mut self, seat: u8, cmd: Cmd) -> Result<u64, BenchFault>
         requires seat { seat < 64 }
         requires turns { is_in_turns cmd ≡ true }

@@ -17,6 +17,8 @@ pub struct Division {
     pub assigned: [u64; 8],
     /// Where no worker may be active, the arena whose enqueued work is served.
     pub picked: Option<ArenaId>,
+    /// How many nodes of the arenas' trees were entered to find that arena.
+    pub visits: u32,
 }
 
 impl Division {

@@ -243,7 +243,7 @@ impl Arenas {
         self.enqueued = self.enqueued - counted(old.claim()) + counted(claim);
         let entry = new.entry();
         let list = &mut self.lists[old.level().get() as usize - 1];
-        let visits = list.set(entry.stamp, entry.request, entry.mandated);
+        let visits = list.update(old.entry(), entry.request, entry.mandated);
         Ok((claim, visits))
     }
 

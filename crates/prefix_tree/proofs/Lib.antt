@@ -6,4 +6,5 @@ pub mod Moves
 pub mod Ordered
 pub mod Readings
 pub mod Sets
+pub mod Updates
 pub mod Whole

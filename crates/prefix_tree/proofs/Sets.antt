@@ -34,8 +34,8 @@ pub rows_here : (s q : ℕ) (m : Bool) {d : List Row × ℕ} {b : Node} → AtNo
 rows_here s q m {d} {b} a h = rw a.rows (sym (set_here s q m b.left.0 b.row b.right.0 a.sound.ordered h))
 
 -- a node that keeps its heights and counts, and sums its rows, is sound as before
-sound_after : (s q : ℕ) (m : Bool) {b : Node} (n : Node) → IsSoundNode b → rows_in n ≡ set_row s q m (rows_in b) → n.height ≡ b.height → n.count ≡ b.count → n.left.1 ≡ b.left.1 → n.right.1 ≡ b.right.1 → length n.left.0 ≡ length b.left.0 → length n.right.0 ≡ length b.right.0 → n.sum ≡ requests (rows_in n) → n.mandates ≡ mandates (rows_in n) → IsSoundNode n
-sound_after s q m {b} n g e h c hl hr ll lr u v =
+sound_after : (s q : ℕ) (m : Bool) {b : Node} (n : Node) → IsSoundNode b → rows_in n ≡ set_row s q m (rows_in b) → n.height ≡ b.height → n.count ≡ b.count → n.left.1 ≡ b.left.1 → n.right.1 ≡ b.right.1 → length n.left.0 ≡ length b.left.0 → length n.right.0 ≡ length b.right.0 → n.sum ≡ requests (rows_in n) → n.mandates ≡ mandates (rows_in n) → n.newer ≡ requests n.left.0 → IsSoundNode n
+sound_after s q m {b} n g e h c hl hr ll lr u v w =
     let k = g.balanced in
     record {
       ordered = rw e (set-newest s q m (rows_in b) g.ordered);
@@ -45,7 +45,7 @@ sound_after s q m {b} n g e h c hl hr ll lr u v =
         left = rw (hl, ll) k.left;
         right = rw (hr, lr) k.right;
       };
-      summed = record { sum = u; count = c ∙ g.summed.count ∙ sym (set-length s q m (rows_in b)) ∙ ap length (sym e); mandates = v };
+      summed = record { sum = u; count = c ∙ g.summed.count ∙ sym (set-length s q m (rows_in b)) ∙ ap length (sym e); mandates = v; newer = w };
     }
 
 -- the node after a row on its right is set
@@ -53,21 +53,21 @@ pub sound_right : (s q : ℕ) (m : Bool) {b : Node} (t : List Row × ℕ) (u v :
 sound_right s q m {b} t u v g h e i eu ev =
     sound_after s q m (record b { right = t; sum = u; mandates = v }) g (rows_right s q m t (whole_node g) h e) refl refl refl i refl (ap length e ∙ set-length s q m b.right.0)
     (omega (arith, g.summed.sum, requests-node b.left.0 b.row b.right.0, requests-node b.left.0 b.row t.0))
-    (omega (arith, g.summed.mandates, mandates-node b.left.0 b.row b.right.0, mandates-node b.left.0 b.row t.0))
+    (omega (arith, g.summed.mandates, mandates-node b.left.0 b.row b.right.0, mandates-node b.left.0 b.row t.0)) g.summed.newer
 
 -- the node after a row on its left is set
-pub sound_left : (s q : ℕ) (m : Bool) {b : Node} (t : List Row × ℕ) (u v : ℕ) → IsSoundNode b → b.row.stamp < s → t.0 ≡ set_row s q m b.left.0 → t.1 ≡ b.left.1 → u ≡ b.sum - requests b.left.0 + requests t.0 → v ≡ b.mandates - mandates b.left.0 + mandates t.0 → IsSoundNode (record b { left = t; sum = u; mandates = v })
-sound_left s q m {b} t u v g h e i eu ev =
-    sound_after s q m (record b { left = t; sum = u; mandates = v }) g (rows_left s q m t (whole_node g) h e) refl refl i refl (ap length e ∙ set-length s q m b.left.0) refl
+pub sound_left : (s q : ℕ) (m : Bool) {b : Node} (t : List Row × ℕ) (u v w : ℕ) → IsSoundNode b → b.row.stamp < s → t.0 ≡ set_row s q m b.left.0 → t.1 ≡ b.left.1 → u ≡ b.sum - requests b.left.0 + requests t.0 → v ≡ b.mandates - mandates b.left.0 + mandates t.0 → w ≡ requests t.0 → IsSoundNode (record b { left = t; sum = u; mandates = v; newer = w })
+sound_left s q m {b} t u v w g h e i eu ev ew =
+    sound_after s q m (record b { left = t; sum = u; mandates = v; newer = w }) g (rows_left s q m t (whole_node g) h e) refl refl i refl (ap length e ∙ set-length s q m b.left.0) refl
     (omega (arith, g.summed.sum, requests-node b.left.0 b.row b.right.0, requests-node t.0 b.row b.right.0))
-    (omega (arith, g.summed.mandates, mandates-node b.left.0 b.row b.right.0, mandates-node t.0 b.row b.right.0))
+    (omega (arith, g.summed.mandates, mandates-node b.left.0 b.row b.right.0, mandates-node t.0 b.row b.right.0)) ew
 
 -- the node after its own row is set
 pub sound_here : (s q : ℕ) (m : Bool) {b : Node} (u v : ℕ) → IsSoundNode b → b.row.stamp ≡ s → u ≡ b.sum - b.row.request + q → v ≡ b.mandates - one_if b.row.mandated + one_if m → IsSoundNode (record b { row = record b.row { request = q; mandated = m }; sum = u; mandates = v })
 sound_here s q m {b} u v g h eu ev =
     sound_after s q m (record b { row = record b.row { request = q; mandated = m }; sum = u; mandates = v }) g (rows_here s q m (whole_node g) h) refl refl refl refl refl refl
     (omega (arith, g.summed.sum, requests-node b.left.0 b.row b.right.0, requests-node b.left.0 (record b.row { request = q; mandated = m }) b.right.0))
-    (omega (arith, g.summed.mandates, mandates-node b.left.0 b.row b.right.0, mandates-node b.left.0 (record b.row { request = q; mandated = m }) b.right.0))
+    (omega (arith, g.summed.mandates, mandates-node b.left.0 b.row b.right.0, mandates-node b.left.0 (record b.row { request = q; mandated = m }) b.right.0)) g.summed.newer
 
 -- the sums stay within the code's numbers
 pub fits_right : (s q : ℕ) (m : Bool) {d : List Row × ℕ} {b : Node} (t : List Row × ℕ) → AtNode d b → IsSmall d → q < 2 ^ 31 → t.0 ≡ set_row s q m b.right.0 → b.sum - requests b.right.0 + requests t.0 < 2 ^ 32

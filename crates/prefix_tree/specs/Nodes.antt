@@ -50,6 +50,7 @@ pub record IsSummed (node : Node) : Type 0 where
   pub sum : node.sum ≡ requests (rows_in node)
   pub count : node.count ≡ length (rows_in node)
   pub mandates : node.mandates ≡ mandates (rows_in node)
+  pub newer : node.newer ≡ requests node.left.0
 
 -- what holds of every node
 pub record IsSoundNode (node : Node) : Type 0 where

@@ -16,7 +16,8 @@ pub(crate) fn fork(mut node: Box<Node>, left: Side, right: Side) -> Side
     let inner: &mut Node = &mut node;
     inner.height = left.height().max(right.height()) + 1;
     inner.count = left.count() + right.count() + 1;
-    inner.sum = left.sum() + right.sum() + inner.row.request;
+    inner.newer = left.sum();
+    inner.sum = inner.newer + right.sum() + inner.row.request;
     inner.mandates = left.mandates() + right.mandates() + one_if(inner.row.mandated);
     inner.left = left;
     inner.right = right;

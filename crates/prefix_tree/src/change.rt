@@ -1,11 +1,12 @@
 //! Changing a side: setting a row in place, putting a node in, taking one out.
-ghost use Rattle.std.specs.Prelude.{◌≡◌, ◌+◌, ◌^◌, ◌<◌, ◌≤◌, ◌∷◌, length};
+ghost use Rattle.std.specs.Prelude.{◌≡◌, ◌+◌, ◌^◌, ◌<◌, ◌≤◌, ◌∷◌, length, Some};
 ghost use Rattle.prefix_tree.specs.Rows.{IsAbsent, insert_row, without, set_row, row_at};
 ghost use Rattle.prefix_tree.specs.Nodes.{IsSmall, IsFilled, IsBetween, row_of};
 
 use crate::balance::{balance, fork};
 use crate::node::{Node, one_if, visit};
 use crate::side::Side;
+use market_types::Row;
 
 impl Side {
     /// Sets the request and the mandate of the row with that stamp.
@@ -14,6 +15,7 @@ impl Side {
         requires request { request < 2 ^ 31 }
         ensures rows { self.new.0 ≡ set_row stamp request mandated self.old.0 }
         ensures height { self.new.1 ≡ self.old.1 }
+        ensures entered { 0 < length self.old.0 → 1 ≤ result }
         ensures visits { result ≤ self.old.1 }
     {
         let Some(node) = &mut self.root else { return 0 };
@@ -27,7 +29,8 @@ impl Side {
         if node.row.stamp < stamp {
             let (sum, mandates) = (node.left.sum(), node.left.mandates());
             let visits = node.left.set(stamp, request, mandated);
-            node.sum = node.sum - sum + node.left.sum();
+            node.newer = node.left.sum();
+            node.sum = node.sum - sum + node.newer;
             node.mandates = node.mandates - mandates + node.left.mandates();
             return visit(visits);
         }
@@ -36,6 +39,41 @@ impl Side {
         node.row.request = request;
         node.row.mandated = mandated;
         visit(0)
+    }
+
+    /// Sets the request and the mandate of a row that the side has, as it stands there, on one way down: nothing is left
+    /// to do on the way back. Gives `visits` and one more for each node.
+    pub(crate) fn update(&mut self, row: &Row, request: u32, mandated: bool, visits: u32) -> u32
+        requires small { IsSmall self.old }
+        requires request { request < 2 ^ 31 }
+        requires there { row_at row.now.stamp self.old.0 ≡ Some row.now }
+        requires few { visits + self.old.1 < 2 ^ 31 }
+        ensures rows { self.new.0 ≡ set_row row.now.stamp request mandated self.old.0 }
+        ensures height { self.new.1 ≡ self.old.1 }
+        ensures entered { visits + 1 ≤ result }
+        ensures visits { result ≤ visits + self.old.1 }
+    {
+        let Some(node) = &mut self.root else {
+            unreachable!()
+        };
+        let visits = visit(visits);
+        node.sum = node.sum - row.request + request;
+        node.mandates = node.mandates - one_if(row.mandated) + one_if(mandated);
+        if row.stamp < node.row.stamp {
+            let visits = node.right.update(row, request, mandated, visits);
+            // Shows the proof that the node is lent no longer.
+            let _ = &node;
+            return visits;
+        }
+        if node.row.stamp < row.stamp {
+            node.newer = node.newer - row.request + request;
+            let visits = node.left.update(row, request, mandated, visits);
+            let _ = &node;
+            return visits;
+        }
+        node.row.request = request;
+        node.row.mandated = mandated;
+        visits
     }
 
     /// Puts a node in its place.
@@ -70,6 +108,7 @@ impl Side {
         ensures taken { row_of result.1 ≡ row_at stamp self.0 }
         ensures height { IsBetween result.0.1 (result.0.1 + 1) self.1 }
         ensures filled { IsFilled result.0 }
+        ensures entered { 0 < length self.0 → 1 ≤ result.2 }
         ensures visits { result.2 ≤ self.1 }
     {
         if self.count() == 0 {

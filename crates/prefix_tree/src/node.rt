@@ -5,23 +5,25 @@ ghost use Rattle.prefix_tree.specs.Nodes.{one_if};
 use crate::side::Side;
 use market_types::Row;
 
-/// A row, its two sides, and the sums of all three.
+/// A row, its two sides, and the sums of all three. What a search reads comes first, and so lies close together.
 #[cycle(side)]
 #[derive(Drop)]
 pub(crate) struct Node {
     pub(crate) row: Row,
-    /// How many nodes the longest path from here down has.
-    pub(crate) height: u32,
+    /// The sum of the requests of the newer rows alone, so that a way to the right touches no node on the left.
+    pub(crate) newer: u32,
+    /// The sum of all requests.
+    pub(crate) sum: u32,
+    /// How many of the rows are mandated.
+    pub(crate) mandates: u32,
     /// How many rows.
     pub(crate) count: u32,
-    /// The sum of their requests.
-    pub(crate) sum: u32,
-    /// How many of them are mandated.
-    pub(crate) mandates: u32,
     /// The newer rows.
     pub(crate) left: Side,
     /// The older rows.
     pub(crate) right: Side,
+    /// How many nodes the longest path from here down has.
+    pub(crate) height: u32,
 }
 
 impl Node {
@@ -32,12 +34,13 @@ impl Node {
         let (sum, mandates) = (row.request, one_if(row.mandated));
         Node {
             row,
-            height: 1,
-            count: 1,
+            newer: 0,
             sum,
             mandates,
+            count: 1,
             left: Side::new(),
             right: Side::new(),
+            height: 1,
         }
     }
 }

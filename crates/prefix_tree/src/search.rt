@@ -1,5 +1,5 @@
 //! Reading a side: one walk down from its topmost node.
-ghost use Rattle.std.specs.Prelude.{◌≡◌, ◌≤◌, ◌++◌, length, IfNone, IfSome, IfOk, OnOk, slice_get, take};
+ghost use Rattle.std.specs.Prelude.{◌≡◌, ◌<◌, ◌≤◌, ◌++◌, length, IfNone, IfSome, IfOk, OnOk, slice_get, take};
 ghost use Rattle.prefix_tree.specs.Rows.{requests, requests_above, first_mandated, IsPassing, place_of};
 ghost use Rattle.prefix_tree.specs.Nodes.{IsSmall};
 
@@ -14,6 +14,7 @@ impl Side {
     pub(crate) fn sum_before(&self, stamp: u32) -> (u64, u32)
         requires { IsSmall self.now }
         ensures sum { result.0 ≡ requests_above stamp self.now.0 }
+        ensures entered { 0 < length self.now.0 → 1 ≤ result.1 }
         ensures visits { result.1 ≤ self.now.1 }
     {
         let mut before = 0u64;
@@ -22,15 +23,18 @@ impl Side {
         while let Some(node) = &side.root {
             let node: &Node = node;
             visits = visit(visits);
-            if stamp < node.row.stamp {
-                before += u64::from(node.left.sum()) + u64::from(node.row.request);
-                side = &node.right;
-            } else if node.row.stamp < stamp {
-                side = &node.left;
-            } else {
-                before += u64::from(node.left.sum());
-                return (before, visits);
+            let newer = u64::from(node.newer);
+            if stamp == node.row.stamp {
+                return (before + newer, visits);
             }
+            let passed = newer + u64::from(node.row.request);
+            let (next, more) = if stamp < node.row.stamp {
+                (&node.right, passed)
+            } else {
+                (&node.left, 0)
+            };
+            side = next;
+            before += more;
         }
         (before, visits)
     }
@@ -39,6 +43,7 @@ impl Side {
     pub(crate) fn walk(&self, place: usize) -> (Option<Row>, u32)
         requires { IsSmall self.now }
         ensures row { result.0 ≡ slice_get self.now.0 place }
+        ensures entered { 0 < length self.now.0 → 1 ≤ result.1 }
         ensures visits { result.1 ≤ self.now.1 }
     {
         let mut rest = place;
@@ -64,6 +69,7 @@ impl Side {
     pub(crate) fn first_mandated(&self) -> (Option<Row>, u32)
         requires { IsSmall self.now }
         ensures row { result.0 ≡ first_mandated self.now.0 }
+        ensures entered { 0 < length self.now.0 → 1 ≤ result.1 }
         ensures visits { result.1 ≤ self.now.1 }
     {
         let mut visits = 0;
@@ -87,6 +93,7 @@ impl Side {
         requires { IsSmall self.now }
         ensures some { IfSome result.0 (λ passing. IsPassing sum passing self.now.0) }
         ensures none { IfNone result.0 (requests self.now.0 ≤ sum) }
+        ensures entered { 0 < length self.now.0 → 1 ≤ result.1 }
         ensures visits { result.1 ≤ self.now.1 }
     {
         let mut rest = sum;
@@ -96,7 +103,7 @@ impl Side {
         while let Some(node) = &side.root {
             let node: &Node = node;
             visits = visit(visits);
-            let before = u64::from(node.left.sum());
+            let before = u64::from(node.newer);
             let request = u64::from(node.row.request);
             if rest < before {
                 side = &node.left;
@@ -120,6 +127,7 @@ impl Side {
     pub(crate) fn sum_to(&self, place: usize) -> (u64, u32)
         requires { IsSmall self.now }
         ensures sum { result.0 ≡ requests (take place self.now.0) }
+        ensures entered { 0 < length self.now.0 → 1 ≤ result.1 }
         ensures visits { result.1 ≤ self.now.1 }
     {
         let mut rest = place;
@@ -134,7 +142,7 @@ impl Side {
                 side = &node.left;
             } else {
                 rest -= newer + 1;
-                before += u64::from(node.row.request) + u64::from(node.left.sum());
+                before += u64::from(node.row.request) + u64::from(node.newer);
                 side = &node.right;
             }
         }
@@ -145,6 +153,7 @@ impl Side {
     pub(crate) fn place_of(&self, stamp: u32) -> (Option<usize>, u32)
         requires { IsSmall self.now }
         ensures place { result.0 ≡ place_of stamp self.now.0 }
+        ensures entered { 0 < length self.now.0 → 1 ≤ result.1 }
         ensures visits { result.1 ≤ self.now.1 }
     {
         let mut newer = 0usize;

@@ -45,10 +45,12 @@ impl Market {
     }
 
     /// How workers are divided now.
-    pub(super) fn divide(&self) -> (Division, u32)
-        ensures exact { IsDivisionOf self.now result.0 }
-        ensures visits { result.1 ≤ extra_visits self.now }
-        ensures few { result.1 ≤ 176 }
+    // Else each caller copies the division once more, which takes longer than to make it.
+    #[inline(always)]
+    pub(super) fn divide(&self) -> Division
+        ensures exact { IsDivisionOf self.now result }
+        ensures visits { result.visits ≤ extra_visits self.now }
+        ensures few { result.visits ≤ 176 }
     {
         bound_is_given_out();
         let limits = self.limits();
@@ -60,14 +62,14 @@ impl Market {
         } else {
             (None, 0)
         };
-        let division = Division {
+        Division {
             limit: limits.limit,
             bound,
             demands,
             assigned: assign(&demands, u64::from(bound)),
             picked,
-        };
-        (division, visits)
+            visits,
+        }
     }
 
     /// How many workers a living arena is allotted.
@@ -104,8 +106,8 @@ impl Market {
         ensures within { IsWithin self.now row }
         ensures visits { result.1 ≤ 2 * bits (length self.now.arenas) + extra_visits self.now }
     {
-        let (division, first) = self.divide();
-        let (allot, more) = self.allot(row, &division);
+        let division = &self.divide();
+        let (allot, more) = self.allot(row, division);
         let active = self.roster.active(row.arena());
         let view = ArenaView {
             arena: row.arena(),
@@ -116,7 +118,7 @@ impl Market {
             recall: recall(active, allot),
             hire: hire(active, allot),
         };
-        (view, first + more)
+        (view, division.visits + more)
     }
 
     /// What is seen of an arena, or `None` where no living arena has this number. An arena is allotted no more than it
@@ -157,7 +159,7 @@ impl Market {
         let _ = self.arenas.len();
         bound_is_given_out();
         no_carry_to_keep();
-        let (division, _) = self.divide();
+        let division = &self.divide();
         if division.limit > 0 {
             return division.assigned[level.get() as usize - 1];
         }
@@ -178,9 +180,9 @@ impl Market {
         let Some(row) = self.arenas.get(arena) else {
             return (0, 0);
         };
-        let (division, first) = self.divide();
-        let (allot, more) = self.allot(row, &division);
-        (allot, first + more)
+        let division = &self.divide();
+        let (allot, more) = self.allot(row, division);
+        (allot, division.visits + more)
     }
 }
 

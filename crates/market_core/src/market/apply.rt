@@ -23,6 +23,8 @@ impl Market {
     /// Control and Lists can give an `Err`, where there is no memory, and after one the market is as before. The seat is one
     /// that the market has. After a worker was placed its arena has no more than it is allotted, and after one was recalled
     /// no fewer.
+    // A caller that knows the command keeps its arm alone.
+    #[inline(always)]
     pub fn apply(&mut self, alloc: Global, seat: SeatNo, cmd: Cmd) -> Result<Reply, AllocError>
         requires seat { seat < length self.old.seats }
         ensures reply { IfOk result (λ reply. reply ≡ (step self.old seat cmd).0) }
@@ -39,6 +41,7 @@ impl Market {
     /// Does what `apply` does, and says how many nodes of the arenas' trees it entered: for every command but Join and
     /// Lists no more than four times as many as the number of living arenas has binary digits, and one; where no worker
     /// may be active, twice as many more for each level.
+    #[inline(always)]
     pub fn apply_counted(
         &mut self,
         alloc: Global,
@@ -59,6 +62,7 @@ impl Market {
     }
 
     /// The command's own function.
+    #[inline(always)]
     fn serve(&mut self, alloc: Global, seat: SeatNo, cmd: Cmd) -> Result<(Reply, u32), AllocError>
         requires seat { seat < length self.old.seats }
         ensures reply { IfOk result (λ answer. answer.0 ≡ (step self.old seat cmd).0) }

@@ -137,14 +137,15 @@ impl Market {
     pub(super) fn in_need(&self) -> (Option<ArenaId>, u32)
         ensures { result.0 ≡ need_of self.now }
     {
-        let (division, mut visits) = self.divide();
+        let division = &self.divide();
+        let mut visits = division.visits;
         if division.limit == 0 {
-            return (self.picked_in_need(&division), visits);
+            return (self.picked_in_need(division), visits);
         }
         for level in 0..self.levels {
             let (found, more) = first_in_need(&LevelOrder {
                 market: self,
-                division: &division,
+                division,
                 level: level + 1,
             });
             visits = visits.saturating_add(more);
@@ -211,10 +212,11 @@ impl Market {
     pub(super) fn lists(&self, alloc: Global) -> Result<(Lists, u32), AllocError>
         ensures { IfOk result (λ answer. answer.0 ≡ counts_of self.now) }
     {
-        let (division, mut visits) = self.divide();
+        let division = &self.divide();
+        let mut visits = division.visits;
         let mut rows = Vec::with_capacity(alloc, self.arenas.len())?;
         for level in 0..self.levels {
-            let more = self.add_rows(alloc, &division, level + 1, &mut rows)?;
+            let more = self.add_rows(alloc, division, level + 1, &mut rows)?;
             visits = visits.saturating_add(more);
         }
         Ok((lists(alloc, &rows)?, visits))

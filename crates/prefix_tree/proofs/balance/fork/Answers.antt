@@ -19,6 +19,7 @@ invariant_of-result c =
         sum = omega (arith, requests-node c.args.left.0 c.args.node.value.row c.args.right.0);
         count = omega (arith, length-node c.args.left.0 c.args.node.value.row c.args.right.0);
         mandates = omega (arith, mandates-node c.args.left.0 c.args.node.value.row c.args.right.0);
+        newer = c.sum-inner.ensures;
       };
     })
 

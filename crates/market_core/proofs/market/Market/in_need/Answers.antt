@@ -17,8 +17,8 @@ returns-then-is_some c =
     let s = c.args.self.now in
     let level = c.loop-level.level in
     let levels : c.self.inside.levels ≡ s.levels = ap (λ (t : State). t.levels) c.self.view_is in
-    let here : c.first_in_need-found.result.0 ≡ need_among s (at_level (level + 1) s.arenas) = c.first_in_need-found.ensures.in_market s (at_level (level + 1) s.arenas) refl in
-    need-found s (level + 1) (s.levels - (level + 1)) (s.levels - level) c.first_in_need-found.result.0 (omega (arith, levels, c.loop-level-test.true)) (sym c.is_some.ensures ∙ c.if-is_some.true) here
+    let here : c.first_in_need-more.result.0 ≡ need_among s (at_level (level + 1) s.arenas) = c.first_in_need-more.ensures.in_market s (at_level (level + 1) s.arenas) refl in
+    need-found s (level + 1) (s.levels - (level + 1)) (s.levels - level) c.first_in_need-more.result.0 (omega (arith, levels, c.loop-level-test.true)) (sym c.is_some.ensures ∙ c.if-is_some.true) here
     ∙ sym c.loop-level.invariant
 
 pub loop-level-preserved : goal.loop-level-preserved
@@ -26,9 +26,9 @@ loop-level-preserved c =
     let s = c.args.self.now in
     let level = c.loop-level.level in
     let levels : c.self.inside.levels ≡ s.levels = ap (λ (t : State). t.levels) c.self.view_is in
-    let here : c.first_in_need-found.result.0 ≡ need_among s (at_level (level + 1) s.arenas) = c.first_in_need-found.ensures.in_market s (at_level (level + 1) s.arenas) refl in
+    let here : c.first_in_need-more.result.0 ≡ need_among s (at_level (level + 1) s.arenas) = c.first_in_need-more.ensures.in_market s (at_level (level + 1) s.arenas) refl in
     c.loop-level.invariant
-    ∙ need-later s (level + 1) (s.levels - (level + 1)) (s.levels - level) c.first_in_need-found.result.0 (omega (arith, levels, c.loop-level-test.true)) (sym c.is_some.ensures ∙ c.if-is_some.false) here
+    ∙ need-later s (level + 1) (s.levels - (level + 1)) (s.levels - level) c.first_in_need-more.result.0 (omega (arith, levels, c.loop-level-test.true)) (sym c.is_some.ensures ∙ c.if-is_some.false) here
 
 pub returns : goal.returns
 returns c =

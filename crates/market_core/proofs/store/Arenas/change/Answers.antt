@@ -1,4 +1,4 @@
-use Rattle.std.proofs.Common.{arith, sym, ap, ◌∙◌, ◌≡◌, ◌-◌, cond, ltb, get_or, Some, Err, refl}
+use Rattle.std.proofs.Common.{arith, sym, ap, ◌∙◌, ◌≡◌, ◌-◌, cond, ltb, get_or, List, Some, Err, refl}
 use Rattle.std.proofs.lemmas.Result.{err_from_is_err_and}
 use Rattle.level_list.specs.Rows.{set_row}
 use Rattle.market_types.specs.State.{Claim, Arena}
@@ -6,7 +6,7 @@ use Rattle.market_types.specs.Step.{arena_at, with_claim}
 use Rattle.market_types.specs.declared.row.Row.{Row}
 use Rattle.market_core.specs.Changed.{changed}
 use Rattle.market_core.specs.Store.{entry_of, by_stamp}
-use Rattle.market_core.proofs.Stored.{missing-by_stamp, found-by_stamp, level-here, counted-within, view-claimed, stored-claimed, list-visits}
+use Rattle.market_core.proofs.Stored.{missing-by_stamp, found-by_stamp, entry-here, level-here, counted-within, view-claimed, stored-claimed, list-visits}
 use Rattle.market_core.proofs.store.Arenas.change.Goals as goal
 
 pub returns-in_default-clause-fault : goal.returns-in_default-clause-fault
@@ -34,6 +34,15 @@ returns-clause-claim c =
     let here : arena_at c.args.arena (by_stamp s.rows.items) ≡ Some x = found-by_stamp c.args.arena c.in-Some.place s.rows.items x c.self.invariant.by_number there c.index-old.ensures found in
     rw (← c.self.view_is, here) (ap (changed c.args.change) (sym c.claim.ensures) ∙ sym c.made_to.ensures ∙ c.in_ok-claim.was)
 
+pub update-visits-requires-clause-there : goal.update-visits-requires-clause-there
+update-visits-requires-clause-there c =
+    let s = c.self.inside in
+    let x = c.index-old.result.now in
+    let there = rw c.deref.ensures.value at c.in-Some.ensures.there in
+    let level : c.get.result ≡ x.level = c.get.ensures.exact ∙ c.level.ensures in
+    let some = entry-here s.rows.items s.lists s.enqueued c.in-Some.place x c.self.invariant there c.index-old.ensures (c.get.result - 1) c.index-self-get.result (ap (λ n. n - 1) level) in
+    rw c.entry.ensures.exact some
+
 pub invariant_of-self : goal.invariant_of-self
 invariant_of-self c =
     let s = c.self.inside in
@@ -43,7 +52,8 @@ invariant_of-self c =
     let level : c.get.result ≡ x.level = c.get.ensures.exact ∙ c.level.ensures in
     let place = ap (λ n. n - 1) level in
     let entry = c.entry-entry.ensures.exact ∙ ap entry_of c.with_claim-new.ensures in
-    let rows = c.set-visits.ensures.rows ∙ ap (λ (r : Row). set_row r.stamp r.request r.mandated (get_or s.lists (c.get.result - 1) c.index-self-get.result)) entry in
+    let list : List Row = get_or s.lists (c.get.result - 1) c.index-self-get.result in
+    let rows = c.update-visits.ensures.rows ∙ ap (λ (r : Row). set_row r.stamp c.entry-entry.result.request c.entry-entry.result.mandated list) c.entry.ensures.exact ∙ ap (λ (r : Row). set_row x.stamp r.request r.mandated list) entry in
     let old : c.counted.result ≡ cond (ltb 0 x.claim.mandatory) 1 0 = c.counted.ensures ∙ ap (λ (q : Claim). cond (ltb 0 q.mandatory) 1 0) c.claim-2.ensures in
     let new : c.counted-2.result ≡ cond (ltb 0 c.in_ok-claim.claim.mandatory) 1 0 = c.counted-2.ensures in
     rw c.with_claim-new.ensures
@@ -68,4 +78,4 @@ returns-clause-visits c =
     let there = rw c.deref.ensures.value at c.in-Some.ensures.there in
     let level : c.get.result ≡ x.level = c.get.ensures.exact ∙ c.level.ensures in
     let within = level-here s.rows.items s.lists s.enqueued c.in-Some.place x c.self.invariant there c.index-old.ensures in
-    rw (← c.self.view_is) (list-visits s.rows.items s.lists s.enqueued c.self.invariant x.level (c.get.result - 1) c.index-self-get.result within.0 within.1 (ap (λ n. n - 1) level) c.set-visits.result c.set-visits.ensures.visits)
+    rw (← c.self.view_is) (list-visits s.rows.items s.lists s.enqueued c.self.invariant x.level (c.get.result - 1) c.index-self-get.result within.0 within.1 (ap (λ n. n - 1) level) c.update-visits.result c.update-visits.ensures.visits)

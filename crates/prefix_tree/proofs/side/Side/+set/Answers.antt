@@ -22,18 +22,18 @@ returns-then-stamp-deref-clause-rows t c =
 pub overflow_add-deref-then-deref-stamp : goal.overflow_add-deref-then-deref-stamp
 overflow_add-deref-then-deref-stamp t c =
     let n = at_node c.self.view_is c.self.invariant c.in-Some.is refl in
-    rw (c.deref-then-deref-stamp-3.ensures, c.sum-sum-then-deref-stamp.ensures, c.deref-then-deref-stamp.ensures, c.sum-then-deref-stamp.ensures, c.deref-then-deref-stamp-4.ensures, c.deref_mut-then-deref-stamp.ensures.value) (omega (arith, fits_left c.args.stamp c.args.request c.args.mandated c.set-visits-then-deref-stamp.new.self n c.requires.small c.requires.request (rw c.deref_mut-then-deref-stamp.ensures.value at c.set-visits-then-deref-stamp.ensures.rows)))
+    rw (c.deref-then-deref-stamp-4.ensures, c.sum-sum-then-deref-stamp.ensures, c.deref-then-deref-stamp.ensures, c.deref-then-deref-stamp-5.ensures, c.deref_mut-then-deref-stamp-2.ensures.value, c.sum-then-deref-stamp.ensures, c.deref-then-deref-stamp-3.ensures, c.deref_mut-then-deref-stamp.ensures.value) (omega (arith, fits_left c.args.stamp c.args.request c.args.mandated c.set-visits-then-deref-stamp.new.self n c.requires.small c.requires.request (rw c.deref_mut-then-deref-stamp.ensures.value at c.set-visits-then-deref-stamp.ensures.rows)))
 
 pub invariant_of-self-then-deref-stamp : goal.invariant_of-self-then-deref-stamp
 invariant_of-self-then-deref-stamp t c =
     let n = at_node c.self.view_is c.self.invariant c.in-Some.is refl in
-    let k = sound_left c.args.stamp c.args.request c.args.mandated c.set-visits-then-deref-stamp.new.self _ _ n.sound (rw c.deref-2.ensures at c.if-deref-stamp.true) (rw c.deref_mut-then-deref-stamp.ensures.value at c.set-visits-then-deref-stamp.ensures.rows) (rw c.deref_mut-then-deref-stamp.ensures.value at c.set-visits-then-deref-stamp.ensures.height) (rw (c.deref-then-deref-stamp-3.ensures, c.sum-sum-then-deref-stamp.ensures, c.deref-then-deref-stamp.ensures, c.sum-then-deref-stamp.ensures, c.deref-then-deref-stamp-4.ensures, c.deref_mut-then-deref-stamp.ensures.value) refl) (rw (c.deref-then-deref-stamp-5.ensures, c.mandates-mandates-then-deref-stamp.ensures, c.deref-then-deref-stamp-2.ensures, c.mandates-then-deref-stamp.ensures, c.deref-then-deref-stamp-6.ensures, c.deref_mut-then-deref-stamp-2.ensures.value, c.deref_mut-then-deref-stamp.ensures.value) refl) in
-    rw (c.deref_mut-then-deref-stamp-3.ensures.value, c.deref_mut-then-deref-stamp-2.ensures.value, c.deref_mut-then-deref-stamp.ensures.value) k
+    let k = sound_left c.args.stamp c.args.request c.args.mandated c.set-visits-then-deref-stamp.new.self _ _ _ n.sound (rw c.deref-2.ensures at c.if-deref-stamp.true) (rw c.deref_mut-then-deref-stamp.ensures.value at c.set-visits-then-deref-stamp.ensures.rows) (rw c.deref_mut-then-deref-stamp.ensures.value at c.set-visits-then-deref-stamp.ensures.height) (rw (c.deref-then-deref-stamp-4.ensures, c.sum-sum-then-deref-stamp.ensures, c.deref-then-deref-stamp.ensures, c.deref-then-deref-stamp-5.ensures, c.deref_mut-then-deref-stamp-2.ensures.value, c.sum-then-deref-stamp.ensures, c.deref-then-deref-stamp-3.ensures, c.deref_mut-then-deref-stamp.ensures.value) refl) (rw (c.deref-then-deref-stamp-6.ensures, c.mandates-mandates-then-deref-stamp.ensures, c.deref-then-deref-stamp-2.ensures, c.mandates-then-deref-stamp.ensures, c.deref-then-deref-stamp-7.ensures, c.deref_mut-then-deref-stamp-3.ensures.value, c.deref_mut-then-deref-stamp-2.ensures.value, c.deref_mut-then-deref-stamp.ensures.value) refl) (rw (c.sum-then-deref-stamp.ensures, c.deref-then-deref-stamp-3.ensures) refl) in
+    rw (c.deref_mut-then-deref-stamp-4.ensures.value, c.deref_mut-then-deref-stamp-3.ensures.value, c.deref_mut-then-deref-stamp-2.ensures.value, c.deref_mut-then-deref-stamp.ensures.value) k
 
 pub returns-then-deref-stamp-clause-rows : goal.returns-then-deref-stamp-clause-rows
 returns-then-deref-stamp-clause-rows t c =
     let n = at_node c.self.view_is c.self.invariant c.in-Some.is refl in
-    rw (c.deref_mut-then-deref-stamp-3.ensures.value, c.deref_mut-then-deref-stamp-2.ensures.value, c.deref_mut-then-deref-stamp.ensures.value) (rows_left c.args.stamp c.args.request c.args.mandated c.set-visits-then-deref-stamp.new.self n (rw c.deref-2.ensures at c.if-deref-stamp.true) (rw c.deref_mut-then-deref-stamp.ensures.value at c.set-visits-then-deref-stamp.ensures.rows))
+    rw (c.deref_mut-then-deref-stamp-4.ensures.value, c.deref_mut-then-deref-stamp-3.ensures.value, c.deref_mut-then-deref-stamp-2.ensures.value, c.deref_mut-then-deref-stamp.ensures.value) (rows_left c.args.stamp c.args.request c.args.mandated c.set-visits-then-deref-stamp.new.self n (rw c.deref-2.ensures at c.if-deref-stamp.true) (rw c.deref_mut-then-deref-stamp.ensures.value at c.set-visits-then-deref-stamp.ensures.rows))
 
 pub invariant_of-self-2 : goal.invariant_of-self-2
 invariant_of-self-2 t c =

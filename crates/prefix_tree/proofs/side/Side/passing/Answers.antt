@@ -11,6 +11,7 @@ loop-side-init c =
       none = λ h. h;
       rest = omega arith;
       room = omega arith;
+      entered = λ h. omega arith;
       visits = omega arith;
     }
 
@@ -22,6 +23,7 @@ loop-side-preserved-then-rest-before c =
       none = λ h. absurd (omega arith);
       rest = c.loop-side.invariant.rest;
       room = omega (arith, n.lengths);
+      entered = λ h. omega arith;
       visits = omega (arith, n.lower_left);
     }
 
@@ -43,5 +45,6 @@ loop-side-preserved c =
       none = λ h. c.loop-side.invariant.none (omega (arith, node_requests n));
       rest = omega (arith, c.loop-side.invariant.rest);
       room = omega (arith, n.lengths);
+      entered = λ h. omega arith;
       visits = omega (arith, n.lower_right);
     }

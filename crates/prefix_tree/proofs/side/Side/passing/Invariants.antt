@@ -1,4 +1,4 @@
-use Rattle.std.proofs.Common.{length, ◌≡◌, ◌+◌, ◌-◌, ◌≤◌}
+use Rattle.std.proofs.Common.{length, ◌≡◌, ◌+◌, ◌-◌, ◌≤◌, ◌<◌}
 use Rattle.prefix_tree.specs.declared.passing.Passing.{Passing}
 use Rattle.prefix_tree.specs.Rows.{requests, IsPassing}
 use Rattle.prefix_tree.proofs.side.Side.passing.Given as goal
@@ -9,6 +9,7 @@ invariant-loop-side l = record {
   none : requests l.side.0 ≤ l.rest → requests l.self.0 ≤ l.fn.sum;
   rest : l.rest ≤ l.fn.sum;
   room : l.place + length l.side.0 ≤ length l.self.0;
+  entered : 0 < length l.self.0 → 0 < l.visits + length l.side.0;
   visits : l.visits + l.side.1 ≤ l.self.1;
 }
 

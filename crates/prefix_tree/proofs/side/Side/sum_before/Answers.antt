@@ -1,29 +1,34 @@
-use Rattle.std.proofs.Common.{arith}
+use Rattle.std.proofs.Common.{arith, ap, ◌≡◌, ◌<◌, ℕ, List}
+use Rattle.market_types.specs.declared.row.Row.{Row}
 use Rattle.prefix_tree.proofs.Readings.{above-le}
 use Rattle.prefix_tree.proofs.AtNode.{at_node, right_above, left_above, here_above}
 use Rattle.prefix_tree.proofs.side.Side.sum_before.Goals as goal
+use Rattle.prefix_tree.proofs.side.Side.sum_before.Goals.{then-stamp-node-2, else-stamp-node-2}
 
-pub overflow_add-before-then-stamp-node : goal.overflow_add-before-then-stamp-node
-overflow_add-before-then-stamp-node c =
+pub overflow_add-result : goal.overflow_add-result
+overflow_add-result c =
     let n = at_node c.side.view_is c.side.invariant c.in-Some.is c.deref-node.ensures in
-    omega (arith, right_above n c.args.stamp c.if-stamp-node.true, above-le c.args.stamp c.args.self.now.0)
+    omega (arith, n.sound.summed.newer, here_above n c.args.stamp (omega arith), above-le c.args.stamp c.args.self.now.0)
 
-pub loop-side-preserved-then-stamp-node : goal.loop-side-preserved-then-stamp-node
-loop-side-preserved-then-stamp-node c =
+pub returns-then-stamp-node-clause-sum : goal.returns-then-stamp-node-clause-sum
+returns-then-stamp-node-clause-sum c =
     let n = at_node c.side.view_is c.side.invariant c.in-Some.is c.deref-node.ensures in
-    record { sum = omega (arith, right_above n c.args.stamp c.if-stamp-node.true); visits = omega arith }
+    omega (arith, n.sound.summed.newer, here_above n c.args.stamp (omega arith))
+
+pub overflow_add-before : goal.overflow_add-before
+overflow_add-before c =
+    let n = at_node c.side.view_is c.side.invariant c.in-Some.is c.deref-node.ensures in
+    elim c.if-stamp-node-2.branch [
+      | then-stamp-node-2 w ↦ omega (arith, n.sound.summed.newer, ap (λ (p : _ × ℕ). p.1) w.more-is, right_above n c.args.stamp w.if-stamp-node-2.true, above-le c.args.stamp c.args.self.now.0)
+      | else-stamp-node-2 w ↦ omega (arith, ap (λ (p : _ × ℕ). p.1) w.more-is, above-le c.args.stamp c.args.self.now.0)
+    ]
 
 pub loop-side-preserved : goal.loop-side-preserved
 loop-side-preserved c =
     let n = at_node c.side.view_is c.side.invariant c.in-Some.is c.deref-node.ensures in
-    record { sum = omega (arith, left_above n c.args.stamp c.if-node-stamp.true); visits = omega arith }
-
-pub overflow_add-before-else-node-stamp : goal.overflow_add-before-else-node-stamp
-overflow_add-before-else-node-stamp c =
-    let n = at_node c.side.view_is c.side.invariant c.in-Some.is c.deref-node.ensures in
-    omega (arith, here_above n c.args.stamp (omega arith), above-le c.args.stamp c.args.self.now.0)
-
-pub returns-else-node-stamp-clause-sum : goal.returns-else-node-stamp-clause-sum
-returns-else-node-stamp-clause-sum c =
-    let n = at_node c.side.view_is c.side.invariant c.in-Some.is c.deref-node.ensures in
-    omega (arith, here_above n c.args.stamp (omega arith))
+    elim c.if-stamp-node-2.branch [
+      | then-stamp-node-2 w ↦ rw w.more-is (record { sum = omega (arith, n.sound.summed.newer, right_above n c.args.stamp w.if-stamp-node-2.true); entered = λ h. omega arith; visits = omega (arith, n.lower_right) })
+      | else-stamp-node-2 w ↦
+          let over : c.deref-node.result.now.row.stamp < c.args.stamp = omega (arith, w.if-stamp-node-2.false, c.if-stamp-node.false) in
+          rw w.more-is (record { sum = omega (arith, left_above n c.args.stamp over); entered = λ h. omega arith; visits = omega (arith, n.lower_left) })
+    ]

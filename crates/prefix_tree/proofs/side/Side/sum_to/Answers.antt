@@ -12,6 +12,7 @@ loop-side-preserved-then-rest-newer c =
     record {
       sum = omega (arith, left_taken n c.loop-side.rest (omega arith));
       most = omega (arith, node_requests n);
+      entered = λ h. omega arith;
       visits = omega (arith, n.lower_left);
     }
 
@@ -21,6 +22,7 @@ loop-side-preserved c =
     record {
       sum = omega (arith, right_taken n c.loop-side.rest (c.loop-side.rest - (c.count-newer.result + 1)) (omega arith));
       most = omega (arith, node_requests n);
+      entered = λ h. omega arith;
       visits = omega (arith, n.lower_right);
     }
 
