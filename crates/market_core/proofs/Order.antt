@@ -8,8 +8,8 @@ use Rattle.std.proofs.lemmas.List.Elements.{All-head, All-tail}
 use Rattle.std.proofs.lemmas.List.Sums.{sum_by-cons, sum_by-append}
 use Rattle.std.proofs.lemmas.Option.{slice_get_within, get_or_from_slice_get, slice_get-map, same_Some}
 use Rattle.market_types.specs.declared.row.Row.{Row}
-use Rattle.market_types.specs.State.{Arena}
-use Rattle.market_types.specs.Allotment.{at_level}
+use Rattle.market_types.specs.State.{Arena, State}
+use Rattle.market_types.specs.Allotment.{at_level, in_order}
 use Rattle.market_types.specs.Step.{arena_at}
 use Rattle.market_core.specs.Store.{IsApart, entries, entry_of}
 use Rattle.market_core.proofs.Found.{AllPairs-head, AllPairs-tail, All-found}
@@ -94,6 +94,15 @@ sum-in_levels f levels (a ∷ arenas) h =
     sum-once f a arenas 1 levels here.0 (omega (arith, here.1))
     ∙ ap (λ n. f a + n) (sum-in_levels f levels arenas (All-tail P a arenas h))
     ∙ sym (sum_by-cons f a arenas)
+
+-- as many ones as there are arenas
+sum-ones : (arenas : List Arena) → sum_by (λ (a : Arena). 1) arenas ≡ length arenas
+sum-ones [] = refl
+sum-ones (a ∷ arenas) = omega (arith, sum_by-cons (λ (b : Arena). 1) a arenas, sum-ones arenas)
+
+-- all arenas stand in order
+pub in_order-length : (s : State) → All (λ (a : Arena). (1 ≤ a.level) × (a.level ≤ s.levels)) s.arenas → length (in_order s) ≡ length s.arenas
+in_order-length s leveled = sym (sum-ones (in_order s)) ∙ sum-in_levels (λ (a : Arena). 1) s.levels s.arenas leveled ∙ sum-ones s.arenas
 
 -- the row at a place of a level's list names the arena there
 walked : (level place : ℕ) (arenas : List Arena) (row : Row) → IsApart arenas → (o : Option Arena) → slice_get (at_level level arenas) place ≡ o → Some row ≡ option_map entry_of o → arena_at row.arena arenas ≡ o

@@ -1,10 +1,10 @@
 -- What the store keeps, through each change.
-use Rattle.std.proofs.Common.{◌≡◌, ◌≢◌, ℕ, suc, ◌+◌, ◌-◌, ◌*◌, ◌<◌, ◌≤◌, true, false, cond, eqb, ltb, not, List, [], ◌∷◌, ◌++◌, length, get_or, set, take, drop, map, Option, Some, None, refl, sym, ap, ◌∙◌, arith, inl, inr, length-append}
+use Rattle.std.proofs.Common.{◌≡◌, ◌≢◌, ℕ, suc, ◌+◌, ◌-◌, ◌*◌, ◌<◌, ◌≤◌, true, false, cond, eqb, ltb, not, List, [], ◌∷◌, ◌++◌, length, get_or, set, take, drop, map, Option, Some, None, refl, sym, ap, ◌∙◌, arith, inl, inr, length-append, Bool}
 use Rattle.std.specs.List.{All, filter, find, remove, sum_by, count_by, list_any}
 use Rattle.std.specs.Option.{option_map}
 use Rattle.std.proofs.lemmas.Bool.{cases_eq, cases_Bool, eq-eqb, ne_eqb, lt-ltb}
 use Rattle.std.proofs.lemmas.List.Elements.{All-weaker, All-append, All-push, All-set, All-take, All-drop, All-filter, All-get_or}
-use Rattle.std.proofs.lemmas.List.{get_or-set_same, get_or-set_other, length-set}
+use Rattle.std.proofs.lemmas.List.{get_or-set_same, get_or-set_other, length-set, length-map}
 use Rattle.std.proofs.lemmas.List.Edits.{length-remove}
 use Rattle.std.proofs.lemmas.List.Quantifiers.{all_pairs_push, all_pairs_remove}
 use Rattle.std.proofs.lemmas.List.Sums.{sum_by-cons, sum_by_push, sum_by-set, sum_by-remove, get_or-le-sum_by}
@@ -139,6 +139,11 @@ stored-pushed xs lists n x place d rows m h room older last level p e f =
 pub view-pushed : (xs : List Arena) (x : Arena) → All (IsOlder x.stamp) (by_stamp xs) → by_stamp (xs ++ x ∷ []) ≡ x ∷ by_stamp xs
 view-pushed xs x older = table-pushed xs x (by_stamp-All (IsOlder x.stamp) xs older)
 
+-- a list in which something is found is not empty
+found-some : {X : Type 0} (p : X → Bool) (xs : List X) (x : X) → find p xs ≡ Some x → 0 < length xs
+found-some {X} p [] x e = absurd (cc)
+found-some {X} p (y ∷ xs) x e = omega arith
+
 -- ---- an arena at a place
 
 module _ (xs : List Arena) (lists : List (List Row)) (n i : ℕ) (x : Arena) (h : IsStored xs lists n) (within : i < length xs) (e : x ≡ get_or xs i x) where
@@ -155,6 +160,10 @@ module _ (xs : List Arena) (lists : List (List Row)) (n i : ℕ) (x : Arena) (h 
       ap (λ k. find (λ (r : Row). eqb r.stamp x.stamp) (get_or lists k d)) p
       ∙ ap (find (λ (r : Row). eqb r.stamp x.stamp)) (h.listed.entries x.level d level.0 level.1)
       ∙ entry-at x.number x.stamp (by_stamp xs) x (found-matches x.number x (by_stamp xs) found-here) (table-found xs i x h.by_number within e)
+
+  -- so that list is not empty
+  pub some-here : (place : ℕ) (d : List Row) → place ≡ x.level - 1 → 0 < length (get_or lists place d)
+  some-here place d p = found-some (λ (r : Row). eqb r.stamp x.stamp) (get_or lists place d) (entry_of x) (entry-here place d p)
 
   -- it is counted if it has enqueued work
   pub counted-within : cond (has_work x) 1 0 ≤ n
@@ -298,6 +307,10 @@ module _ (xs : List Arena) (lists : List (List Row)) (n : ℕ) (h : IsStored xs 
 
   pub list-few : length (get_or lists place d) ≤ length xs
   list-few = omega (arith, ap length list-at, length-entries level (by_stamp xs), length-by_stamp xs)
+
+  -- where the level has arenas its list is entered
+  pub list-entered : (v : ℕ) → (0 < length (get_or lists place d) → 1 ≤ v) → 0 < length (at_level level (by_stamp xs)) → 1 ≤ v
+  list-entered v e some = e (rw list-at (omega (arith, length-map (at_level level (by_stamp xs)) entry_of)))
 
   pub list-newest : (t : ℕ) → All (IsOlder t) (by_stamp xs) → All (λ (r : Row). r.stamp < t) (get_or lists place d)
   list-newest t older = rw list-at (entries-older level t (by_stamp xs) older)

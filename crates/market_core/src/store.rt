@@ -104,6 +104,7 @@ impl Arenas {
     /// What the arenas of a level ask for that are newer than this stamp.
     pub fn before(&self, level: Level, stamp: u32) -> (u64, u32)
         ensures exact { result.0 ≡ total_request (at_level level (newer stamp self.now)) }
+        ensures entered { 0 < length (at_level level self.now) → 1 ≤ result.1 }
         ensures visits { result.1 ≤ 2 * bits (length self.now) }
         ensures few { result.1 ≤ 22 }
     {
@@ -129,6 +130,7 @@ impl Arenas {
         requires low { 1 ≤ level }
         requires high { level ≤ 8 }
         ensures exact { result.0 ≡ number_of (find (λ (a : Arena). is_mandated a.claim) (at_level level self.now)) }
+        ensures entered { 0 < length (at_level level self.now) → 1 ≤ result.1 }
         ensures visits { result.1 ≤ 2 * bits (length self.now) }
         ensures few { result.1 ≤ 22 }
     {
@@ -215,6 +217,7 @@ impl Arenas {
         requires last { All (λ (a : Arena). a.number < row.number) self.old }
         ensures pushed { OnOk result (self.new ≡ row ∷ self.old) }
         ensures unchanged { OnErr result (self.new ≡ self.old) }
+        ensures entered { IfOk result (λ visits. 1 ≤ visits) }
         ensures visits { IfOk result (λ visits. visits ≤ 2 * bits (length self.old) + 1) }
     {
         self.rows.reserve(1)?;
@@ -231,6 +234,7 @@ impl Arenas {
         ensures next { IfOk result (λ done. self.new ≡ with_claim arena done.0 self.old) }
         ensures fault { IfErr result (λ fault. changed_at (arena_at arena self.old) change ≡ Err fault) }
         ensures unchanged { OnErr result (self.new ≡ self.old) }
+        ensures entered { IfOk result (λ done. 1 ≤ done.1) }
         ensures visits { IfOk result (λ done. done.1 ≤ 2 * bits (length self.old)) }
     {
         let Some(place) = place_of(&self.rows, arena) else {
@@ -253,6 +257,7 @@ impl Arenas {
         ensures there { OnSome result (IsSome (arena_at arena self.old)) }
         ensures missing { IfNone result (arena_at arena self.old ≡ None) }
         ensures unchanged { IfNone result (self.new ≡ self.old) }
+        ensures entered { IfSome result (λ visits. 1 ≤ visits) }
         ensures visits { IfSome result (λ visits. visits ≤ 2 * bits (length self.old)) }
     {
         let place = place_of(&self.rows, arena)?;
@@ -271,6 +276,7 @@ impl Arenas {
             → self.new ≡ record row { stamp = stamp; level = level } ∷ without row.number self.old }
         ensures missing { IfNone result (arena_at arena self.old ≡ None) }
         ensures unchanged { IfNone result (self.new ≡ self.old) }
+        ensures entered { IfSome result (λ visits. 2 ≤ visits) }
         ensures visits { IfSome result (λ visits. visits ≤ 4 * bits (length self.old) + 1) }
     {
         let place = place_of(&self.rows, arena)?;

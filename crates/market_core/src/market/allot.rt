@@ -31,6 +31,7 @@ impl Market {
     /// The first arena of each level that has enqueued work and asks for workers.
     fn picks(&self) -> ([Option<ArenaId>; 8], u32)
         ensures exact { ArePicksOf self.now result.0 }
+        ensures entered { 0 < length self.now.arenas → 1 ≤ result.1 }
         ensures visits { result.1 ≤ self.now.levels * (2 * bits (length self.now.arenas)) }
         ensures few { result.1 ≤ 176 }
     {
@@ -49,6 +50,7 @@ impl Market {
     #[inline(always)]
     pub(super) fn divide(&self) -> Division
         ensures exact { IsDivisionOf self.now result }
+        ensures entered { limit_of self.now ≡ 0 → 0 < length self.now.arenas → 1 ≤ result.visits }
         ensures visits { result.visits ≤ extra_visits self.now }
         ensures few { result.visits ≤ 176 }
     {
@@ -78,6 +80,7 @@ impl Market {
         requires there { arena_at row.number self.now.arenas ≡ Some row }
         requires divided { IsDivisionOf self.now division.now }
         ensures exact { result.0 ≡ alloc self.now row.number }
+        ensures entered { 0 < limit_of self.now → 0 < request_of row.claim → 1 ≤ result.1 }
         ensures visits { result.1 ≤ 2 * bits (length self.now.arenas) }
         ensures few { result.1 ≤ 22 }
         ensures no_more_than_asked { result.0 ≤ request_of row.claim }
@@ -104,6 +107,7 @@ impl Market {
         requires there { arena_at row.number self.now.arenas ≡ Some row }
         ensures exact { result.0 ≡ view_of self.now row }
         ensures within { IsWithin self.now row }
+        ensures entered { 0 < request_of row.claim → 1 ≤ result.1 }
         ensures visits { result.1 ≤ 2 * bits (length self.now.arenas) + extra_visits self.now }
     {
         let division = &self.divide();

@@ -4,7 +4,7 @@ ghost use Rattle.market_types.specs.Step.{open_step, close_step, priority_step, 
 ghost use Rattle.market_types.specs.declared.reply.Reply.TheVariants.{Listed};
 ghost use Rattle.market_core.specs.Memory.{takes_memory};
 ghost use Rattle.market_core.specs.Allotted.{IsStaffed};
-ghost use Rattle.market_core.specs.Visits.{most_visits, looks_in_order};
+ghost use Rattle.market_core.specs.Visits.{most_visits, least_visits, looks_in_order};
 
 use super::Market;
 use crate::change::Change;
@@ -40,7 +40,8 @@ impl Market {
 
     /// Does what `apply` does, and says how many nodes of the arenas' trees it entered: for every command but Join and
     /// Lists no more than four times as many as the number of living arenas has binary digits, and one; where no worker
-    /// may be active, twice as many more for each level.
+    /// may be active, twice as many more for each level. It is no fewer than one for each row that was put in, taken out or
+    /// set, one to see an arena that asks for workers or to place a seat, and all rows for the lists.
     #[inline(always)]
     pub fn apply_counted(
         &mut self,
@@ -55,6 +56,7 @@ impl Market {
         ensures unchanged { OnErr result (self.new ≡ self.old) }
         ensures no_memory { takes_memory cmd ≡ false → IsOk result }
         ensures same_seats { length self.new.seats ≡ length self.old.seats }
+        ensures entered { IfOk result (λ answer. least_visits self.old answer.0 ≤ answer.1) }
         ensures visits { looks_in_order cmd ≡ false → IfOk result (λ answer. answer.1 ≤ most_visits self.old) }
     {
         let (reply, visits) = self.serve(alloc, seat, cmd)?;
@@ -71,6 +73,7 @@ impl Market {
         ensures unchanged { OnErr result (self.new ≡ self.old) }
         ensures no_memory { takes_memory cmd ≡ false → IsOk result }
         ensures same_seats { length self.new.seats ≡ length self.old.seats }
+        ensures entered { IfOk result (λ answer. least_visits self.old answer.0 ≤ answer.1) }
         ensures visits { looks_in_order cmd ≡ false → IfOk result (λ answer. answer.1 ≤ most_visits self.old) }
     {
         match cmd {
@@ -103,6 +106,7 @@ impl Market {
         ensures next { OnOk result (self.new ≡ (open_step self.old slots reserved level).1) }
         ensures same_seats { length self.new.seats ≡ length self.old.seats }
         ensures unchanged { OnErr result (self.new ≡ self.old) }
+        ensures entered { IfOk result (λ answer. least_visits self.old answer.0 ≤ answer.1) }
         ensures visits { IfOk result (λ answer. answer.1 ≤ most_visits self.old) }
     {
         let claim = match ArenaRecord::new(slots, reserved) {
@@ -135,6 +139,7 @@ impl Market {
         ensures staffed { IsStaffed result.0 self.new }
         ensures next { self.new ≡ (close_step self.old arena).1 }
         ensures same_seats { length self.new.seats ≡ length self.old.seats }
+        ensures entered { least_visits self.old result.0 ≤ result.1 }
         ensures visits { result.1 ≤ most_visits self.old }
     {
         let active = self.roster.active(arena);
@@ -156,6 +161,7 @@ impl Market {
         ensures staffed { IsStaffed result.0 self.new }
         ensures next { self.new ≡ (priority_step self.old arena level).1 }
         ensures same_seats { length self.new.seats ≡ length self.old.seats }
+        ensures entered { least_visits self.old result.0 ≤ result.1 }
         ensures visits { result.1 ≤ most_visits self.old }
     {
         if self.levels < level.get() {
@@ -180,6 +186,7 @@ impl Market {
         ensures staffed { IsStaffed result.0 self.new }
         ensures next { self.new ≡ (resize_step self.old arena slots reserved).1 }
         ensures same_seats { length self.new.seats ≡ length self.old.seats }
+        ensures entered { least_visits self.old result.0 ≤ result.1 }
         ensures visits { result.1 ≤ most_visits self.old }
     {
         if let Err(fault) = ArenaRecord::new(slots, reserved) {
@@ -197,6 +204,7 @@ impl Market {
         ensures staffed { IsStaffed result.0 self.new }
         ensures next { self.new ≡ (request_step self.old arena workers mandatory).1 }
         ensures same_seats { length self.new.seats ≡ length self.old.seats }
+        ensures entered { least_visits self.old result.0 ≤ result.1 }
         ensures visits { result.1 ≤ most_visits self.old }
     {
         match self.arenas.change(arena, Change::Add(workers, mandatory)) {
@@ -237,6 +245,7 @@ impl Market {
     fn join(&mut self, seat: SeatNo) -> (Reply, u32)
         requires seat { seat < length self.old.seats }
         ensures reply { result.0 ≡ (join_from self.old seat (place_of self.old seat)).0 }
+        ensures entered { least_visits self.old result.0 ≤ result.1 }
         ensures staffed { IsStaffed result.0 self.new }
         ensures next { self.new ≡ (join_from self.old seat (place_of self.old seat)).1 }
         ensures same_seats { length self.new.seats ≡ length self.old.seats }
@@ -259,6 +268,7 @@ impl Market {
         ensures staffed { IsStaffed result.0 self.new }
         ensures next { self.new ≡ (stay_from self.old seat (place_of self.old seat)).1 }
         ensures same_seats { length self.new.seats ≡ length self.old.seats }
+        ensures entered { least_visits self.old result.0 ≤ result.1 }
         ensures visits { result.1 ≤ most_visits self.old }
     {
         let Some(arena) = self.roster.at(seat) else {
@@ -291,6 +301,7 @@ impl Market {
     fn show(&self, arena: ArenaId) -> (Reply, u32)
         ensures reply { result.0 ≡ (show_step self.now arena).0 }
         ensures staffed { IsStaffed result.0 self.now }
+        ensures entered { least_visits self.now result.0 ≤ result.1 }
         ensures visits { result.1 ≤ most_visits self.now }
     {
         let Some(row) = self.arenas.get(arena) else {
@@ -304,6 +315,7 @@ impl Market {
     fn list(&self, alloc: Global) -> Result<(Reply, u32), AllocError>
         ensures reply { IfOk result (λ answer. answer.0 ≡ Listed (counts_of self.now)) }
         ensures staffed { IfOk result (λ answer. IsStaffed answer.0 self.now) }
+        ensures entered { IfOk result (λ answer. least_visits self.now answer.0 ≤ answer.1) }
     {
         let (lists, visits) = self.lists(alloc)?;
         Ok((Reply::Listed(lists), visits))

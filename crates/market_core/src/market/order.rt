@@ -1,6 +1,6 @@
 //! The arenas in the order in which they are served, beside what they are allotted and have.
 ghost use Rattle.std.specs.Prelude.{◌≡◌, ◌<◌, ◌≤◌, ◌++◌, Some, length, slice_get, IfOk, OnOk, IfSome, IfNone};
-ghost use Rattle.market_types.specs.Allotment.{alloc, at_level, limit_of};
+ghost use Rattle.market_types.specs.Allotment.{alloc, at_level, in_order, limit_of};
 ghost use Rattle.market_types.specs.Step.{arena_at, counts_of};
 ghost use Rattle.recall_hire.specs.Staffed.{IsNext, NoneAllotted, row_of, need_of};
 ghost use Rattle.market_core.specs.Divided.{IsDivisionOf, IsSharedAt, rows_at};
@@ -210,7 +210,8 @@ impl Market {
 
     /// The arenas with workers too many, and those with too few.
     pub(super) fn lists(&self, alloc: Global) -> Result<(Lists, u32), AllocError>
-        ensures { IfOk result (λ answer. answer.0 ≡ counts_of self.now) }
+        ensures exact { IfOk result (λ answer. answer.0 ≡ counts_of self.now) }
+        ensures entered { IfOk result (λ answer. length (in_order self.now) ≤ answer.1) }
     {
         let division = &self.divide();
         let mut visits = division.visits;

@@ -5,7 +5,7 @@ use Rattle.market_types.specs.Allotment.{total_request, at_level, demand, assign
 use Rattle.allotment.specs.Levels.{pick_of}
 use Rattle.market_core.specs.Sound.{IsSound}
 use Rattle.market_core.specs.Store.{newer}
-use Rattle.market_core.proofs.Found.{Found, found-at, All-found}
+use Rattle.market_core.proofs.Found.{Found, found-at, All-found, level-some}
 use Rattle.market_core.proofs.Allotted.{alloc-found, alloc-picked, all_to-number, just-all, request-within}
 use Rattle.market_core.proofs.Totals.{picked-few}
 use Rattle.market_core.proofs.market.Market.allot.Goals as goal
@@ -89,3 +89,9 @@ pub returns-clause-no_more_than_asked : goal.returns-clause-no_more_than_asked
 returns-clause-no_more_than_asked c =
     let here = (goal.at.returns-clause-no_more_than_asked c).After-before-before in
     omega (arith, c.share-workers.ensures.no_more_than_asked, asked here)
+
+pub returns-clause-entered : goal.returns-clause-entered
+returns-clause-entered c = λ some asks.
+    let at : c.level-2.result ≡ c.args.row.level = c.level-2.ensures in
+    let arenas : c.self.inside.arenas ≡ c.args.self.now.arenas = ap (λ (s : State). s.arenas) c.self.view_is in
+    c.before-before.ensures.entered (rw (at, arenas) (level-some c.args.row.number c.args.self.now.arenas c.args.row c.requires.there))

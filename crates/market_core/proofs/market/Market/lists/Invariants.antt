@@ -1,8 +1,12 @@
-use Rattle.std.proofs.Common.{◌≡◌, ◌+◌, ◌-◌, ◌++◌}
+use Rattle.std.proofs.Common.{◌≡◌, ◌+◌, ◌-◌, ◌≤◌, ◌++◌, length, min}
 use Rattle.recall_hire.specs.Staffed.{rows_among, rows_of}
 use Rattle.market_core.proofs.Order.{levels_from}
 use Rattle.market_core.proofs.market.Market.lists.Given as goal
 
--- the rows so far, and those of the levels to come
+-- the rows so far, each of which was entered, and those of the levels to come
 abbrev pub invariant-loop-level : goal.invariant-loop-level
-invariant-loop-level l = l.rows.items ++ rows_among l.self (levels_from (l.level + 1) (l.self.levels - l.level) l.self.arenas) ≡ rows_of l.self
+invariant-loop-level l =
+    record {
+      rows : l.rows.items ++ rows_among l.self (levels_from (l.level + 1) (l.self.levels - l.level) l.self.arenas) ≡ rows_of l.self;
+      entered : min (length l.rows.items) 4294967295 ≤ l.visits;
+    }

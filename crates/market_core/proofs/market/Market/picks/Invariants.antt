@@ -13,6 +13,7 @@ invariant-loop-place l =
     record {
       exact : (k : ℕ) → k < l.place → get_or l.picks k None ≡ number_of (find (λ (a : Arena). is_mandated a.claim) (at_level (k + 1) l.self-inside.arenas));
       above : (k : ℕ) → l.place ≤ k → get_or l.picks k None ≡ None;
+      entered : (k : ℕ) → k < l.place → 0 < length (at_level (k + 1) l.self-inside.arenas) → 1 ≤ l.visits;
       visits : l.visits ≤ l.place * (2 * bits (length l.self-inside.arenas));
       few : l.visits ≤ l.place * 22;
     }

@@ -1,7 +1,7 @@
 use Rattle.std.proofs.Common.{arith, ap, ◌∙◌, ◌≡◌, ◌-◌}
 use Rattle.level_list.specs.Rows.{requests_above}
 use Rattle.market_core.proofs.Entries.{entries-before}
-use Rattle.market_core.proofs.Stored.{list-at, list-visits, all-visits}
+use Rattle.market_core.proofs.Stored.{list-at, list-entered, list-visits, all-visits}
 use Rattle.market_core.proofs.store.Arenas.before.Goals as goal
 
 pub returns-clause-exact : goal.returns-clause-exact
@@ -23,3 +23,9 @@ returns-clause-few c =
     let s = c.self.inside in
     let place : c.get.result - 1 ≡ c.args.level - 1 = ap (λ n. n - 1) c.get.ensures.exact in
     omega (arith, all-visits s.rows.items s.lists s.enqueued c.self.invariant, list-visits s.rows.items s.lists s.enqueued c.self.invariant c.args.level (c.get.result - 1) c.index-self-get.result (omega arith) (omega arith) place c.before-2.result.1 c.before-2.ensures.visits)
+
+pub returns-clause-entered : goal.returns-clause-entered
+returns-clause-entered c =
+    let s = c.self.inside in
+    let place : c.get.result - 1 ≡ c.args.level - 1 = ap (λ n. n - 1) c.get.ensures.exact in
+    rw (← c.self.view_is) (list-entered s.rows.items s.lists s.enqueued c.self.invariant c.args.level (c.get.result - 1) c.index-self-get.result (omega arith) (omega arith) place c.before-2.result.1 c.before-2.ensures.entered)

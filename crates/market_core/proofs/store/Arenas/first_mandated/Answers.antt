@@ -3,7 +3,7 @@ use Rattle.std.specs.Option.{option_map}
 use Rattle.level_list.specs.Bits.{bits}
 use Rattle.market_types.specs.declared.row.Row.{Row}
 use Rattle.market_core.specs.Store.{by_stamp}
-use Rattle.market_core.proofs.Stored.{list-mandated, list-visits, all-visits}
+use Rattle.market_core.proofs.Stored.{list-mandated, list-entered, list-visits, all-visits}
 use Rattle.market_core.proofs.store.Arenas.first_mandated.Goals as goal
 
 pub returns-in-Some : goal.returns-in-Some
@@ -14,6 +14,7 @@ returns-in-Some c =
     list-visits s.rows.items s.lists s.enqueued c.self.invariant c.args.level (c.args.level - 1) d c.requires.low c.requires.high refl c.first_mandated-row.result.1 c.first_mandated-row.ensures.visits in
     rw (← c.self.view_is) (record {
       exact = ap (option_map (λ (r : Row). r.arena)) (sym c.in-Some.is) ∙ list-mandated s.rows.items s.lists s.enqueued c.self.invariant c.args.level (c.args.level - 1) d c.requires.low c.requires.high refl c.first_mandated-row.result.0 c.first_mandated-row.ensures.exact;
+      entered = list-entered s.rows.items s.lists s.enqueued c.self.invariant c.args.level (c.args.level - 1) d c.requires.low c.requires.high refl c.first_mandated-row.result.1 c.first_mandated-row.ensures.entered;
       visits = visits;
       few = omega (arith, visits, all-visits s.rows.items s.lists s.enqueued c.self.invariant);
     })
@@ -26,6 +27,7 @@ returns-in-None c =
     list-visits s.rows.items s.lists s.enqueued c.self.invariant c.args.level (c.args.level - 1) d c.requires.low c.requires.high refl c.first_mandated-row.result.1 c.first_mandated-row.ensures.visits in
     rw (← c.self.view_is) (record {
       exact = ap (option_map (λ (r : Row). r.arena)) (sym c.in-None.is) ∙ list-mandated s.rows.items s.lists s.enqueued c.self.invariant c.args.level (c.args.level - 1) d c.requires.low c.requires.high refl c.first_mandated-row.result.0 c.first_mandated-row.ensures.exact;
+      entered = list-entered s.rows.items s.lists s.enqueued c.self.invariant c.args.level (c.args.level - 1) d c.requires.low c.requires.high refl c.first_mandated-row.result.1 c.first_mandated-row.ensures.entered;
       visits = visits;
       few = omega (arith, visits, all-visits s.rows.items s.lists s.enqueued c.self.invariant);
     })

@@ -6,7 +6,7 @@ use Rattle.market_types.specs.State.{Arena}
 use Rattle.market_types.specs.declared.row.Row.{Row}
 use Rattle.market_types.specs.Step.{arena_at}
 use Rattle.market_core.specs.Store.{by_stamp, entry_of}
-use Rattle.market_core.proofs.Stored.{missing-by_stamp, place-found, found-by_stamp, entry-here, level-here, all-visits, promoted-room, promoted-newest, promoted-visits, stored-promoted, view-promoted, list-visits}
+use Rattle.market_core.proofs.Stored.{missing-by_stamp, place-found, found-by_stamp, entry-here, some-here, level-here, all-visits, promoted-room, promoted-newest, promoted-visits, stored-promoted, view-promoted, list-visits}
 use Rattle.market_core.proofs.store.Arenas.promote.Goals as goal
 
 pub unreachable-requires : goal.unreachable-requires
@@ -145,3 +145,12 @@ returns-clause-visits c =
     promoted-visits s.rows.items s.lists s.enqueued i x c.self.invariant within e y older (omega arith, omega arith) (c.get.result - 1) (c.get-2.result - 1) c.index-self-get.result c.index-self-get-2.result _ _
     (ap (λ n. n - 1) level) (ap (λ n. n - 1) c.get-2.ensures.exact) refl rows c.put-back.result c.put-back.ensures.visits in
     rw (← c.self.view_is) (omega (arith, out, back))
+
+pub returns-clause-entered : goal.returns-clause-entered
+returns-clause-entered c =
+    let s = c.self.inside in
+    let x = c.index-row.result.now in
+    let within = rw c.deref.ensures.value at c.in_ok-place.ensures.there in
+    let level : c.get.result ≡ x.level = c.get.ensures.exact ∙ c.level.ensures in
+    let out = c.take-taken.ensures.entered (some-here s.rows.items s.lists s.enqueued c.in_ok-place.place x c.self.invariant within c.index-row.ensures (c.get.result - 1) c.index-self-get.result (ap (λ n. n - 1) level)) in
+    omega (arith, out, c.put-back.ensures.low)

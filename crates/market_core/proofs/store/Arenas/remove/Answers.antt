@@ -3,7 +3,7 @@ use Rattle.level_list.specs.Rows.{without as without_row}
 use Rattle.market_types.specs.State.{Claim, Arena}
 use Rattle.market_types.specs.Step.{arena_at, without}
 use Rattle.market_core.specs.Store.{by_stamp}
-use Rattle.market_core.proofs.Stored.{removed-missing, missing-by_stamp, found-by_stamp, level-here, counted-within, view-removed, stored-removed, list-visits}
+use Rattle.market_core.proofs.Stored.{removed-missing, missing-by_stamp, found-by_stamp, some-here, level-here, counted-within, view-removed, stored-removed, list-visits}
 use Rattle.market_core.proofs.store.Arenas.remove.Goals as goal
 
 pub returns-in_err-place-clause-exact : goal.returns-in_err-place-clause-exact
@@ -58,3 +58,11 @@ returns-clause-visits c =
     let level : c.get.result ≡ x.level = c.get.ensures.exact ∙ c.level.ensures in
     let within = level-here s.rows.items s.lists s.enqueued c.in_ok-place.place x c.self.invariant there c.remove-row.ensures.value in
     rw (← c.self.view_is) (list-visits s.rows.items s.lists s.enqueued c.self.invariant x.level (c.get.result - 1) c.index-self-get.result within.0 within.1 (ap (λ n. n - 1) level) c.take-taken.result.1 c.take-taken.ensures.visits)
+
+pub returns-clause-entered : goal.returns-clause-entered
+returns-clause-entered c =
+    let s = c.self.inside in
+    let x = c.remove-row.result in
+    let there = rw c.deref.ensures.value at c.in_ok-place.ensures.there in
+    let level : c.get.result ≡ x.level = c.get.ensures.exact ∙ c.level.ensures in
+    c.take-taken.ensures.entered (some-here s.rows.items s.lists s.enqueued c.in_ok-place.place x c.self.invariant there c.remove-row.ensures.value (c.get.result - 1) c.index-self-get.result (ap (λ n. n - 1) level))
