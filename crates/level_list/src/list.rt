@@ -1,5 +1,5 @@
 //! The list, and its calls.
-ghost use Rattle.std.specs.Prelude.{◌≡◌, ◌+◌, ◌*◌, ◌<◌, ◌≤◌, ◌↔◌, [], ◌∷◌, length, take, slice_get, is_ok, if◌then◌else◌, Some, All, IsTrue, IfNone, IfSome, IfOk, OnOk};
+ghost use Rattle.std.specs.Prelude.{◌≡◌, ◌+◌, ◌*◌, ◌<◌, ◌≤◌, ◌↔◌, [], ◌∷◌, length, take, slice_get, is_ok, if◌then◌else◌, Some, All, IsTrue, IfNone, IfSome, IsOk, IfOk, OnOk};
 ghost use Rattle.prefix_tree.specs.Rows.{IsNewestFirst, IsAbsent, IsPassing, requests, requests_above, first_mandated, row_at, place_of, without, set_row};
 ghost use Rattle.prefix_tree.specs.Bits.{bits};
 
@@ -8,7 +8,7 @@ use prefix_tree::{Passing, Taken, Tree};
 use std::alloc::{AllocError, Global};
 use std::marker::Model;
 
-/// The rows of one level's arenas, at most [`LevelList::MOST`] of them, each with a request of at most 65,535. Contracts
+/// The rows of one level's arenas, at most 1,024 of them, each with a request of at most 65,535. Contracts
 /// see it as the list of its rows, newest first.
 ///
 /// A call on `n` rows enters at most twice as many nodes as `n` has binary digits, and one more where it puts a row
@@ -28,9 +28,6 @@ impl Model for LevelList {
 }
 
 impl LevelList {
-    /// The most rows that a list holds.
-    pub const MOST: usize = 1024;
-
     /// A list with no rows, which takes no memory.
     pub fn new() -> LevelList
         ensures exact { result ≡ [] }
@@ -118,8 +115,9 @@ impl LevelList {
         self.rows.place_of(stamp)
     }
 
-    /// All rows, newest first. Enters each node once.
+    /// All rows, newest first. Enters each node once. No rows take no memory.
     pub fn rows(&self, alloc: Global) -> Result<(Vec<Row>, u32), AllocError>
+        ensures succeeds { length self.now ≡ 0 → IsOk result }
         ensures exact { IfOk result (λ listed. listed.0.items ≡ self.now) }
         ensures visits { IfOk result (λ listed. listed.1 ≡ length self.now) }
     {

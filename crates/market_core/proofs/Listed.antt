@@ -11,7 +11,7 @@ use Rattle.recall_hire.specs.declared.rows.Staffing.{Staffing}
 use Rattle.recall_hire.specs.Staffed.{row_of, rows_among}
 use Rattle.market_core.specs.Store.{entry_of, entries}
 use Rattle.market_core.proofs.Order.{levels_from}
-use Rattle.market_core.proofs.Searched.{entry-arena, sum-with}
+use Rattle.market_core.proofs.Searched.{entry-arena, same-staffing, sum-with}
 
 -- the entry that was read at a place of a level's list is that of the arena there
 pub entry-read : (place : ℕ) (entry : Row) (level : ℕ) (rows : List Row) (arenas : List Arena) → entry ≡ get_or rows place entry → place < length rows → rows ≡ entries level arenas
@@ -34,9 +34,6 @@ rows-suc s zero (x ∷ xs) a e =
     let same : x ≡ a = cc in
     rw same refl
 rows-suc s (suc p) (x ∷ xs) a e = ap (λ rows. row_of s x ∷ rows) (rows-suc s p xs a e)
-
-same-staffing : (a b n m k l : ℕ) → a ≡ b → n ≡ m → k ≡ l → ◌≡◌ {A = Staffing} (record { arena = a; allotted = n; active = k }) (record { arena = b; allotted = m; active = l })
-same-staffing a b n m k l e f g = rw (e, f, g) refl
 
 pub row-added : (s : State) (sum place workers placed : ℕ) (entry : Row) (arenas : List Arena) (start rows more : List Staffing) → option_map entry_of (slice_get arenas place) ≡ Some entry
     → sum ≡ total_request (take place arenas) → workers ≡ alloc s entry.arena → placed ≡ active s entry.arena → rows ≡ start ++ rows_among s (take place arenas)

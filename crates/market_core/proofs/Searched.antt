@@ -281,7 +281,7 @@ pub record Search (s : State) (level place given asked before sum : ℕ) : Type 
   pub nobody : (others request : ℕ) → before ≤ others → others + request ≤ sum → due given asked others request ≡ 0
   pub next : (others request : ℕ) → others ≤ sum → sum < others + request → 0 < due given asked others request
 
-same-staffing : (a b n m k l : ℕ) → a ≡ b → n ≡ m → k ≡ l → ◌≡◌ {A = Staffing} (record { arena = a; allotted = n; active = k }) (record { arena = b; allotted = m; active = l })
+pub same-staffing : (a b n m k l : ℕ) → a ≡ b → n ≡ m → k ≡ l → ◌≡◌ {A = Staffing} (record { arena = a; allotted = n; active = k }) (record { arena = b; allotted = m; active = l })
 same-staffing a b n m k l e f g = rw (e, f, g) refl
 
 due-same : (k m d e others request : ℕ) → k ≡ m → d ≡ e → due k d others request ≡ due m e others request

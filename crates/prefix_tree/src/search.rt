@@ -1,5 +1,5 @@
 //! Reading a side: one walk down from its topmost node.
-ghost use Rattle.std.specs.Prelude.{◌≡◌, ◌<◌, ◌≤◌, ◌++◌, length, IfNone, IfSome, IfOk, OnOk, slice_get, take};
+ghost use Rattle.std.specs.Prelude.{◌≡◌, ◌<◌, ◌≤◌, ◌++◌, length, IfNone, IfSome, IsOk, IfOk, OnOk, slice_get, take};
 ghost use Rattle.prefix_tree.specs.Rows.{requests, requests_above, first_mandated, IsPassing, place_of};
 ghost use Rattle.prefix_tree.specs.Nodes.{IsSmall};
 
@@ -178,6 +178,7 @@ impl Side {
     /// Puts the rows at the end of others, newest first.
     pub(crate) fn list(&self, out: &mut Vec<Row>) -> Result<u32, AllocError>
         requires { IsSmall self.now }
+        ensures succeeds { length self.now.0 ≡ 0 → IsOk result }
         ensures rows { OnOk result (out.new.items ≡ out.old.items ++ self.now.0) }
         ensures visits { IfOk result (λ visits. visits ≡ length self.now.0) }
     {

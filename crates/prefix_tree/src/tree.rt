@@ -1,5 +1,5 @@
 //! The tree, and its calls.
-ghost use Rattle.std.specs.Prelude.{◌≡◌, ◌+◌, ◌*◌, ◌<◌, ◌≤◌, ◌↔◌, [], length, take, slice_get, is_ok, if◌then◌else◌, Some, IsTrue, IfNone, IfSome, IfOk, OnOk};
+ghost use Rattle.std.specs.Prelude.{◌≡◌, ◌+◌, ◌*◌, ◌<◌, ◌≤◌, ◌↔◌, [], length, take, slice_get, is_ok, if◌then◌else◌, Some, IsTrue, IfNone, IfSome, IsOk, IfOk, OnOk};
 ghost use Rattle.prefix_tree.specs.Rows.{IsNewestFirst, IsAbsent, IsPassing, requests, requests_above, first_mandated, row_at, place_of, insert_row, without, set_row};
 ghost use Rattle.prefix_tree.specs.Nodes.{row_of};
 ghost use Rattle.prefix_tree.specs.Bits.{bits};
@@ -127,8 +127,9 @@ impl Tree {
         self.root.place_of(stamp)
     }
 
-    /// All rows, newest first. Enters each node once.
+    /// All rows, newest first. Enters each node once. No rows take no memory.
     pub fn rows(&self, alloc: Global) -> Result<(Vec<Row>, u32), AllocError>
+        ensures succeeds { length self.now ≡ 0 → IsOk result }
         ensures exact { IfOk result (λ listed. listed.0.items ≡ self.now) }
         ensures visits { IfOk result (λ listed. listed.1 ≡ length self.now) }
     {
