@@ -5,7 +5,8 @@
 //! a row that was taken out is a [`Taken`], which keeps its memory, so that putting it back takes none.
 //!
 //! Each node holds its row and, of all rows at and below it, the sum of their requests, their number, and how many of
-//! them are mandated. Its left side has the newer rows, its right side the older ones:
+//! them are mandated; and once more the sum of its left side's requests. Its left side has the newer rows, its right side
+//! the older ones:
 //!
 //! ```text
 //!                      stamp 5 asks 3
@@ -23,8 +24,8 @@
 //!
 //! Each call but `new`, `len`, `is_empty` and `total` says how many nodes of its search path it entered, the new or
 //! replaced node included; nodes that only a rotation touches are not counted. That this number is no more than it may
-//! be is proved. That it is no less, nothing can prove: it is seen by reading, since a node is entered by
-//! `node::visit` alone, once on each turn of a loop and on each call of a recursion.
+//! be is proved, and that it is one at least where there are rows. That no visit between is left out is seen by reading:
+//! a node is entered by `node::visit` alone, once on each turn of a loop and on each call of a recursion.
 #![tactic(auto)]
 
 mod balance;
