@@ -16,6 +16,15 @@ extra_visits s = if limit_of s == 0 then s.levels * (2 * bits (length s.arenas))
 abbrev pub most_visits : State → ℕ
 most_visits s = 4 * bits (length s.arenas) + 1 + extra_visits s
 
+-- the most that Lists may enter: each row once
+abbrev pub most_listed : State → ℕ
+most_listed s = length s.arenas + extra_visits s
+
+-- the command lists all arenas
+abbrev pub lists_all : Cmd → Bool
+lists_all Lists = true
+lists_all _ = false
+
 -- the command looks at the arenas in order
 abbrev pub looks_in_order : Cmd → Bool
 looks_in_order Join = true

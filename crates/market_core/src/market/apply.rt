@@ -1,10 +1,10 @@
 //! What a command does.
-ghost use Rattle.std.specs.Prelude.{◌≡◌, ◌≤◌, ◌<◌, length, false, IsOk, IfOk, OnOk, OnErr};
+ghost use Rattle.std.specs.Prelude.{◌≡◌, ◌≤◌, ◌<◌, length, false, true, IsOk, IfOk, OnOk, OnErr};
 ghost use Rattle.market_types.specs.Step.{open_step, close_step, priority_step, resize_step, request_step, control_step, uncontrol_step, join_from, stay_from, leave_from, place_of, show_step, counts_of, step};
 ghost use Rattle.market_types.specs.declared.reply.Reply.TheVariants.{Listed};
 ghost use Rattle.market_core.specs.Memory.{takes_memory};
 ghost use Rattle.market_core.specs.Allotted.{IsStaffed};
-ghost use Rattle.market_core.specs.Visits.{most_visits, least_visits, looks_in_order};
+ghost use Rattle.market_core.specs.Visits.{most_visits, most_listed, least_visits, looks_in_order, lists_all};
 
 use super::Market;
 use crate::change::Change;
@@ -39,9 +39,10 @@ impl Market {
     }
 
     /// Does what `apply` does, and says how many nodes of the arenas' trees it entered: for every command but Join and
-    /// Lists no more than four times as many as the number of living arenas has binary digits, and one; where no worker
-    /// may be active, twice as many more for each level. It is no fewer than one for each row that was put in, taken out or
-    /// set, one to see an arena that asks for workers or to place a seat, and all rows for the lists.
+    /// Lists no more than four times as many as the number of living arenas has binary digits, and one; for Lists no more
+    /// than there are arenas; where no worker may be active, twice as many as these digits more for each level. It is no
+    /// fewer than one for each row that was put in, taken out or set, one to see an arena that asks for workers or to place
+    /// a seat, and all rows for Lists.
     #[inline(always)]
     pub fn apply_counted(
         &mut self,
@@ -58,6 +59,7 @@ impl Market {
         ensures same_seats { length self.new.seats ≡ length self.old.seats }
         ensures entered { IfOk result (λ answer. least_visits self.old answer.0 ≤ answer.1) }
         ensures visits { looks_in_order cmd ≡ false → IfOk result (λ answer. answer.1 ≤ most_visits self.old) }
+        ensures listed { lists_all cmd ≡ true → IfOk result (λ answer. answer.1 ≤ most_listed self.old) }
     {
         let (reply, visits) = self.serve(alloc, seat, cmd)?;
         Ok((reply, u64::from(visits)))
@@ -75,6 +77,7 @@ impl Market {
         ensures same_seats { length self.new.seats ≡ length self.old.seats }
         ensures entered { IfOk result (λ answer. least_visits self.old answer.0 ≤ answer.1) }
         ensures visits { looks_in_order cmd ≡ false → IfOk result (λ answer. answer.1 ≤ most_visits self.old) }
+        ensures listed { lists_all cmd ≡ true → IfOk result (λ answer. answer.1 ≤ most_listed self.old) }
     {
         match cmd {
             Cmd::Open(slots, reserved, level) => self.open(alloc, slots, reserved, level),
@@ -316,6 +319,7 @@ impl Market {
         ensures reply { IfOk result (λ answer. answer.0 ≡ Listed (counts_of self.now)) }
         ensures staffed { IfOk result (λ answer. IsStaffed answer.0 self.now) }
         ensures entered { IfOk result (λ answer. least_visits self.now answer.0 ≤ answer.1) }
+        ensures listed { IfOk result (λ answer. answer.1 ≤ most_listed self.now) }
     {
         let (lists, visits) = self.lists(alloc)?;
         Ok((Reply::Listed(lists), visits))

@@ -5,6 +5,7 @@ ghost use Rattle.market_types.specs.Step.{arena_at, counts_of};
 ghost use Rattle.recall_hire.specs.Staffed.{IsNext, NoneAllotted, row_of, need_of};
 ghost use Rattle.market_core.specs.Divided.{IsDivisionOf, IsSharedAt, rows_at};
 ghost use Rattle.market_core.specs.Store.{IsEntry, IsKept};
+ghost use Rattle.market_core.specs.Visits.{most_listed};
 
 use super::Market;
 use crate::division::Division;
@@ -212,6 +213,7 @@ impl Market {
     pub(super) fn lists(&self, alloc: Global) -> Result<(Lists, u32), AllocError>
         ensures exact { IfOk result (λ answer. answer.0 ≡ counts_of self.now) }
         ensures entered { IfOk result (λ answer. length (in_order self.now) ≤ answer.1) }
+        ensures visits { IfOk result (λ answer. answer.1 ≤ most_listed self.now) }
     {
         let division = &self.divide();
         let mut visits = division.visits;

@@ -17,6 +17,7 @@ loop-level-init c =
           ap (λ rows. rows ++ rows_among s (levels_from 1 (s.levels - 0) s.arenas)) c.in_ok-rows.ensures.items
           ∙ ap (λ n. rows_among s (levels_from 1 n s.arenas)) all;
       entered = rw c.in_ok-rows.ensures.items (omega arith);
+      visits = omega (arith, c.divide.ensures.visits);
     }
 
 pub loop-level-preserved : goal.loop-level-preserved
@@ -27,7 +28,7 @@ loop-level-preserved c =
     let rows = level-added s (level + 1) (s.levels - (level + 1)) (s.levels - level) c.loop-level.rows.items c.add_rows.new.rows.items (rows_of s) (omega (arith, levels, c.loop-level-test.true)) c.in_ok-more.ensures.rows c.loop-level.invariant.rows in
     let more : length c.add_rows.new.rows.items ≡ length c.loop-level.rows.items + length (rows_among s (at_level (level + 1) s.arenas)) =
     ap length c.in_ok-more.ensures.rows ∙ length-append c.loop-level.rows.items (rows_among s (at_level (level + 1) s.arenas)) in
-    record { rows = rows; entered = omega (arith, more, c.in_ok-more.ensures.visits, c.loop-level.invariant.entered) }
+    record { rows = rows; entered = omega (arith, more, c.in_ok-more.ensures.visits, c.loop-level.invariant.entered); visits = omega (arith, more, c.in_ok-more.ensures.visits, c.loop-level.invariant.visits) }
 
 pub returns : goal.returns
 returns c =
@@ -40,6 +41,7 @@ returns c =
     let every : length c.loop-level.rows.items ≡ length (in_order s) = ap length whole ∙ length-map (in_order s) (row_of s) in
     let sound : IsSound s = rw c.self.view_is at c.self.invariant in
     record {
+      visits = omega (arith, every, c.loop-level.invariant.visits, in_order-length s sound.leveled);
       exact = c.in_ok-lists.ensures.in_market s (c.deref.ensures.value ∙ whole);
       entered = omega (arith, every, c.loop-level.invariant.entered, in_order-length s sound.leveled, c.len.ensures.kept.few, ap (λ (t : State). length t.arenas) c.self.view_is);
     }
