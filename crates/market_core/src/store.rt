@@ -157,6 +157,7 @@ impl Arenas {
         requires within { place < length (at_level level self.now) }
         ensures exact { result.0 ≡ slice_get (at_level level self.now) place }
         ensures there { IfSome result.0 (λ row. arena_at row.number self.now ≡ Some row) }
+        ensures entered { 1 ≤ result.1 }
         ensures few { result.1 ≤ 22 }
     {
         let (row, visits) = self.lists[level as usize - 1].walk(place);
@@ -193,6 +194,7 @@ impl Arenas {
         requires low { 1 ≤ level }
         requires high { level ≤ 8 }
         ensures exact { result.0 ≡ total_request (take place (at_level level self.now)) }
+        ensures entered { 0 < length (at_level level self.now) → 1 ≤ result.1 }
         ensures few { result.1 ≤ 22 }
     {
         self.lists[level as usize - 1].sum_to(place)
@@ -205,6 +207,7 @@ impl Arenas {
         requires high { level ≤ 8 }
         ensures some { IfSome result.0 (λ passing. IsPassing sum passing (at_level level self.now)) }
         ensures none { IfNone result.0 (total_request (at_level level self.now) ≤ sum) }
+        ensures entered { 0 < length (at_level level self.now) → 1 ≤ result.1 }
         ensures few { result.1 ≤ 22 }
     {
         self.lists[level as usize - 1].passing(sum)

@@ -1,12 +1,13 @@
-use Rattle.std.proofs.Common.{◌≡◌, ℕ, zero, suc, ◌+◌, ◌<◌, ◌≤◌, ltb, List, [], ◌∷◌, ◌++◌, take, length, get_or, map, Some, None, refl, sym, ap, ◌∙◌, arith, add-one, inl, inr}
+use Rattle.std.proofs.Common.{◌≡◌, ℕ, zero, suc, ◌+◌, ◌<◌, ◌≤◌, ltb, cond, List, [], ◌∷◌, ◌++◌, take, drop, length, get_or, map, Some, None, refl, sym, ap, ◌∙◌, arith, add-one, inl, inr}
 use Rattle.std.specs.Prelude.{slice_get}
-use Rattle.std.proofs.lemmas.Bool.{cases_lt, cases_Bool, lt-ltb}
+use Rattle.std.proofs.lemmas.Bool.{cases_lt, cases_Bool, lt-ltb, eq-eqb, ne_eqb}
+use Rattle.std.proofs.Math.Seq.{drop-length, drop-nil}
 use Rattle.market_types.specs.State.{State, Arena}
 use Rattle.market_types.specs.Counts.{Counts}
 use Rattle.market_types.specs.Allotment.{in_order, hire, recall}
 use Rattle.market_types.specs.Step.{above_zero, counts_of}
 use Rattle.recall_hire.specs.declared.rows.Staffing.{Staffing}
-use Rattle.recall_hire.specs.Staffed.{recall_in, hire_in, listed, allotted_at, NoneAllotted, first_in_need, counts_in, above_zero_in, row_of, rows_of, rows_among, need_among}
+use Rattle.recall_hire.specs.Staffed.{recall_in, hire_in, listed, allotted_at, NoneAllotted, first_in_need, searches, counts_in, above_zero_in, row_of, rows_of, rows_among, need_among}
 
 -- ---- a search for a row that has too few
 
@@ -62,6 +63,47 @@ need-none [] before = refl
 need-none (x ∷ xs) before =
     let none : hire_in x ≡ 0 = before 0 (omega arith) in
     rw none (need-none xs (λ place below. before (suc place) (omega arith)))
+
+-- ---- how many rows a search looks at
+
+-- none where nobody is allotted a worker
+searches-skip : (rows : List Staffing) (from to : ℕ) → from ≤ to → NoneAllotted rows from to → searches (drop from rows) ≡ searches (drop to rows)
+searches-skip [] from to e none = ap searches (drop-nil from ∙ sym (drop-nil to))
+searches-skip (x ∷ xs) zero zero e none = refl
+searches-skip (x ∷ xs) zero (suc to) e none =
+    let here : x.allotted ≡ 0 = none 0 (omega arith) (omega arith) in
+    rw (eq-eqb x.allotted 0 here) (searches-skip xs zero to (omega arith) (λ place from below. none (suc place) (omega arith) (omega arith)))
+searches-skip (x ∷ xs) (suc from) zero e none = absurd (omega arith)
+searches-skip (x ∷ xs) (suc from) (suc to) e none = searches-skip xs from to (omega arith) (λ place from below. none (suc place) (omega arith) (omega arith))
+
+-- at a row that is allotted some
+searches-at : (rows : List Staffing) (next : ℕ) (r : Staffing) → slice_get rows next ≡ Some r → 0 < r.allotted
+    → searches (drop next rows) ≡ cond (ltb 0 (hire_in r)) 1 (searches (drop (suc next) rows) + 1)
+searches-at [] next r e some = cc
+searches-at (x ∷ xs) zero r e some =
+    let f : Some x ≡ Some r = e in
+    let same : x ≡ r = cc in
+    rw (same, ne_eqb r.allotted 0 (λ n. absurd (omega arith))) refl
+searches-at (x ∷ xs) (suc next) r e some = searches-at xs next r e some
+
+-- one more where the next row that is allotted some has enough
+pub searches-more : (rows : List Staffing) (from next : ℕ) (r : Staffing) → from ≤ next → NoneAllotted rows from next → slice_get rows next ≡ Some r → 0 < r.allotted → hire_in r ≡ 0
+    → searches (drop from rows) ≡ searches (drop (next + 1) rows) + 1
+searches-more rows from next r e none at some enough =
+    let after : next + 1 ≡ suc next = omega arith in
+    let here : cond (ltb 0 (hire_in r)) 1 (searches (drop (suc next) rows) + 1) ≡ searches (drop (next + 1) rows) + 1 = rw enough (ap (λ n. searches (drop n rows) + 1) (sym after)) in
+    searches-skip rows from next e none ∙ searches-at rows next r at some ∙ here
+
+-- one where it has too few
+pub searches-found : (rows : List Staffing) (from next : ℕ) (r : Staffing) → from ≤ next → NoneAllotted rows from next → slice_get rows next ≡ Some r → 0 < r.allotted → 0 < hire_in r
+    → searches (drop from rows) ≡ 1
+searches-found rows from next r e none at some low =
+    let here : cond (ltb 0 (hire_in r)) 1 (searches (drop (suc next) rows) + 1) ≡ 1 = rw (lt-ltb 0 (hire_in r) low) refl in
+    searches-skip rows from next e none ∙ searches-at rows next r at some ∙ here
+
+-- and none where there is none
+pub searches-none : (rows : List Staffing) (from : ℕ) → from ≤ length rows → NoneAllotted rows from (length rows) → searches (drop from rows) ≡ 0
+searches-none rows from e none = searches-skip rows from (length rows) e none ∙ ap searches (drop-length rows)
 
 -- ---- in a market
 
@@ -122,3 +164,24 @@ pub listed-more : (count : Staffing → ℕ) (rows : List Staffing) (place n : �
     → after ≡ before ++ listed r.arena n → before ≡ above_zero_in count (take place rows) → n ≡ count r → slice_get rows place ≡ Some r
     → after ≡ above_zero_in count (take (place + 1) rows)
 listed-more count rows place n r before after added so_far counted e = rw (added, so_far, counted) (sym (above_zero-more count rows place r e))
+
+-- where no count is listed, each is 0
+none-listed : (count : Staffing → ℕ) (r : Staffing) (rows : List Staffing) → above_zero_in count (r ∷ rows) ≡ [] → (count r ≡ 0) × (above_zero_in count rows ≡ [])
+none-listed count r rows none =
+    elim (cases_lt 0 (count r)) [
+      | inl p ↦
+          let here : (r.arena, count r) ∷ above_zero_in count rows ≡ [] = rw (lt-ltb 0 (count r) p) at none in
+          cc
+      | inr p ↦
+          let zero_count : count r ≡ 0 = omega arith in
+          let rest : above_zero_in count rows ≡ [] = rw zero_count at none in
+          (zero_count, rest)
+    ]
+
+pub listed-none : (count : Staffing → ℕ) (rows : List Staffing) (place : ℕ) (r : Staffing) → slice_get rows place ≡ Some r → above_zero_in count rows ≡ [] → count r ≡ 0
+listed-none count [] place r e none = cc
+listed-none count (x ∷ xs) zero r e none =
+    let f : Some x ≡ Some r = e in
+    let same : x ≡ r = cc in
+    ap count (sym same) ∙ (none-listed count x xs none).0
+listed-none count (x ∷ xs) (suc place) r e none = listed-none count xs place r e (none-listed count x xs none).1

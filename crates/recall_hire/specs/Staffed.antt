@@ -1,5 +1,5 @@
 -- What arenas have of what they are allotted, in the order in which they are served.
-use Rattle.std.specs.Prelude.{◌≡◌, ℕ, ◌-◌, ◌<◌, ◌≤◌, nat_lt, if◌then◌else◌, List, [], ◌∷◌, map, Option, Some, slice_get, slice_index}
+use Rattle.std.specs.Prelude.{◌≡◌, ℕ, ◌+◌, ◌-◌, ◌<◌, ◌≤◌, ◌==◌, nat_lt, if◌then◌else◌, List, [], ◌∷◌, map, Option, Some, slice_get, slice_index}
 use Rattle.std.specs.List.{filter, find}
 use Rattle.std.specs.Option.{option_map}
 use Rattle.market_types.specs.State.{State, Arena}
@@ -19,6 +19,12 @@ hire_in r = r.allotted - r.active
 -- the arena of the first row that has too few
 abbrev pub first_in_need : List Staffing → Option ℕ
 first_in_need rows = option_map (λ (r : Staffing). r.arena) (find (λ (r : Staffing). nat_lt 0 (hire_in r)) rows)
+
+-- how many rows that are allotted a worker are looked at until one has too few, itself counted
+abbrev pub searches : List Staffing → ℕ
+searches [] = 0
+searches (r ∷ rows) =
+    if r.allotted == 0 then searches rows else if nat_lt 0 (hire_in r) then 1 else searches rows + 1
 
 -- an arena with its count, where that is above 0
 abbrev pub listed : ℕ → ℕ → List (ℕ × ℕ)

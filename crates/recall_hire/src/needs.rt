@@ -1,19 +1,22 @@
 //! Where a worker is needed, and where workers are too many or too few.
-ghost use Rattle.std.specs.Prelude.{◌≡◌, ◌++◌, List, IfOk, OnOk};
+ghost use Rattle.std.specs.Prelude.{◌≡◌, ◌≤◌, [], ◌++◌, List, min, IfSome, IsOk, IfOk, OnOk};
 ghost use Rattle.market_types.specs.State.{State, Arena};
 ghost use Rattle.market_types.specs.Step.{counts_of};
-ghost use Rattle.recall_hire.specs.Staffed.{first_in_need, counts_in, listed, rows_of, rows_among, need_among};
+ghost use Rattle.recall_hire.specs.Staffed.{first_in_need, searches, counts_in, listed, rows_of, rows_among, need_among};
 
 use crate::rows::{Rows, Staffing, hire, recall};
 use market_types::{ArenaId, Lists};
 use std::alloc::{AllocError, Global};
 
-/// The first arena in order that is allotted more workers than it has, and how many nodes the rows entered. Takes no
-/// memory, and looks only at rows that are allotted some.
+/// The first arena in order that is allotted more workers than it has, and how many visits that took: one at least for
+/// each row that is allotted some, up to and with that arena's, or 4,294,967,295 where that is less. Takes no memory, and
+/// looks only at rows that are allotted some.
 pub fn first_in_need<R: Rows>(rows: &R) -> (Option<ArenaId>, u32)
     ensures exact { result.0 ≡ first_in_need (R.rows rows.now) }
     ensures in_market { (s : State) (arenas : List Arena) → R.rows rows.now ≡ rows_among s arenas
         → result.0 ≡ need_among s arenas }
+    ensures entered { IfSome result.0 (λ _. 1 ≤ result.1) }
+    ensures every_search { min (searches (R.rows rows.now)) 4294967295 ≤ result.1 }
 {
     let len = rows.len();
     let mut place = 0;
@@ -32,10 +35,12 @@ pub fn first_in_need<R: Rows>(rows: &R) -> (Option<ArenaId>, u32)
     (None, visits)
 }
 
-/// The arenas with workers too many, and those with too few, each with how many, in order.
+/// The arenas with workers too many, and those with too few, each with how many, in order. Wants memory only for what it
+/// lists.
 pub fn lists(alloc: Global, rows: &[Staffing]) -> Result<Lists, AllocError>
     ensures exact { IfOk result (λ lists. lists ≡ counts_in rows.now) }
     ensures in_market { (s : State) → rows.now ≡ rows_of s → IfOk result (λ lists. lists ≡ counts_of s) }
+    ensures succeeds { counts_in rows.now ≡ record { recalls = []; hires = [] } → IsOk result }
 {
     let mut recalls = Vec::new(alloc);
     let mut hires = Vec::new(alloc);
@@ -47,9 +52,10 @@ pub fn lists(alloc: Global, rows: &[Staffing]) -> Result<Lists, AllocError>
     Ok(Lists { recalls, hires })
 }
 
-/// Puts a count above 0 at the end of a list.
+/// Puts a count above 0 at the end of a list, which can want memory.
 fn list(counts: &mut Vec<(ArenaId, u32)>, arena: ArenaId, count: u32) -> Result<(), AllocError>
     ensures listed { OnOk result (counts.new.items ≡ counts.old.items ++ listed arena count) }
+    ensures succeeds { count ≡ 0 → IsOk result }
 {
     if count > 0 {
         counts.push((arena, count))?;

@@ -36,8 +36,8 @@ pub fn hire(active: u32, allotted: u32) -> u32
     allotted.saturating_sub(active)
 }
 
-/// Arenas in the order in which they are served. Rows that stand in trees say with each answer how many nodes they
-/// entered for it.
+/// Arenas in the order in which they are served. With each answer comes the number of visits that it took: of tree nodes,
+/// where the rows stand in trees.
 pub trait Rows {
     /// The rows in order.
     ghost rows: { Self → List Staffing };
@@ -46,15 +46,18 @@ pub trait Rows {
     fn len(&self) -> usize
         ensures exact { result ≡ length (rows self.now) };
 
-    /// The row at a place, from 0.
+    /// The row at a place, from 0, by a visit at least.
     fn row(&self, place: usize) -> (Staffing, u32)
         requires known { place < length (rows self.now) }
-        ensures exact { slice_get (rows self.now) place ≡ Some result.0 };
+        ensures exact { slice_get (rows self.now) place ≡ Some result.0 }
+        ensures entered { 1 ≤ result.1 };
 
-    /// The first row from a place on that is allotted a worker. Looks at each row on the way, unless the rows know better.
+    /// The first row from a place on that is allotted a worker, by a visit at least where there is one. Looks at each row
+    /// on the way, unless the rows know better.
     fn next_allotted(&self, place: usize) -> (Option<Next>, u32)
         ensures found { IfSome result.0 (λ next. IsNext place next (rows self.now)) }
         ensures none { IfNone result.0 (NoneAllotted (rows self.now) place (length (rows self.now))) }
+        ensures entered { IfSome result.0 (λ _. 1 ≤ result.1) }
     {
         let mut visits = 0_u32;
         for next in place..self.len() {

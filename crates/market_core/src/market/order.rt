@@ -72,7 +72,8 @@ impl Market {
     fn staffing_at(&self, division: &Division, level: u32, place: usize) -> (Staffing, u32)
         requires known { place < length (rows_at self.now level) }
         requires shared { IsSharedAt level self.now division.now }
-        ensures { slice_get (rows_at self.now level) place ≡ Some result.0 }
+        ensures exact { slice_get (rows_at self.now level) place ≡ Some result.0 }
+        ensures entered { 1 ≤ result.1 }
     {
         let _ = self.arenas.len();
         let _ = self.levels;
@@ -84,11 +85,13 @@ impl Market {
         (staffing, first + more)
     }
 
-    /// The first arena from a place of a level on that is allotted a worker. Walks over no arena on the way.
+    /// The first arena from a place of a level on that is allotted a worker. Goes down the level's tree twice, and walks over
+    /// no arena on the way.
     fn next_at(&self, division: &Division, level: u32, place: usize) -> (Option<Next>, u32)
         requires shared { IsSharedAt level self.now division.now }
         ensures found { IfSome result.0 (λ next. IsNext place next (rows_at self.now level)) }
         ensures none { IfNone result.0 (NoneAllotted (rows_at self.now level) place (length (rows_at self.now level))) }
+        ensures entered { IfSome result.0 (λ _. 2 ≤ result.1) }
     {
         no_carry_to_keep();
         let _ = self.arenas.len();

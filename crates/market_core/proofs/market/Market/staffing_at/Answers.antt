@@ -7,8 +7,8 @@ use Rattle.market_types.specs.Allotment.{at_level}
 use Rattle.recall_hire.specs.Staffed.{row_of}
 use Rattle.market_core.proofs.market.Market.staffing_at.Goals as goal
 
-pub returns : goal.returns
-returns c =
+pub returns-clause-exact : goal.returns-clause-exact
+returns-clause-exact c =
     let s = c.args.self.now in
     let level = c.args.level in
     let there : slice_get (at_level level s.arenas) c.args.place ≡ Some c.in-Some.row =
