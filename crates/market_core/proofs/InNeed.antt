@@ -1,16 +1,16 @@
 -- The arena that a worker is needed at.
-use Rattle.std.proofs.Common.{◌≡◌, ◌≢◌, ℕ, suc, ◌+◌, ◌-◌, ◌<◌, Bool, true, false, ltb, List, [], ◌∷◌, ◌++◌, Option, Some, None, refl, sym, ap, ◌∙◌, arith, inl, inr}
+use Rattle.std.proofs.Common.{◌≡◌, ◌≢◌, ℕ, suc, ◌+◌, ◌-◌, ◌<◌, Bool, true, false, ltb, ◌≤◌, length, List, [], ◌∷◌, ◌++◌, Option, Some, None, refl, sym, ap, ◌∙◌, arith, inl, inr}
 use Rattle.std.specs.List.{find}
-use Rattle.std.specs.Option.{is_some}
+use Rattle.std.specs.Option.{is_some, option_map, IfSome}
 use Rattle.std.proofs.lemmas.Bool.{cases_eq, cases_Bool, eq-eqb, ne_eqb, lt-ltb}
 use Rattle.std.proofs.lemmas.Option.{same_Some}
 use Rattle.market_types.specs.State.{Arena, State}
 use Rattle.market_types.specs.Claims.{is_mandated}
 use Rattle.market_types.specs.Allotment.{active, alloc, at_level, bound_of, hire, in_order, limit_of, mandatory_pick}
-use Rattle.allotment.specs.Levels.{number_of, pick_of}
+use Rattle.allotment.specs.Levels.{number_of, pick_of, IsLeveled}
 use Rattle.recall_hire.specs.Staffed.{need_among, need_of}
 use Rattle.market_core.proofs.Allotted.{alloc-picked, all_to_number, all_to-number}
-use Rattle.market_core.proofs.Order.{levels_from}
+use Rattle.market_core.proofs.Order.{levels_from, in_order-length}
 
 -- ---- level by level
 
@@ -102,3 +102,22 @@ picked-among s picked (x ∷ xs) yes_here no_other e =
 pub need-picked : (s : State) (picked : ℕ) → limit_of s ≡ 0 → pick_of s ≡ Some picked → 0 < bound_of s - active s picked → need_of s ≡ Some picked
 need-picked s picked none e some =
     picked-among s picked (in_order s) (λ n m. omega (arith, own-hires s picked n none e m, some)) (λ n m. other-hires s picked n none e m) e
+
+-- ---- what the search enters
+
+found-by-number : (p : Arena → Bool) (arenas : List Arena) (n : ℕ) → option_map (λ (a : Arena). a.number) (find p arenas) ≡ Some n → 0 < length arenas
+found-by-number p [] n e = cc
+found-by-number p (a ∷ arenas) n e = omega arith
+
+need-some : (s : State) (n : ℕ) → IsLeveled s → need_of s ≡ Some n → 0 < length s.arenas
+need-some s n leveled e = omega (arith, in_order-length s leveled, found-by-number (λ (a : Arena). ltb 0 (hire s a.number)) (in_order s) n e)
+
+-- an arena in need is one of the market's
+pub needed-entered : (s : State) (o : Option ℕ) (v : ℕ) → IsLeveled s → o ≡ need_of s → (0 < length s.arenas → 1 ≤ v) → IfSome o (λ _. 1 ≤ v)
+needed-entered s None v leveled e f = tt
+needed-entered s (Some n) v leveled e f = f (need-some s n leveled (sym e))
+
+-- a count that was added to counts the arena that was found
+pub found-entered : (o : Option ℕ) (a b : ℕ) → IfSome o (λ _. 1 ≤ a) → a ≤ b → IfSome o (λ _. 1 ≤ b)
+found-entered None a b h more = tt
+found-entered (Some n) a b h more = omega (arith, h)

@@ -1,5 +1,5 @@
 -- A node after a row at or below it, whose request and mandate are known, was set.
-use Rattle.std.proofs.Common.{◌≡◌, Bool, ℕ, ◌+◌, ◌-◌, ◌<◌, ◌≤◌, ◌^◌, Option, Some, List, [], ◌∷◌, refl, ap, sym, ◌∙◌, arith, eqb, true, false, cond}
+use Rattle.std.proofs.Common.{◌≡◌, Bool, ℕ, ◌+◌, ◌-◌, ◌<◌, ◌≤◌, Some, List, [], ◌∷◌, refl, ap, sym, ◌∙◌, arith, eqb, true, false, cond}
 use Rattle.std.proofs.lemmas.Bool.{eqb-true}
 use Rattle.market_types.specs.declared.row.Row.{Row}
 use Rattle.prefix_tree.specs.declared.node.Node.{Node}

@@ -36,6 +36,8 @@ impl Model for Tree {
     ghost invariant = { λ a. IsTree a.root };
 }
 
+const _: () = prove!(Tree::MOST == 1024);
+
 impl Tree {
     /// The most rows that a tree holds.
     pub const MOST: usize = 1024;

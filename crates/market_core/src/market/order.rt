@@ -139,14 +139,16 @@ impl Market {
 
     /// The first arena in order that is allotted more workers than it has.
     pub(super) fn in_need(&self) -> (Option<ArenaId>, u32)
-        ensures { result.0 ≡ need_of self.now }
+        ensures exact { result.0 ≡ need_of self.now }
+        ensures entered { IfSome result.0 (λ _. 1 ≤ result.1) }
     {
+        let levels = self.levels;
         let division = &self.divide();
         let mut visits = division.visits;
         if division.limit == 0 {
             return (self.picked_in_need(division), visits);
         }
-        for level in 0..self.levels {
+        for level in 0..levels {
             let (found, more) = first_in_need(&LevelOrder {
                 market: self,
                 division,

@@ -1,8 +1,9 @@
 use Rattle.std.proofs.Common.{arith, refl, sym, ap, ◌∙◌, ◌≡◌, ◌-◌, ◌+◌}
 use Rattle.market_types.specs.State.{State}
-use Rattle.market_types.specs.Allotment.{at_level}
+use Rattle.market_types.specs.Allotment.{at_level, limit_of}
+use Rattle.market_core.specs.Sound.{IsSound}
 use Rattle.recall_hire.specs.Staffed.{need_among}
-use Rattle.market_core.proofs.InNeed.{need-found, need-later, need-done}
+use Rattle.market_core.proofs.InNeed.{need-found, need-later, need-done, needed-entered, found-entered}
 use Rattle.market_core.proofs.market.Market.in_need.Goals as goal
 use Rattle.market_core.proofs.Order.{levels_from}
 
@@ -18,8 +19,12 @@ returns-then-is_some c =
     let level = c.loop-level.level in
     let levels : c.self.inside.levels ≡ s.levels = ap (λ (t : State). t.levels) c.self.view_is in
     let here : c.first_in_need-more.result.0 ≡ need_among s (at_level (level + 1) s.arenas) = c.first_in_need-more.ensures.in_market s (at_level (level + 1) s.arenas) refl in
-    need-found s (level + 1) (s.levels - (level + 1)) (s.levels - level) c.first_in_need-more.result.0 (omega (arith, levels, c.loop-level-test.true)) (sym c.is_some.ensures ∙ c.if-is_some.true) here
-    ∙ sym c.loop-level.invariant
+    record {
+      exact =
+          need-found s (level + 1) (s.levels - (level + 1)) (s.levels - level) c.first_in_need-more.result.0 (omega (arith, levels, c.loop-level-test.true)) (sym c.is_some.ensures ∙ c.if-is_some.true) here
+          ∙ sym c.loop-level.invariant;
+      entered = found-entered c.first_in_need-more.result.0 c.first_in_need-more.result.1 c.saturating_add-visits.result c.first_in_need-more.ensures.entered (omega (arith, c.saturating_add-visits.ensures));
+    }
 
 pub loop-level-preserved : goal.loop-level-preserved
 loop-level-preserved c =
@@ -35,4 +40,14 @@ returns c =
     let s = c.args.self.now in
     let level = c.loop-level.level in
     let levels : c.self.inside.levels ≡ s.levels = ap (λ (t : State). t.levels) c.self.view_is in
-    sym (c.loop-level.invariant ∙ need-done s (level + 1) (s.levels - level) (omega (arith, levels, c.loop-level-test.false)))
+    record {
+      exact = sym (c.loop-level.invariant ∙ need-done s (level + 1) (s.levels - level) (omega (arith, levels, c.loop-level-test.false)));
+      entered = tt;
+    }
+
+pub returns-then-division-eq0-clause-entered : goal.returns-then-division-eq0-clause-entered
+returns-then-division-eq0-clause-entered c =
+    let s = c.args.self.now in
+    let sound : IsSound s = rw c.self.view_is at c.self.invariant in
+    let none : limit_of s ≡ 0 = sym c.divide.ensures.exact.limit ∙ c.if-division-eq0.true in
+    needed-entered s c.picked_in_need.result c.divide.result.visits sound.leveled c.picked_in_need.ensures (c.divide.ensures.entered none)

@@ -1,4 +1,4 @@
-use Rattle.std.proofs.Common.{arith, refl, sym, ◌≡◌, ◌<◌, ◌≤◌}
+use Rattle.std.proofs.Common.{arith, refl, ◌≡◌, ◌<◌, ◌≤◌}
 use Rattle.prefix_tree.proofs.AtNode.{at_node}
 use Rattle.prefix_tree.proofs.Sets.{rows_right, rows_left, rows_here}
 use Rattle.prefix_tree.proofs.Updates.{IsAt, sum_holds, mandates_hold, newer_holds, small_below, there_right, there_left, updated_right, updated_left, updated_here}

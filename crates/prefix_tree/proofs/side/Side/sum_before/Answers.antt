@@ -1,5 +1,4 @@
-use Rattle.std.proofs.Common.{arith, ap, ◌≡◌, ◌<◌, ℕ, List}
-use Rattle.market_types.specs.declared.row.Row.{Row}
+use Rattle.std.proofs.Common.{arith, ap, ◌<◌, ℕ}
 use Rattle.prefix_tree.proofs.Readings.{above-le}
 use Rattle.prefix_tree.proofs.AtNode.{at_node, right_above, left_above, here_above}
 use Rattle.prefix_tree.proofs.side.Side.sum_before.Goals as goal
