@@ -23,7 +23,6 @@ impl Market {
     /// Control and Lists can give an `Err`, where there is no memory, and after one the market is as before. The seat is one
     /// that the market has. After a worker was placed its arena has no more than it is allotted, and after one was recalled
     /// no fewer.
-    // A caller that knows the command keeps its arm alone.
     #[inline(always)]
     pub fn apply(&mut self, alloc: Global, seat: SeatNo, cmd: Cmd) -> Result<Reply, AllocError>
         requires seat { seat < length self.old.seats }
@@ -65,7 +64,7 @@ impl Market {
         Ok((reply, u64::from(visits)))
     }
 
-    /// The command's own function.
+    /// The command's own function. A caller that knows the command keeps its arm alone, since all three are inlined.
     #[inline(always)]
     fn serve(&mut self, alloc: Global, seat: SeatNo, cmd: Cmd) -> Result<(Reply, u32), AllocError>
         requires seat { seat < length self.old.seats }
