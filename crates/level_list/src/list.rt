@@ -12,7 +12,8 @@ use std::marker::Model;
 /// see it as the list of its rows, newest first.
 ///
 /// A call on `n` rows enters at most twice as many nodes as `n` has binary digits, and one more where it puts a row
-/// in; `rows` enters all. The last part of its answer is their number. Only `push` and `rows` take memory.
+/// in; where its way goes to an end of the tree, at least half as many; `rows` enters all. The last part of its answer is
+/// their number. Only `push` and `rows` take memory.
 #[derive(Drop)]
 pub struct LevelList {
     rows: Tree,
@@ -63,6 +64,7 @@ impl LevelList {
     pub fn before(&self, stamp: u32) -> (u64, u32)
         ensures exact { result.0 ≡ requests_above stamp self.now }
         ensures entered { 0 < length self.now → 1 ≤ result.1 }
+        ensures deep { IsAbsent stamp self.now → bits (length self.now) ≤ 2 * result.1 }
         ensures visits { result.1 ≤ 2 * bits (length self.now) }
     {
         self.rows.sum_before(stamp)
@@ -72,6 +74,7 @@ impl LevelList {
     pub fn walk(&self, place: usize) -> (Option<Row>, u32)
         ensures exact { result.0 ≡ slice_get self.now place }
         ensures entered { 0 < length self.now → 1 ≤ result.1 }
+        ensures deep { IfNone result.0 (bits (length self.now) ≤ 2 * result.1) }
         ensures visits { result.1 ≤ 2 * bits (length self.now) }
     {
         self.rows.walk(place)
@@ -81,6 +84,7 @@ impl LevelList {
     pub fn first_mandated(&self) -> (Option<Row>, u32)
         ensures exact { result.0 ≡ first_mandated self.now }
         ensures entered { 0 < length self.now → 1 ≤ result.1 }
+        ensures deep { IfNone result.0 (bits (length self.now) ≤ 2 * result.1) }
         ensures visits { result.1 ≤ 2 * bits (length self.now) }
     {
         self.rows.first_mandated()
@@ -91,6 +95,7 @@ impl LevelList {
         ensures some { IfSome result.0 (λ passing. IsPassing sum passing self.now) }
         ensures none { IfNone result.0 (requests self.now ≤ sum) }
         ensures entered { 0 < length self.now → 1 ≤ result.1 }
+        ensures deep { IfNone result.0 (bits (length self.now) ≤ 2 * result.1) }
         ensures visits { result.1 ≤ 2 * bits (length self.now) }
     {
         self.rows.passing(sum)
@@ -100,6 +105,7 @@ impl LevelList {
     pub fn sum_to(&self, place: usize) -> (u64, u32)
         ensures exact { result.0 ≡ requests (take place self.now) }
         ensures entered { 0 < length self.now → 1 ≤ result.1 }
+        ensures deep { bits (length self.now) ≤ 2 * result.1 }
         ensures visits { result.1 ≤ 2 * bits (length self.now) }
     {
         self.rows.sum_to(place)
@@ -110,6 +116,7 @@ impl LevelList {
         ensures exact { result.0 ≡ place_of stamp self.now }
         ensures none { IfNone result.0 (IsAbsent stamp self.now) }
         ensures entered { 0 < length self.now → 1 ≤ result.1 }
+        ensures deep { IfNone result.0 (bits (length self.now) ≤ 2 * result.1) }
         ensures visits { result.1 ≤ 2 * bits (length self.now) }
     {
         self.rows.place_of(stamp)
@@ -130,6 +137,7 @@ impl LevelList {
         ensures rows { self.new ≡ set_row stamp request mandated self.old }
         ensures newest_first { IsNewestFirst self.new }
         ensures entered { 0 < length self.old → 1 ≤ result }
+        ensures deep { IsAbsent stamp self.old → bits (length self.old) ≤ 2 * result }
         ensures visits { result ≤ 2 * bits (length self.old) }
     {
         self.rows.set(stamp, request, mandated)
@@ -156,6 +164,7 @@ impl LevelList {
         requires newest { All (λ older. older.stamp < row.stamp) self.old }
         ensures rows { self.new ≡ (if is_ok result then row ∷ self.old else self.old) }
         ensures newest_first { OnOk result (IsNewestFirst self.new) }
+        ensures deep { IfOk result (λ visits. bits (length self.old) + 1 ≤ 2 * visits) }
         ensures visits { IfOk result (λ visits. (1 ≤ visits) × (visits ≤ 2 * bits (length self.old) + 1)) }
     {
         self.rows.insert(alloc, row)
@@ -169,6 +178,7 @@ impl LevelList {
         ensures rows { self.new ≡ record taken { stamp = stamp } ∷ self.old }
         ensures newest_first { IsNewestFirst self.new }
         ensures low { 1 ≤ result }
+        ensures deep { bits (length self.old) + 1 ≤ 2 * result }
         ensures visits { result ≤ 2 * bits (length self.old) + 1 }
     {
         self.rows.put_node(taken, stamp)
@@ -181,6 +191,7 @@ impl LevelList {
         ensures newest_first { IsNewestFirst self.new }
         ensures room { IfSome result.0 (λ _. length self.new < 1024) }
         ensures entered { 0 < length self.old → 1 ≤ result.1 }
+        ensures deep { bits (length self.old) ≤ 2 * result.1 }
         ensures visits { result.1 ≤ 2 * bits (length self.old) }
     {
         self.rows.take_node(stamp)

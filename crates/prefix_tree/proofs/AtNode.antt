@@ -3,10 +3,12 @@ use Rattle.std.specs.List.{slice_get}
 use Rattle.std.proofs.Common.{refl, ◌≡◌, ℕ, suc, ◌+◌, ◌<◌, ◌≤◌, true, false, List, ◌∷◌, ◌++◌, length, take, Box, sym, ap, ◌∙◌, subst, Option, Some, arith}
 use Rattle.std.specs.declared.alloc.Global.{Global}
 use Rattle.market_types.specs.declared.row.Row.{Row}
-use Rattle.prefix_tree.specs.Rows.{IsPassing, requests, requests_above, first_mandated}
+use Rattle.prefix_tree.specs.Rows.{IsAbsent, IsPassing, requests, requests_above, first_mandated}
 use Rattle.prefix_tree.specs.Nodes.{mandates, rows_in, rows_of, height_of, IsSound, IsSoundNode}
 use Rattle.prefix_tree.specs.declared.node.Node.{Node}
 use Rattle.prefix_tree.specs.declared.passing.Passing.{Passing}
+use Rattle.std.proofs.lemmas.List.Elements.{All-head, All-tail}
+use Rattle.prefix_tree.proofs.Ordered.{all-front, all-back}
 use Rattle.prefix_tree.proofs.Readings.{above_right, above_left, above_here, first-left, first-here, passing_left, passing_here, passing_right, taken_left, taken_right, place_from, place_left, place_right, place_here, get_left, get_right, get_here, length-node, requests-node}
 
 -- the node is the topmost one of d
@@ -16,13 +18,15 @@ pub record AtNode (d : List Row × ℕ) (n : Node) : Type 0 where
   pub sound : IsSoundNode n
   pub lower_left : n.left.1 < d.1
   pub lower_right : n.right.1 < d.1
+  pub deep_left : d.1 ≤ n.left.1 + 2
+  pub deep_right : d.1 ≤ n.right.1 + 2
   pub lengths : length d.0 ≡ length n.left.0 + length n.right.0 + 1
 
 -- a sound node, seen as the side that it tops
 pub whole_node : {n : Node} → IsSoundNode n → AtNode (rows_in n, n.height) n
 whole_node {n} g =
     let b = g.balanced in
-    record { rows = refl; height = refl; sound = g; lower_left = omega (arith, b.height); lower_right = omega (arith, b.height); lengths = length-node n.left.0 n.row n.right.0 }
+    record { rows = refl; height = refl; sound = g; lower_left = omega (arith, b.height); lower_right = omega (arith, b.height); deep_left = omega (arith, b.height, b.near.left, b.near.right); deep_right = omega (arith, b.height, b.near.left, b.near.right); lengths = length-node n.left.0 n.row n.right.0 }
 
 -- the node in a side's box
 pub at_node : {root : Option (Box Node Global)} {d : List Row × ℕ} {b : Box Node Global} {n : Node} → (rows_of root, height_of root) ≡ d → IsSound root → root ≡ Some b → n ≡ b.value → AtNode d n
@@ -102,3 +106,15 @@ here_place {d} {n} f k s h = rw f.rows (place_here k s n.left.0 n.row n.right.0 
 -- of a stamp below the node: on the right
 pub right_place : {d : List Row × ℕ} {n : Node} → AtNode d n → (k s j : ℕ) → s < n.row.stamp → j ≡ k + length n.left.0 + 1 → place_from k s d.0 ≡ place_from j s n.right.0
 right_place {d} {n} f k s j h e = rw (f.rows, e) (place_right k s n.left.0 n.row n.right.0 f.sound.ordered h)
+
+-- a stamp that is not there is not on the left
+pub left_absent : {d : List Row × ℕ} {n : Node} → AtNode d n → (k : ℕ) → IsAbsent k d.0 → IsAbsent k n.left.0
+left_absent {d} {n} f k a = all-front (λ y. y.stamp ≡ k → ⊥) n.left.0 (n.row ∷ n.right.0) (rw f.rows at a)
+
+-- nor on the right
+pub right_absent : {d : List Row × ℕ} {n : Node} → AtNode d n → (k : ℕ) → IsAbsent k d.0 → IsAbsent k n.right.0
+right_absent {d} {n} f k a = All-tail (λ y. y.stamp ≡ k → ⊥) n.row n.right.0 (all-back (λ y. y.stamp ≡ k → ⊥) n.left.0 (n.row ∷ n.right.0) (rw f.rows at a))
+
+-- nor the node's
+pub here_absent : {d : List Row × ℕ} {n : Node} → AtNode d n → (k : ℕ) → IsAbsent k d.0 → n.row.stamp ≡ k → ⊥
+here_absent {d} {n} f k a = All-head (λ y. y.stamp ≡ k → ⊥) n.row n.right.0 (all-back (λ y. y.stamp ≡ k → ⊥) n.left.0 (n.row ∷ n.right.0) (rw f.rows at a))

@@ -26,7 +26,7 @@ assoc o j i x r = append_assoc o (j ∷ i) (x ∷ r)
 
 -- what can stand together, from what cannot be computed
 pub joins : (l : List Row × ℕ) (x : Row) (r : List Row × ℕ) → IsNewestFirst (l.0 ++ x ∷ r.0) → IsFilled l → IsFilled r → requests l.0 + x.request + requests r.0 < 2 ^ 32 → length l.0 + length r.0 < 2 ^ 29 → CanJoin l x r
-joins l x r d p q s n = record { ordered = d; filled_left = p; filled_right = q; height_left = omega (arith, height-le-rows l.1 (length l.0) p); height_right = omega (arith, height-le-rows r.1 (length r.0) q); sum = s; count = n }
+joins l x r d p q s n = record { ordered = d; filled_left = p; filled_right = q; height_left = omega (arith, height-le-rows l.1 (length l.0) p.least); height_right = omega (arith, height-le-rows r.1 (length r.0) q.least); sum = s; count = n }
 
 -- the left side opens to o j i: its inner side with the right one
 pub low_left : {l o i r : List Row × ℕ} {x j : Row} → CanJoin l x r → OpensTo l j o i → CanJoin i x r

@@ -15,9 +15,15 @@ rows_for zero = 0
 rows_for (suc zero) = 1
 rows_for (suc (suc height)) = rows_for height + rows_for height + 1
 
--- a side has the rows that its height needs
-abbrev pub IsFilled : List Row × ℕ → Type 0
-IsFilled side = rows_for side.1 ≤ length side.0
+-- no tree of this height has more rows
+abbrev pub room_for : ℕ → ℕ
+room_for zero = 0
+room_for (suc height) = room_for height + room_for height + 1
+
+-- a side has the rows that its height needs, and no more than it has room for
+pub record IsFilled (side : List Row × ℕ) : Type 0 where
+  pub least : rows_for side.1 ≤ length side.0
+  pub most : length side.0 ≤ room_for side.1
 
 -- the rows at and below a node
 abbrev pub rows_in : Node → List Row

@@ -16,6 +16,7 @@ impl Side {
         ensures rows { self.new.0 ≡ set_row stamp request mandated self.old.0 }
         ensures height { self.new.1 ≡ self.old.1 }
         ensures entered { 0 < length self.old.0 → 1 ≤ result }
+        ensures deep { IsAbsent stamp self.old.0 → self.old.1 ≤ result + result }
         ensures visits { result ≤ self.old.1 }
     {
         let Some(node) = &mut self.root else { return 0 };
@@ -85,6 +86,7 @@ impl Side {
         ensures rows { result.0.0 ≡ insert_row node.value.row self.0 }
         ensures height { IsBetween self.1 (self.1 + 1) result.0.1 }
         ensures filled { IsFilled result.0 }
+        ensures deep { self.1 + 1 ≤ result.1 + result.1 }
         ensures visits { IsBetween 1 (self.1 + 1) result.1 }
     {
         if self.count() == 0 {
@@ -109,6 +111,7 @@ impl Side {
         ensures height { IsBetween result.0.1 (result.0.1 + 1) self.1 }
         ensures filled { IsFilled result.0 }
         ensures entered { 0 < length self.0 → 1 ≤ result.2 }
+        ensures deep { self.1 ≤ result.2 + result.2 }
         ensures visits { result.2 ≤ self.1 }
     {
         if self.count() == 0 {
@@ -137,6 +140,7 @@ impl Side {
         ensures rows { self.0 ≡ result.0.value.row ∷ result.1.0 }
         ensures height { IsBetween result.1.1 (result.1.1 + 1) self.1 }
         ensures filled { IsFilled result.1 }
+        ensures deep { self.1 ≤ result.2 + result.2 }
         ensures visits { result.2 ≤ self.1 }
     {
         let (here, left, right) = self.open();

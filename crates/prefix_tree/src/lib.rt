@@ -24,8 +24,9 @@
 //!
 //! Each call but `new`, `len`, `is_empty` and `total` says how many nodes of its search path it entered, the new or
 //! replaced node included; nodes that only a rotation touches are not counted. That this number is no more than it may
-//! be is proved, and that it is one at least where there are rows. That no visit between is left out is seen by reading:
-//! a node is entered by `node::visit` alone, once on each turn of a loop and on each call of a recursion.
+//! be is proved, and that it is one at least where there are rows, and half the digits at least where the way goes to an
+//! end of the tree. That no visit between is left out is seen by reading: a node is entered by `node::visit` alone, once
+//! on each turn of a loop and on each call of a recursion.
 #![tactic(auto)]
 
 mod balance;

@@ -1,6 +1,6 @@
 //! Reading a side: one walk down from its topmost node.
-ghost use Rattle.std.specs.Prelude.{◌≡◌, ◌<◌, ◌≤◌, ◌++◌, length, IfNone, IfSome, IsOk, IfOk, OnOk, slice_get, take};
-ghost use Rattle.prefix_tree.specs.Rows.{requests, requests_above, first_mandated, IsPassing, place_of};
+ghost use Rattle.std.specs.Prelude.{◌≡◌, ◌+◌, ◌<◌, ◌≤◌, ◌++◌, length, IfNone, IfSome, IsOk, IfOk, OnOk, slice_get, take};
+ghost use Rattle.prefix_tree.specs.Rows.{IsAbsent, requests, requests_above, first_mandated, IsPassing, place_of};
 ghost use Rattle.prefix_tree.specs.Nodes.{IsSmall};
 
 use crate::node::{Node, visit};
@@ -15,6 +15,7 @@ impl Side {
         requires { IsSmall self.now }
         ensures sum { result.0 ≡ requests_above stamp self.now.0 }
         ensures entered { 0 < length self.now.0 → 1 ≤ result.1 }
+        ensures deep { IsAbsent stamp self.now.0 → self.now.1 ≤ result.1 + result.1 }
         ensures visits { result.1 ≤ self.now.1 }
     {
         let mut before = 0u64;
@@ -44,6 +45,7 @@ impl Side {
         requires { IsSmall self.now }
         ensures row { result.0 ≡ slice_get self.now.0 place }
         ensures entered { 0 < length self.now.0 → 1 ≤ result.1 }
+        ensures deep { IfNone result.0 (self.now.1 ≤ result.1 + result.1) }
         ensures visits { result.1 ≤ self.now.1 }
     {
         let mut rest = place;
@@ -70,6 +72,7 @@ impl Side {
         requires { IsSmall self.now }
         ensures row { result.0 ≡ first_mandated self.now.0 }
         ensures entered { 0 < length self.now.0 → 1 ≤ result.1 }
+        ensures deep { IfNone result.0 (self.now.1 ≤ result.1 + result.1) }
         ensures visits { result.1 ≤ self.now.1 }
     {
         let mut visits = 0;
@@ -94,6 +97,7 @@ impl Side {
         ensures some { IfSome result.0 (λ passing. IsPassing sum passing self.now.0) }
         ensures none { IfNone result.0 (requests self.now.0 ≤ sum) }
         ensures entered { 0 < length self.now.0 → 1 ≤ result.1 }
+        ensures deep { IfNone result.0 (self.now.1 ≤ result.1 + result.1) }
         ensures visits { result.1 ≤ self.now.1 }
     {
         let mut rest = sum;
@@ -128,6 +132,7 @@ impl Side {
         requires { IsSmall self.now }
         ensures sum { result.0 ≡ requests (take place self.now.0) }
         ensures entered { 0 < length self.now.0 → 1 ≤ result.1 }
+        ensures deep { self.now.1 ≤ result.1 + result.1 }
         ensures visits { result.1 ≤ self.now.1 }
     {
         let mut rest = place;
@@ -154,6 +159,7 @@ impl Side {
         requires { IsSmall self.now }
         ensures place { result.0 ≡ place_of stamp self.now.0 }
         ensures entered { 0 < length self.now.0 → 1 ≤ result.1 }
+        ensures deep { IfNone result.0 (self.now.1 ≤ result.1 + result.1) }
         ensures visits { result.1 ≤ self.now.1 }
     {
         let mut newer = 0usize;

@@ -17,7 +17,8 @@ use std::mem;
 /// as the list of its rows, newest first.
 ///
 /// A call on `n` rows enters at most twice as many nodes as `n` has binary digits, and one more where it puts a row
-/// in; `rows` enters all. The last part of its answer is their number. Only `insert` and `rows` take memory.
+/// in; where its way goes to an end of the tree, at least half as many; `rows` enters all. The last part of its answer is
+/// their number. Only `insert` and `rows` take memory.
 #[derive(Drop)]
 pub struct Tree {
     root: Side,
@@ -77,6 +78,7 @@ impl Tree {
     pub fn sum_before(&self, stamp: u32) -> (u64, u32)
         ensures exact { result.0 ≡ requests_above stamp self.now }
         ensures entered { 0 < length self.now → 1 ≤ result.1 }
+        ensures deep { IsAbsent stamp self.now → bits (length self.now) ≤ 2 * result.1 }
         ensures visits { result.1 ≤ 2 * bits (length self.now) }
     {
         self.root.sum_before(stamp)
@@ -86,6 +88,7 @@ impl Tree {
     pub fn walk(&self, place: usize) -> (Option<Row>, u32)
         ensures exact { result.0 ≡ slice_get self.now place }
         ensures entered { 0 < length self.now → 1 ≤ result.1 }
+        ensures deep { IfNone result.0 (bits (length self.now) ≤ 2 * result.1) }
         ensures visits { result.1 ≤ 2 * bits (length self.now) }
     {
         self.root.walk(place)
@@ -95,6 +98,7 @@ impl Tree {
     pub fn first_mandated(&self) -> (Option<Row>, u32)
         ensures exact { result.0 ≡ first_mandated self.now }
         ensures entered { 0 < length self.now → 1 ≤ result.1 }
+        ensures deep { IfNone result.0 (bits (length self.now) ≤ 2 * result.1) }
         ensures visits { result.1 ≤ 2 * bits (length self.now) }
     {
         self.root.first_mandated()
@@ -105,6 +109,7 @@ impl Tree {
         ensures some { IfSome result.0 (λ passing. IsPassing sum passing self.now) }
         ensures none { IfNone result.0 (requests self.now ≤ sum) }
         ensures entered { 0 < length self.now → 1 ≤ result.1 }
+        ensures deep { IfNone result.0 (bits (length self.now) ≤ 2 * result.1) }
         ensures visits { result.1 ≤ 2 * bits (length self.now) }
     {
         self.root.passing(sum)
@@ -114,6 +119,7 @@ impl Tree {
     pub fn sum_to(&self, place: usize) -> (u64, u32)
         ensures exact { result.0 ≡ requests (take place self.now) }
         ensures entered { 0 < length self.now → 1 ≤ result.1 }
+        ensures deep { bits (length self.now) ≤ 2 * result.1 }
         ensures visits { result.1 ≤ 2 * bits (length self.now) }
     {
         self.root.sum_to(place)
@@ -124,6 +130,7 @@ impl Tree {
         ensures exact { result.0 ≡ place_of stamp self.now }
         ensures none { IfNone result.0 (IsAbsent stamp self.now) }
         ensures entered { 0 < length self.now → 1 ≤ result.1 }
+        ensures deep { IfNone result.0 (bits (length self.now) ≤ 2 * result.1) }
         ensures visits { result.1 ≤ 2 * bits (length self.now) }
     {
         self.root.place_of(stamp)
@@ -146,6 +153,7 @@ impl Tree {
         ensures rows { self.new ≡ set_row stamp request mandated self.old }
         ensures newest_first { IsNewestFirst self.new }
         ensures entered { 0 < length self.old → 1 ≤ result }
+        ensures deep { IsAbsent stamp self.old → bits (length self.old) ≤ 2 * result }
         ensures visits { result ≤ 2 * bits (length self.old) }
     {
         self.root.set(stamp, request, mandated)
@@ -171,6 +179,7 @@ impl Tree {
         requires absent { IsAbsent row.stamp self.old }
         ensures rows { self.new ≡ (if is_ok result then insert_row row self.old else self.old) }
         ensures newest_first { OnOk result (IsNewestFirst self.new) }
+        ensures deep { IfOk result (λ visits. bits (length self.old) + 1 ≤ 2 * visits) }
         ensures visits { IfOk result (λ visits. (1 ≤ visits) × (visits ≤ 2 * bits (length self.old) + 1)) }
     {
         let node = Box::new(alloc, Node::new(row))?;
@@ -184,6 +193,7 @@ impl Tree {
         ensures rows { self.new ≡ insert_row (record taken { stamp = stamp }) self.old }
         ensures newest_first { IsNewestFirst self.new }
         ensures low { 1 ≤ result }
+        ensures deep { bits (length self.old) + 1 ≤ 2 * result }
         ensures visits { result ≤ 2 * bits (length self.old) + 1 }
     {
         let mut node = taken.node;
@@ -199,6 +209,7 @@ impl Tree {
         ensures absent { IsAbsent stamp self.new }
         ensures room { IfSome result.0 (λ _. length self.new < 1024) }
         ensures entered { 0 < length self.old → 1 ≤ result.1 }
+        ensures deep { bits (length self.old) ≤ 2 * result.1 }
         ensures visits { result.1 ≤ 2 * bits (length self.old) }
     {
         let (node, visits) = self.take(stamp);
@@ -211,12 +222,13 @@ impl Tree {
     /// Takes the node with that stamp out.
     fn take(&mut self, stamp: u32) -> (Option<Box<Node>>, u32)
         ensures taken { row_of result.0 ≡ row_at stamp self.old }
-        ensures low { IfSome (row_of result.0) (λ row. row.request ≤ 65535) }
         ensures rows { self.new ≡ without stamp self.old }
         ensures newest_first { IsNewestFirst self.new }
         ensures absent { IsAbsent stamp self.new }
         ensures room { IfSome (row_of result.0) (λ _. length self.new < 1024) }
+        ensures low { IfSome (row_of result.0) (λ row. row.request ≤ 65535) }
         ensures entered { 0 < length self.old → 1 ≤ result.1 }
+        ensures deep { bits (length self.old) ≤ 2 * result.1 }
         ensures visits { result.1 ≤ 2 * bits (length self.old) }
     {
         let root = mem::replace(&mut self.root, Side::new());
@@ -233,6 +245,7 @@ impl Tree {
         ensures rows { self.new ≡ insert_row node.value.row self.old }
         ensures newest_first { IsNewestFirst self.new }
         ensures low { 1 ≤ result }
+        ensures deep { bits (length self.old) + 1 ≤ 2 * result }
         ensures visits { result ≤ 2 * bits (length self.old) + 1 }
     {
         let root = mem::replace(&mut self.root, Side::new());

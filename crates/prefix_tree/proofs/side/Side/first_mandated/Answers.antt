@@ -6,7 +6,7 @@ use Rattle.prefix_tree.proofs.side.Side.first_mandated.Goals as goal
 pub loop-side-preserved-then-mandates-gt0 : goal.loop-side-preserved-then-mandates-gt0
 loop-side-preserved-then-mandates-gt0 c =
     let n = at_node c.side.view_is c.side.invariant c.in-Some.is c.deref-node.ensures in
-    record { same = sym (left_mandated n (omega arith)) ∙ c.loop-side.invariant.same; entered = λ h. omega arith; visits = omega arith }
+    record { same = sym (left_mandated n (omega arith)) ∙ c.loop-side.invariant.same; entered = λ h. omega arith; visits = omega arith; deep = omega (arith, n.deep_left) }
 
 pub returns-then-node-clause-row : goal.returns-then-node-clause-row
 returns-then-node-clause-row c =
@@ -17,4 +17,4 @@ returns-then-node-clause-row c =
 pub loop-side-preserved : goal.loop-side-preserved
 loop-side-preserved c =
     let n = at_node c.side.view_is c.side.invariant c.in-Some.is c.deref-node.ensures in
-    record { same = sym (right_mandated n (omega arith) c.if-node.false) ∙ c.loop-side.invariant.same; entered = λ h. omega arith; visits = omega arith }
+    record { same = sym (right_mandated n (omega arith) c.if-node.false) ∙ c.loop-side.invariant.same; entered = λ h. omega arith; visits = omega arith; deep = omega (arith, n.deep_right) }

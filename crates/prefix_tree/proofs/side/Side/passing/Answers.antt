@@ -13,6 +13,7 @@ loop-side-init c =
       room = omega arith;
       entered = λ h. omega arith;
       visits = omega arith;
+      deep = omega arith;
     }
 
 pub loop-side-preserved-then-rest-before : goal.loop-side-preserved-then-rest-before
@@ -25,6 +26,7 @@ loop-side-preserved-then-rest-before c =
       room = omega (arith, n.lengths);
       entered = λ h. omega arith;
       visits = omega (arith, n.lower_left);
+      deep = omega (arith, n.deep_left);
     }
 
 pub returns-then-rest-before-2-clause-some : goal.returns-then-rest-before-2-clause-some
@@ -47,4 +49,5 @@ loop-side-preserved c =
       room = omega (arith, n.lengths);
       entered = λ h. omega arith;
       visits = omega (arith, n.lower_right);
+      deep = omega (arith, n.deep_right);
     }

@@ -14,6 +14,7 @@ loop-side-preserved-then-rest-newer c =
       most = omega (arith, node_requests n);
       entered = λ h. omega arith;
       visits = omega (arith, n.lower_left);
+      deep = omega (arith, n.deep_left);
     }
 
 pub loop-side-preserved : goal.loop-side-preserved
@@ -24,6 +25,7 @@ loop-side-preserved c =
       most = omega (arith, node_requests n);
       entered = λ h. omega arith;
       visits = omega (arith, n.lower_right);
+      deep = omega (arith, n.deep_right);
     }
 
 pub returns-clause-sum : goal.returns-clause-sum

@@ -8,6 +8,7 @@ invariant-loop-side l = record {
   most : l.before + requests l.side.0 ≤ requests l.self.0;
   entered : 0 < length l.self.0 → 0 < l.visits + length l.side.0;
   visits : l.visits + l.side.1 ≤ l.self.1;
+  deep : l.self.1 ≤ l.visits + l.visits + l.side.1;
 }
 
 abbrev pub decreases-loop-side : goal.decreases-loop-side

@@ -1,5 +1,5 @@
 use Rattle.std.proofs.Common.{arith}
-use Rattle.prefix_tree.proofs.Whole.{small_tree, tree_height}
+use Rattle.prefix_tree.proofs.Whole.{small_tree, tree_height, deep_none}
 use Rattle.prefix_tree.proofs.tree.Tree.passing.Goals as goal
 
 pub passing-requires : goal.passing-requires
@@ -7,3 +7,6 @@ passing-requires c = small_tree c.self.invariant
 
 pub returns-clause-visits : goal.returns-clause-visits
 returns-clause-visits c = rw (← c.self.view_is) (omega (arith, tree_height c.self.invariant))
+
+pub returns-clause-deep : goal.returns-clause-deep
+returns-clause-deep c = rw (← c.self.view_is) (deep_none c.passing.result.0 c.passing.result.1 c.self.invariant c.passing.ensures.deep)

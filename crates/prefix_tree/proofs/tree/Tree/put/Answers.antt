@@ -1,5 +1,5 @@
 use Rattle.std.proofs.Common.{arith}
-use Rattle.prefix_tree.proofs.Whole.{small_tree, tree_height, inserted}
+use Rattle.prefix_tree.proofs.Whole.{small_tree, tree_height, tree_deep, inserted}
 use Rattle.prefix_tree.proofs.tree.Tree.put.Goals as goal
 
 pub put-root-requires-clause-small : goal.put-root-requires-clause-small
@@ -16,3 +16,8 @@ pub returns-clause-visits : goal.returns-clause-visits
 returns-clause-visits c =
     let visits = rw c.replace-root.ensures.value at c.put-root.ensures.visits in
     rw (← c.self.view_is) (omega (arith, tree_height c.self.invariant))
+
+pub returns-clause-deep : goal.returns-clause-deep
+returns-clause-deep c =
+    let deep = rw c.replace-root.ensures.value at c.put-root.ensures.deep in
+    rw (← c.self.view_is) (omega (arith, tree_deep c.self.invariant))
