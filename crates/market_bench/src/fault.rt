@@ -17,14 +17,37 @@ pub enum BenchFault {
     System(io::Error),
 }
 
-impl From<AllocError> for BenchFault {
+/// Why a turn of commands stops. It is small, so that a turn costs what its commands cost.
+#[derive(Clone, Copy, Debug, PartialEq, Eq)]
+pub enum TurnFault {
+    /// There was no memory.
+    Memory,
+    /// The market refused a command.
+    Refused,
+}
+
+impl From<AllocError> for TurnFault {
     ghost use Rattle.std.specs.Prelude.{◌≡◌};
-    ghost use Rattle.market_bench.specs.declared.fault.BenchFault.TheVariants.{Memory};
+    ghost use Rattle.market_bench.specs.declared.fault.TurnFault.TheVariants.{Memory};
 
     ghost from_gives = { λ _ fault. fault ≡ Memory };
 
-    fn from(_error: AllocError) -> BenchFault {
-        BenchFault::Memory
+    fn from(_error: AllocError) -> TurnFault {
+        TurnFault::Memory
+    }
+}
+
+impl From<TurnFault> for BenchFault {
+    ghost use Rattle.std.specs.Prelude.{◌≡◌};
+    ghost use Rattle.market_bench.specs.Faults.{told_as};
+
+    ghost from_gives = { λ turn fault. fault ≡ told_as turn };
+
+    fn from(turn: TurnFault) -> BenchFault {
+        match turn {
+            TurnFault::Memory => BenchFault::Memory,
+            TurnFault::Refused => BenchFault::Refused,
+        }
     }
 }
 

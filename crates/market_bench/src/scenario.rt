@@ -1,7 +1,7 @@
 //! What is measured.
 ghost use Rattle.std.specs.Prelude.{◌≡◌, ◌<◌, ◌≤◌, IfOk};
 
-use crate::fault::BenchFault;
+use crate::fault::{BenchFault, TurnFault};
 use crate::stage::Stage;
 use market_types::Cmd;
 use std::alloc::Global;
@@ -72,7 +72,8 @@ impl Scenario {
     }
 
     /// One turn. The result is a number out of its replies.
-    fn turn(self, stage: &mut Stage, turn: u64) -> Result<u64, BenchFault> {
+    #[inline(always)]
+    fn turn(self, stage: &mut Stage, turn: u64) -> Result<u64, TurnFault> {
         match self {
             Scenario::Request => request(stage, turn),
             Scenario::RequestShow => {
@@ -93,7 +94,7 @@ impl Scenario {
 
     /// All turns of a round. The result is the sum of their numbers.
     #[inline(never)]
-    pub fn round(self, stage: &mut Stage) -> Result<u64, BenchFault> {
+    pub fn round(self, stage: &mut Stage) -> Result<u64, TurnFault> {
         let mut sum = 0u64;
         for turn in 0..self.turns() {
             sum = sum.wrapping_add(self.turn(stage, u64::from(turn))?);
@@ -103,7 +104,8 @@ impl Scenario {
 }
 
 /// An arena asks for one worker more in an even turn, and for one less in the odd turn after it.
-fn request(stage: &mut Stage, turn: u64) -> Result<u64, BenchFault> {
+#[inline(always)]
+fn request(stage: &mut Stage, turn: u64) -> Result<u64, TurnFault> {
     let arena = stage.some_arena(turn / 2);
     let workers = if turn % 2 == 0 { 1 } else { -1 };
     stage.ask(CALLER, Cmd::Request(arena, workers, 0))

@@ -1,10 +1,11 @@
 //! A market that is ready to be measured.
-ghost use Rattle.std.specs.Prelude.{◌≡◌, ◌+◌, ◌<◌, ◌≤◌, [], length, true, Some, OnOk, IfOk};
+ghost use Rattle.std.specs.Prelude.{◌≡◌, ◌+◌, ◌<◌, ◌≤◌, [], length, true, Some, OnOk, IfOk, IfErr};
 ghost use Rattle.market_types.specs.Step.{step};
 ghost use Rattle.market_bench.specs.Replies.{number_in};
+ghost use Rattle.market_bench.specs.Faults.{Stops};
 ghost use Rattle.market_bench.specs.Turns.{is_in_turns};
 
-use crate::fault::BenchFault;
+use crate::fault::{BenchFault, TurnFault};
 use market_core::Market;
 use market_types::{ArenaId, Cmd, Level, Reply, SeatNo};
 use std::alloc::Global;
@@ -44,15 +45,16 @@ fn number_in(reply: &Reply) -> Option<u64>
 // As in a program that knows its commands.
 #[inline(always)]
 #[tactic(auto, using(crate::proofs::Living::same_living))]
-fn ask(alloc: Global, market: &mut Market, seat: u8, cmd: Cmd) -> Result<u64, BenchFault>
+fn ask(alloc: Global, market: &mut Market, seat: u8, cmd: Cmd) -> Result<u64, TurnFault>
     requires { seat < length market.old.seats }
     ensures next { OnOk result (market.new ≡ (step market.old seat cmd).1) }
     ensures number { IfOk result (λ n. number_in (step market.old seat cmd).0 ≡ Some n) }
+    ensures fault { IfErr result (λ fault. Stops fault cmd (step market.old seat cmd).0) }
     ensures same_seats { length market.new.seats ≡ length market.old.seats }
     ensures same_arenas { is_in_turns cmd ≡ true → length market.new.arenas ≡ length market.old.arenas }
 {
     let reply = market.apply(alloc, SeatNo::new(seat), cmd)?;
-    number_in(&reply).ok_or(BenchFault::Refused)
+    number_in(&reply).ok_or(TurnFault::Refused)
 }
 
 /// Opens an arena, the one of this number, and has it ask for its workers.
@@ -61,7 +63,7 @@ fn open_arena(
     market: &mut Market,
     arena: ArenaId,
     level: u32,
-) -> Result<(), BenchFault>
+) -> Result<(), TurnFault>
     requires level { (1 ≤ level) × (level ≤ 8) }
     requires seats { length market.old.seats ≡ 64 }
     ensures one_more { OnOk result (length market.new.arenas ≡ length market.old.arenas + 1) }
@@ -81,7 +83,7 @@ fn open_arenas(
     market: &mut Market,
     levels: u32,
     arenas: u32,
-) -> Result<(), BenchFault>
+) -> Result<(), TurnFault>
     requires levels { (1 ≤ levels) × (levels ≤ 8) }
     requires arenas { arenas ≤ 1024 }
     requires none { market.old.arenas ≡ [] }
@@ -127,7 +129,7 @@ impl Stage {
     }
 
     /// Has every seat but seat 0 join.
-    pub fn place_others(&mut self) -> Result<(), BenchFault>
+    pub fn place_others(&mut self) -> Result<(), TurnFault>
         ensures { self.new.arenas ≡ self.old.arenas }
     {
         for seat in 1..SEATS {
@@ -138,11 +140,12 @@ impl Stage {
 
     /// Gives a seat's command, and answers a number out of its reply. A refusal is a fault.
     #[inline(always)]
-    pub fn ask(&mut self, seat: u8, cmd: Cmd) -> Result<u64, BenchFault>
+    pub fn ask(&mut self, seat: u8, cmd: Cmd) -> Result<u64, TurnFault>
         requires seat { seat < 64 }
         requires turns { is_in_turns cmd ≡ true }
         ensures next { OnOk result (self.new.market ≡ (step self.old.market seat cmd).1) }
         ensures number { IfOk result (λ n. number_in (step self.old.market seat cmd).0 ≡ Some n) }
+        ensures fault { IfErr result (λ fault. Stops fault cmd (step self.old.market seat cmd).0) }
         ensures arenas { self.new.arenas ≡ self.old.arenas }
     {
         ask(self.alloc, &mut self.market, seat, cmd)

@@ -36,7 +36,7 @@ fn cell<R: Clock + AllocGlobal>(
     let mut stage = scenario.stage(rt.alloc(), levels, arenas)?;
     match content {
         Content::Times => time_turn(rt, scenario, &mut stage),
-        Content::Replies => scenario.round(&mut stage),
+        Content::Replies => Ok(scenario.round(&mut stage)?),
     }
 }
 

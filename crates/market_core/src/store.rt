@@ -232,6 +232,7 @@ impl Arenas {
     }
 
     /// Changes an arena's claim, unless the change is refused or no living arena has this number. Gives the claim then.
+    #[inline(always)]
     pub fn change(&mut self, arena: ArenaId, change: Change) -> Result<(ArenaRecord, u32), Fault>
         ensures claim { IfOk result (λ done. changed_at (arena_at arena self.old) change ≡ Ok done.0) }
         ensures next { IfOk result (λ done. self.new ≡ with_claim arena done.0 self.old) }

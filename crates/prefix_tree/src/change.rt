@@ -57,6 +57,7 @@ impl Side {
         let Some(node) = &mut self.root else {
             unreachable!()
         };
+        let node: &mut Node = node;
         let visits = visit(visits);
         node.sum = node.sum - row.request + request;
         node.mandates = node.mandates - one_if(row.mandated) + one_if(mandated);
