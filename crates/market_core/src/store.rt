@@ -91,14 +91,12 @@ impl Arenas {
         self.enqueued > 0
     }
 
-    /// What the arenas of a level, 1 to 8, ask for.
-    pub fn demand(&self, level: u32) -> u64
-        requires low { 1 ≤ level }
-        requires high { level ≤ 8 }
+    /// What the arenas of a level ask for.
+    pub fn demand(&self, level: Level) -> u64
         ensures exact { result ≡ total_request (at_level level self.now) }
         ensures small { result ≤ 1024 * 65535 }
     {
-        self.lists[level as usize - 1].demand()
+        self.lists[level.get() as usize - 1].demand()
     }
 
     /// What the arenas of a level ask for that are newer than this stamp.
@@ -120,47 +118,41 @@ impl Arenas {
     {
         let mut demands = [0; 8];
         for place in 0..8 {
-            demands[place] = self.demand(place as u32 + 1);
+            demands[place] = self.demand(Level::at(place));
         }
         demands
     }
 
-    /// The first arena of a level, 1 to 8, that has enqueued work and asks for workers.
-    pub fn first_mandated(&self, level: u32) -> (Option<ArenaId>, u32)
-        requires low { 1 ≤ level }
-        requires high { level ≤ 8 }
+    /// The first arena of a level that has enqueued work and asks for workers.
+    pub fn first_mandated(&self, level: Level) -> (Option<ArenaId>, u32)
         ensures exact { result.0 ≡ number_of (find (λ (a : Arena). is_mandated a.claim) (at_level level self.now)) }
         ensures entered { 0 < length (at_level level self.now) → 1 ≤ result.1 }
         ensures visits { result.1 ≤ 2 * bits (length self.now) }
         ensures few { result.1 ≤ 22 }
     {
-        let (row, visits) = self.lists[level as usize - 1].first_mandated();
+        let (row, visits) = self.lists[level.get() as usize - 1].first_mandated();
         match row {
             Some(row) => (Some(row.arena), visits),
             None => (None, visits),
         }
     }
 
-    /// How many arenas a level, 1 to 8, has.
-    pub fn count(&self, level: u32) -> usize
-        requires low { 1 ≤ level }
-        requires high { level ≤ 8 }
+    /// How many arenas a level has.
+    pub fn count(&self, level: Level) -> usize
         ensures exact { result ≡ length (at_level level self.now) }
     {
-        self.lists[level as usize - 1].len()
+        self.lists[level.get() as usize - 1].len()
     }
 
-    /// The arena at a place, from 0 on, of a level, 1 to 8, that has so many.
-    pub fn walk(&self, level: u32, place: usize) -> (Option<ArenaRow>, u32)
-        requires low { 1 ≤ level }
-        requires high { level ≤ 8 }
+    /// The arena at a place, from 0 on, of a level that has so many.
+    pub fn walk(&self, level: Level, place: usize) -> (Option<ArenaRow>, u32)
         requires within { place < length (at_level level self.now) }
         ensures exact { result.0 ≡ slice_get (at_level level self.now) place }
         ensures there { IfSome result.0 (λ row. arena_at row.number self.now ≡ Some row) }
         ensures entered { 1 ≤ result.1 }
         ensures few { result.1 ≤ 22 }
     {
-        let (row, visits) = self.lists[level as usize - 1].walk(place);
+        let (row, visits) = self.lists[level.get() as usize - 1].walk(place);
         let Some(row) = row else {
             return (None, visits);
         };
@@ -172,45 +164,39 @@ impl Arenas {
         ensures exact { result ≡ slice_get (at_level level self.now) place }
         ensures there { IfSome result (λ row. arena_at row.number self.now ≡ Some row) }
     {
-        if place >= self.count(level.get()) {
+        if place >= self.count(level) {
             return None;
         }
-        let (row, _) = self.walk(level.get(), place);
+        let (row, _) = self.walk(level, place);
         row
     }
 
-    /// What the list of a level, 1 to 8, keeps of its arenas.
-    pub fn entries(&self, alloc: Global, level: u32) -> Result<(Vec<Row>, u32), AllocError>
-        requires low { 1 ≤ level }
-        requires high { level ≤ 8 }
+    /// What the list of a level keeps of its arenas.
+    pub fn entries(&self, alloc: Global, level: Level) -> Result<(Vec<Row>, u32), AllocError>
         ensures exact { IfOk result (λ listed. listed.0.items ≡ entries level self.now) }
         ensures visits { IfOk result (λ listed. listed.1 ≡ length (entries level self.now)) }
     {
-        self.lists[level as usize - 1].rows(alloc)
+        self.lists[level.get() as usize - 1].rows(alloc)
     }
 
-    /// What the arenas of a level, 1 to 8, before a place ask for together.
-    pub fn sum_to(&self, level: u32, place: usize) -> (u64, u32)
-        requires low { 1 ≤ level }
-        requires high { level ≤ 8 }
+    /// What the arenas of a level before a place ask for together.
+    pub fn sum_to(&self, level: Level, place: usize) -> (u64, u32)
         ensures exact { result.0 ≡ total_request (take place (at_level level self.now)) }
         ensures entered { 0 < length (at_level level self.now) → 1 ≤ result.1 }
         ensures few { result.1 ≤ 22 }
     {
-        self.lists[level as usize - 1].sum_to(place)
+        self.lists[level.get() as usize - 1].sum_to(place)
     }
 
-    /// The first arena of a level, 1 to 8, up to and with which its arenas ask for more than `sum`, `None` where they
+    /// The first arena of a level up to and with which its arenas ask for more than `sum`, `None` where they
     /// never do.
-    pub fn passing(&self, level: u32, sum: u64) -> (Option<Passing>, u32)
-        requires low { 1 ≤ level }
-        requires high { level ≤ 8 }
+    pub fn passing(&self, level: Level, sum: u64) -> (Option<Passing>, u32)
         ensures some { IfSome result.0 (λ passing. IsPassing sum passing (at_level level self.now)) }
         ensures none { IfNone result.0 (total_request (at_level level self.now) ≤ sum) }
         ensures entered { 0 < length (at_level level self.now) → 1 ≤ result.1 }
         ensures few { result.1 ≤ 22 }
     {
-        self.lists[level as usize - 1].passing(sum)
+        self.lists[level.get() as usize - 1].passing(sum)
     }
 
     /// A new arena, newer than all others.

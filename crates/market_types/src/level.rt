@@ -1,5 +1,5 @@
 //! Priorities.
-ghost use Rattle.std.specs.Prelude.{◌≡◌, ◌≤◌, ◌↔◌, IsSome, IfSome};
+ghost use Rattle.std.specs.Prelude.{◌≡◌, ◌+◌, ◌<◌, ◌≤◌, ◌↔◌, IsSome, IfSome};
 
 use std::marker::Model;
 
@@ -38,6 +38,16 @@ impl Level {
             return None;
         }
         Some(Level { number })
+    }
+
+    /// The level at a place in the order in which levels are served, from 0 on.
+    pub const fn at(place: usize) -> Level
+        requires { place < 8 }
+        ensures { result ≡ place + 1 }
+    {
+        Level {
+            number: place as u32 + 1,
+        }
     }
 
     /// The number, 1 to 8.

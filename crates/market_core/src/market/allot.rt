@@ -38,7 +38,7 @@ impl Market {
         let mut picks = [None; 8];
         let mut visits = 0;
         for place in 0..self.levels {
-            let (pick, more) = self.arenas.first_mandated(place + 1);
+            let (pick, more) = self.arenas.first_mandated(Level::at(place as usize));
             picks[place as usize] = pick;
             visits += more;
         }
@@ -151,7 +151,7 @@ impl Market {
     pub fn demand(&self, level: Level) -> u64
         ensures exact { result ≡ demand self.now level }
     {
-        self.arenas.demand(level.get())
+        self.arenas.demand(level)
     }
 
     /// How many workers the arenas of a level are allotted together; 0 where the market has no such level. Where some

@@ -11,7 +11,7 @@ use super::Market;
 use crate::division::Division;
 use crate::row::ArenaRow;
 use allotment::{no_carry_to_keep, share, sum_before_next};
-use market_types::{ArenaId, Lists, Row};
+use market_types::{ArenaId, Level, Lists, Row};
 use recall_hire::{Next, Rows, Staffing, first_in_need, hire, lists};
 use std::alloc::{AllocError, Global};
 
@@ -20,7 +20,7 @@ use std::alloc::{AllocError, Global};
 struct LevelOrder<'a> {
     market: &'a Market,
     division: &'a Division,
-    level: u32,
+    level: Level,
     ghost shared: { IsSharedAt level market.now division.now },
 }
 
@@ -42,8 +42,7 @@ impl Rows for LevelOrder<'_> {
 
 impl Market {
     /// How many arenas a level has.
-    fn count_at(&self, level: u32) -> usize
-        requires low { 1 ≤ level }
+    fn count_at(&self, level: Level) -> usize
         requires high { level ≤ self.now.levels }
         ensures { result ≡ length (rows_at self.now level) }
     {
@@ -69,7 +68,7 @@ impl Market {
     }
 
     /// What the arena at a place of a level is allotted, and how many seats it has.
-    fn staffing_at(&self, division: &Division, level: u32, place: usize) -> (Staffing, u32)
+    fn staffing_at(&self, division: &Division, level: Level, place: usize) -> (Staffing, u32)
         requires known { place < length (rows_at self.now level) }
         requires shared { IsSharedAt level self.now division.now }
         ensures exact { slice_get (rows_at self.now level) place ≡ Some result.0 }
@@ -87,7 +86,7 @@ impl Market {
 
     /// The first arena from a place of a level on that is allotted a worker. Goes down the level's tree twice, and walks over
     /// no arena on the way.
-    fn next_at(&self, division: &Division, level: u32, place: usize) -> (Option<Next>, u32)
+    fn next_at(&self, division: &Division, level: Level, place: usize) -> (Option<Next>, u32)
         requires shared { IsSharedAt level self.now division.now }
         ensures found { IfSome result.0 (λ next. IsNext place next (rows_at self.now level)) }
         ensures none { IfNone result.0 (NoneAllotted (rows_at self.now level) place (length (rows_at self.now level))) }
@@ -96,7 +95,7 @@ impl Market {
         no_carry_to_keep();
         let _ = self.arenas.len();
         let _ = self.levels;
-        let at = level as usize - 1;
+        let at = level.get() as usize - 1;
         let (given, asked) = (division.assigned[at], division.demands[at]);
         if given == 0 {
             return (None, 0);
@@ -152,7 +151,7 @@ impl Market {
             let (found, more) = first_in_need(&LevelOrder {
                 market: self,
                 division,
-                level: level + 1,
+                level: Level::at(level as usize),
             });
             visits = visits.saturating_add(more);
             if found.is_some() {
@@ -163,9 +162,8 @@ impl Market {
     }
 
     /// How many workers the arena of an entry of a level is allotted, where the arenas before it there ask for `before`.
-    fn allot_entry(&self, division: &Division, level: u32, entry: Row, before: u64) -> u32
+    fn allot_entry(&self, division: &Division, level: Level, entry: Row, before: u64) -> u32
         requires divided { IsDivisionOf self.now division.now }
-        requires low { 1 ≤ level }
         requires high { level ≤ self.now.levels }
         requires there { IsEntry before entry (at_level level self.now.arenas) }
         ensures { result ≡ alloc self.now entry.arena }
@@ -178,7 +176,7 @@ impl Market {
         if entry.request == 0 {
             return 0;
         }
-        let at = level as usize - 1;
+        let at = level.get() as usize - 1;
         let (given, asked) = (division.assigned[at], division.demands[at]);
         share(given, asked, before, u64::from(entry.request)) as u32
     }
@@ -188,11 +186,10 @@ impl Market {
         &self,
         alloc: Global,
         division: &Division,
-        level: u32,
+        level: Level,
         rows: &mut Vec<Staffing>,
     ) -> Result<u32, AllocError>
         requires divided { IsDivisionOf self.now division.now }
-        requires low { 1 ≤ level }
         requires high { level ≤ self.now.levels }
         ensures rows { OnOk result (rows.new.items ≡ rows.old.items ++ rows_at self.now level) }
         ensures visits { IfOk result (λ visits. visits ≡ length (rows_at self.now level)) }
@@ -224,7 +221,7 @@ impl Market {
         let mut visits = division.visits;
         let mut rows = Vec::with_capacity(alloc, self.arenas.len())?;
         for level in 0..self.levels {
-            let more = self.add_rows(alloc, division, level + 1, &mut rows)?;
+            let more = self.add_rows(alloc, division, Level::at(level as usize), &mut rows)?;
             visits = visits.saturating_add(more);
         }
         Ok((lists(alloc, &rows)?, visits))

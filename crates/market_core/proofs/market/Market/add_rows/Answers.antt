@@ -31,7 +31,7 @@ pub overflow_add-before : goal.overflow_add-before
 overflow_add-before c =
     let s = c.args.self.now in
     let here = (goal.at.overflow_add-before c).After-index-entry in
-    let asked = c.requires.divided.demands.levels c.args.level c.requires.low c.requires.high in
+    let asked = c.requires.divided.demands.levels c.args.level (omega arith) c.requires.high in
     let few = c.requires.divided.small (c.args.level - 1) in
     omega (arith, entry-part c.loop-place.before c.index-entry.result.now (at_level c.args.level s.arenas) (entry-here here), asked, few, c.from-before.ensures)
 

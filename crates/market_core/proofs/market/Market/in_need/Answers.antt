@@ -3,6 +3,7 @@ use Rattle.market_types.specs.State.{State}
 use Rattle.market_types.specs.Allotment.{at_level, limit_of}
 use Rattle.market_core.specs.Sound.{IsSound}
 use Rattle.recall_hire.specs.Staffed.{need_among}
+use Rattle.market_core.specs.Divided.{rows_at}
 use Rattle.market_core.proofs.InNeed.{need-found, need-later, need-done, needed-entered, found-entered}
 use Rattle.market_core.proofs.market.Market.in_need.Goals as goal
 use Rattle.market_core.proofs.Order.{levels_from}
@@ -18,7 +19,7 @@ returns-then-is_some c =
     let s = c.args.self.now in
     let level = c.loop-level.level in
     let levels : c.self.inside.levels ≡ s.levels = ap (λ (t : State). t.levels) c.self.view_is in
-    let here : c.first_in_need-more.result.0 ≡ need_among s (at_level (level + 1) s.arenas) = c.first_in_need-more.ensures.in_market s (at_level (level + 1) s.arenas) refl in
+    let here : c.first_in_need-more.result.0 ≡ need_among s (at_level (level + 1) s.arenas) = c.first_in_need-more.ensures.in_market s (at_level (level + 1) s.arenas) (ap (rows_at s) c.at.ensures) in
     record {
       exact =
           need-found s (level + 1) (s.levels - (level + 1)) (s.levels - level) c.first_in_need-more.result.0 (omega (arith, levels, c.loop-level-test.true)) (sym c.is_some.ensures ∙ c.if-is_some.true) here
@@ -31,7 +32,7 @@ loop-level-preserved c =
     let s = c.args.self.now in
     let level = c.loop-level.level in
     let levels : c.self.inside.levels ≡ s.levels = ap (λ (t : State). t.levels) c.self.view_is in
-    let here : c.first_in_need-more.result.0 ≡ need_among s (at_level (level + 1) s.arenas) = c.first_in_need-more.ensures.in_market s (at_level (level + 1) s.arenas) refl in
+    let here : c.first_in_need-more.result.0 ≡ need_among s (at_level (level + 1) s.arenas) = c.first_in_need-more.ensures.in_market s (at_level (level + 1) s.arenas) (ap (rows_at s) c.at.ensures) in
     c.loop-level.invariant
     ∙ need-later s (level + 1) (s.levels - (level + 1)) (s.levels - level) c.first_in_need-more.result.0 (omega (arith, levels, c.loop-level-test.true)) (sym c.is_some.ensures ∙ c.if-is_some.false) here
 

@@ -3,6 +3,7 @@ use Rattle.std.proofs.lemmas.List.{length-map}
 use Rattle.market_types.specs.State.{State}
 use Rattle.market_types.specs.Allotment.{at_level, in_order}
 use Rattle.recall_hire.specs.Staffed.{row_of, rows_among, rows_of}
+use Rattle.market_core.specs.Divided.{rows_at}
 use Rattle.market_core.specs.Sound.{IsSound}
 use Rattle.market_core.proofs.Order.{levels_from, in_order-length}
 use Rattle.market_core.proofs.Listed.{level-added}
@@ -25,10 +26,12 @@ loop-level-preserved c =
     let s = c.args.self.now in
     let level = c.loop-level.level in
     let levels : c.self.inside.levels ≡ s.levels = ap (λ (t : State). t.levels) c.self.view_is in
-    let rows = level-added s (level + 1) (s.levels - (level + 1)) (s.levels - level) c.loop-level.rows.items c.add_rows.new.rows.items (rows_of s) (omega (arith, levels, c.loop-level-test.true)) c.in_ok-more.ensures.rows c.loop-level.invariant.rows in
+    let added : c.add_rows.new.rows.items ≡ c.loop-level.rows.items ++ rows_at s (level + 1) = c.in_ok-more.ensures.rows ∙ ap (λ n. c.loop-level.rows.items ++ rows_at s n) c.at.ensures in
+    let rows = level-added s (level + 1) (s.levels - (level + 1)) (s.levels - level) c.loop-level.rows.items c.add_rows.new.rows.items (rows_of s) (omega (arith, levels, c.loop-level-test.true)) added c.loop-level.invariant.rows in
     let more : length c.add_rows.new.rows.items ≡ length c.loop-level.rows.items + length (rows_among s (at_level (level + 1) s.arenas)) =
-    ap length c.in_ok-more.ensures.rows ∙ length-append c.loop-level.rows.items (rows_among s (at_level (level + 1) s.arenas)) in
-    record { rows = rows; entered = omega (arith, more, c.in_ok-more.ensures.visits, c.loop-level.invariant.entered); visits = omega (arith, more, c.in_ok-more.ensures.visits, c.loop-level.invariant.visits) }
+    ap length added ∙ length-append c.loop-level.rows.items (rows_among s (at_level (level + 1) s.arenas)) in
+    let entered : c.in_ok-more.more ≡ length (rows_at s (level + 1)) = c.in_ok-more.ensures.visits ∙ ap (λ n. length (rows_at s n)) c.at.ensures in
+    record { rows = rows; entered = omega (arith, more, entered, c.loop-level.invariant.entered); visits = omega (arith, more, entered, c.loop-level.invariant.visits) }
 
 pub returns : goal.returns
 returns c =

@@ -12,7 +12,7 @@ loop-place-preserved c =
     record {
       size = length-set ds i c.demand.result ∙ c.loop-place.invariant.size;
       exact = λ k below. elim (cases_eq k i) [
-        | inl e ↦ ap (λ n. get_or (set ds i c.demand.result) n 0) e ∙ here ∙ c.demand.ensures.exact ∙ ap (λ n. total_request (at_level (n + 1) c.args.self.now)) (sym e)
+        | inl e ↦ ap (λ n. get_or (set ds i c.demand.result) n 0) e ∙ here ∙ c.demand.ensures.exact ∙ ap (λ n. total_request (at_level n c.args.self.now)) (c.at.ensures ∙ ap (λ n. n + 1) (sym e))
         | inr m ↦ get_or-set_other ds i k c.demand.result 0 m ∙ c.loop-place.invariant.exact k (omega arith)
       ];
       small = λ k. elim (cases_eq k i) [
