@@ -30,7 +30,7 @@ pub fn top_level(demands: &[u64; 8]) -> Option<Level>
 {
     for i in 0..8 {
         if demands[i] > 0 {
-            return Level::new(i as u32 + 1);
+            return Some(Level::at(i));
         }
     }
     None

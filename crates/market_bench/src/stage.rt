@@ -62,16 +62,12 @@ fn open_arena(
     alloc: Global,
     market: &mut Market,
     arena: ArenaId,
-    level: u32,
+    level: Level,
 ) -> Result<(), TurnFault>
-    requires level { (1 ≤ level) × (level ≤ 8) }
     requires seats { length market.old.seats ≡ 64 }
     ensures one_more { OnOk result (length market.new.arenas ≡ length market.old.arenas + 1) }
     ensures same_seats { length market.new.seats ≡ length market.old.seats }
 {
-    let Some(level) = Level::new(level) else {
-        unreachable!()
-    };
     ask(alloc, market, 0, Cmd::Open(SLOTS, 1, level))?;
     ask(alloc, market, 0, Cmd::Request(arena, WORKERS, 0))?;
     Ok(())
@@ -92,7 +88,8 @@ fn open_arenas(
     ensures same_seats { length market.new.seats ≡ length market.old.seats }
 {
     for place in 0..arenas {
-        open_arena(alloc, market, ArenaId::new(place + 1), place % levels + 1)?;
+        let level = Level::at((place % levels) as usize);
+        open_arena(alloc, market, ArenaId::new(place + 1), level)?;
     }
     Ok(())
 }

@@ -96,7 +96,7 @@ impl Arenas {
         ensures exact { result ≡ total_request (at_level level self.now) }
         ensures small { result ≤ 1024 * 65535 }
     {
-        self.lists[level.get() as usize - 1].demand()
+        self.lists[level.index()].demand()
     }
 
     /// What the arenas of a level ask for that are newer than this stamp.
@@ -106,7 +106,7 @@ impl Arenas {
         ensures visits { result.1 ≤ 2 * bits (length self.now) }
         ensures few { result.1 ≤ 22 }
     {
-        self.lists[level.get() as usize - 1].before(stamp)
+        self.lists[level.index()].before(stamp)
     }
 
     /// What each level asks for, level 1 first.
@@ -130,7 +130,7 @@ impl Arenas {
         ensures visits { result.1 ≤ 2 * bits (length self.now) }
         ensures few { result.1 ≤ 22 }
     {
-        let (row, visits) = self.lists[level.get() as usize - 1].first_mandated();
+        let (row, visits) = self.lists[level.index()].first_mandated();
         match row {
             Some(row) => (Some(row.arena), visits),
             None => (None, visits),
@@ -141,7 +141,7 @@ impl Arenas {
     pub fn count(&self, level: Level) -> usize
         ensures exact { result ≡ length (at_level level self.now) }
     {
-        self.lists[level.get() as usize - 1].len()
+        self.lists[level.index()].len()
     }
 
     /// The arena at a place, from 0 on, of a level that has so many.
@@ -152,7 +152,7 @@ impl Arenas {
         ensures entered { 1 ≤ result.1 }
         ensures few { result.1 ≤ 22 }
     {
-        let (row, visits) = self.lists[level.get() as usize - 1].walk(place);
+        let (row, visits) = self.lists[level.index()].walk(place);
         let Some(row) = row else {
             return (None, visits);
         };
@@ -176,7 +176,7 @@ impl Arenas {
         ensures exact { IfOk result (λ listed. listed.0.items ≡ entries level self.now) }
         ensures visits { IfOk result (λ listed. listed.1 ≡ length (entries level self.now)) }
     {
-        self.lists[level.get() as usize - 1].rows(alloc)
+        self.lists[level.index()].rows(alloc)
     }
 
     /// What the arenas of a level before a place ask for together.
@@ -185,7 +185,7 @@ impl Arenas {
         ensures entered { 0 < length (at_level level self.now) → 1 ≤ result.1 }
         ensures few { result.1 ≤ 22 }
     {
-        self.lists[level.get() as usize - 1].sum_to(place)
+        self.lists[level.index()].sum_to(place)
     }
 
     /// The first arena of a level up to and with which its arenas ask for more than `sum`, `None` where they
@@ -196,7 +196,7 @@ impl Arenas {
         ensures entered { 0 < length (at_level level self.now) → 1 ≤ result.1 }
         ensures few { result.1 ≤ 22 }
     {
-        self.lists[level.get() as usize - 1].passing(sum)
+        self.lists[level.index()].passing(sum)
     }
 
     /// A new arena, newer than all others.
@@ -210,7 +210,7 @@ impl Arenas {
         ensures visits { IfOk result (λ visits. visits ≤ 2 * bits (length self.old) + 1) }
     {
         self.rows.reserve(1)?;
-        let list = &mut self.lists[row.level().get() as usize - 1];
+        let list = &mut self.lists[row.level().index()];
         let visits = list.push(alloc, row.entry())?;
         self.rows.push_reserved(row);
         self.enqueued += counted(row.claim());
@@ -236,7 +236,7 @@ impl Arenas {
         self.rows[place] = new;
         self.enqueued = self.enqueued - counted(old.claim()) + counted(claim);
         let entry = new.entry();
-        let list = &mut self.lists[old.level().get() as usize - 1];
+        let list = &mut self.lists[old.level().index()];
         let visits = list.update(old.entry(), entry.request, entry.mandated);
         Ok((claim, visits))
     }
@@ -253,7 +253,7 @@ impl Arenas {
         let place = place_of(&self.rows, arena)?;
         let row = self.rows.remove(place);
         self.enqueued -= counted(row.claim());
-        let list = &mut self.lists[row.level().get() as usize - 1];
+        let list = &mut self.lists[row.level().index()];
         let (_taken, visits) = list.take(row.stamp());
         Some(visits)
     }
@@ -271,12 +271,12 @@ impl Arenas {
     {
         let place = place_of(&self.rows, arena)?;
         let row = self.rows[place];
-        let from = &mut self.lists[row.level().get() as usize - 1];
+        let from = &mut self.lists[row.level().index()];
         let (taken, out) = from.take(row.stamp());
         let Some(taken) = taken else {
             unreachable!();
         };
-        let to = &mut self.lists[level.get() as usize - 1];
+        let to = &mut self.lists[level.index()];
         let back = to.put(taken, stamp);
         self.rows[place] = row.promoted(stamp, level);
         Some(out + back)

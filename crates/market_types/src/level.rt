@@ -40,14 +40,22 @@ impl Level {
         Some(Level { number })
     }
 
-    /// The level at a place in the order in which levels are served, from 0 on.
-    pub const fn at(place: usize) -> Level
-        requires { place < 8 }
-        ensures { result ≡ place + 1 }
+    /// The level of this index, 0 to 7, in the order in which levels are served.
+    pub const fn at(index: usize) -> Level
+        requires { index < 8 }
+        ensures { result ≡ index + 1 }
     {
         Level {
-            number: place as u32 + 1,
+            number: index as u32 + 1,
         }
+    }
+
+    /// Its index, 0 to 7, in the order in which levels are served.
+    pub const fn index(self) -> usize
+        ensures exact { result + 1 ≡ self }
+        ensures high { result < 8 }
+    {
+        (self.number - 1) as usize
     }
 
     /// The number, 1 to 8.

@@ -94,7 +94,7 @@ impl Market {
         if request == 0 {
             return (0, 0);
         }
-        let level = row.level().get() as usize - 1;
+        let level = row.level().index();
         let (before, visits) = self.arenas.before(row.level(), row.stamp());
         let (given, asked) = (division.assigned[level], division.demands[level]);
         let workers = share(given, asked, before, request);
@@ -165,7 +165,7 @@ impl Market {
         no_carry_to_keep();
         let division = &self.divide();
         if division.limit > 0 {
-            return division.assigned[level.get() as usize - 1];
+            return division.assigned[level.index()];
         }
         let Some(picked) = division.picked else {
             return 0;

@@ -95,7 +95,7 @@ impl Market {
         no_carry_to_keep();
         let _ = self.arenas.len();
         let _ = self.levels;
-        let at = level.get() as usize - 1;
+        let at = level.index();
         let (given, asked) = (division.assigned[at], division.demands[at]);
         if given == 0 {
             return (None, 0);
@@ -176,7 +176,7 @@ impl Market {
         if entry.request == 0 {
             return 0;
         }
-        let at = level.get() as usize - 1;
+        let at = level.index();
         let (given, asked) = (division.assigned[at], division.demands[at]);
         share(given, asked, before, u64::from(entry.request)) as u32
     }

@@ -1,4 +1,4 @@
-use Rattle.std.proofs.Common.{◌≡◌, None, ◌∙◌, arith}
+use Rattle.std.proofs.Common.{◌≡◌, None, Some, ◌∙◌, arith}
 use Rattle.std.proofs.lemmas.Grind.{common_steps}
 use Rattle.market_types.specs.Allotment.{first_demand}
 use Rattle.allotment.proofs.Levels.{top_level-padded}
@@ -6,7 +6,7 @@ use Rattle.allotment.proofs.level.top_level.Goals as goal
 
 pub returns-then-demands-i-gt0-clause-in_market : goal.returns-then-demands-i-gt0-clause-in_market
 returns-then-demands-i-gt0-clause-in_market c = λ s padded.
-    let first : c.new.result ≡ first_demand c.args.demands.now = grind (arith, common_steps) in
+    let first : Some c.at.result ≡ first_demand c.args.demands.now = grind (arith, common_steps) in
     first ∙ top_level-padded s c.args.demands.now padded
 
 pub returns-clause-in_market : goal.returns-clause-in_market

@@ -36,13 +36,13 @@ module _ (c : After-before-before) where
   asked : c.from-request.result ≡ request_of c.args.row.claim
   asked = c.from-request.ensures ∙ c.request.ensures.exact ∙ ap request_of c.claim.ensures
 
-  place-of : c.get.result - 1 ≡ c.args.row.level - 1
-  place-of = ap (λ n. n - 1) (c.get.ensures.exact ∙ c.level.ensures)
+  place-of : c.index-level.result ≡ c.args.row.level - 1
+  place-of = omega (arith, c.index-level.ensures.exact, c.level.ensures)
 
-  demanded : get_or c.args.division.now.demands (c.get.result - 1) 0 ≡ demand c.args.self.now c.args.row.level
+  demanded : get_or c.args.division.now.demands c.index-level.result 0 ≡ demand c.args.self.now c.args.row.level
   demanded = ap (λ n. get_or c.args.division.now.demands n 0) place-of ∙ c.requires.divided.demands.levels c.args.row.level level-within.0 level-within.1
 
-  given : get_or c.args.division.now.assigned (c.get.result - 1) 0 ≡ assigned c.args.self.now c.args.row.level
+  given : get_or c.args.division.now.assigned c.index-level.result 0 ≡ assigned c.args.self.now c.args.row.level
   given = ap (λ n. get_or c.args.division.now.assigned n 0) place-of ∙ c.requires.divided.assigned c.args.row.level level-within.0 level-within.1
 
   before : c.before-before.result.0 ≡ total_request (at_level c.args.row.level (newer c.args.row.stamp c.args.self.now.arenas))
@@ -52,7 +52,7 @@ module _ (c : After-before-before) where
       ∙ ap (λ t. total_request (at_level c.args.row.level (newer t c.self.inside.arenas))) c.stamp.ensures
       ∙ ap (λ (s : State). total_request (at_level c.args.row.level (newer c.args.row.stamp s.arenas))) c.self.view_is
 
-  part : c.before-before.result.0 + c.from-request.result ≤ get_or c.args.division.now.demands (c.get.result - 1) 0
+  part : c.before-before.result.0 + c.from-request.result ≤ get_or c.args.division.now.demands c.index-level.result 0
   part = omega (arith, before, asked, demanded, request-within c.args.row.number c.args.row c.args.self.now.arenas found-here)
 
 pub share-workers-requires-clause-some_demand : goal.share-workers-requires-clause-some_demand

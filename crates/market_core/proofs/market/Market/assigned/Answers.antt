@@ -1,4 +1,4 @@
-use Rattle.std.proofs.Common.{arith, refl, sym, ap, subst, ◌∙◌, ◌≡◌, ◌-◌, ◌<◌, eqb, true, false, Some, None}
+use Rattle.std.proofs.Common.{arith, refl, sym, ap, subst, ◌∙◌, ◌≡◌, ◌<◌, eqb, true, false, Some, None}
 use Rattle.std.specs.Prelude.{slice_index}
 use Rattle.market_types.specs.State.{State}
 use Rattle.market_types.specs.Allotment.{assigned, limit_of}
@@ -13,8 +13,8 @@ returns-then-division-gt0-clause-assigned c =
     let s = c.args.self.now in
     let d = c.divide.result in
     let sound : IsSound s = rw c.self.view_is at c.self.invariant in
-    λ some. ap (λ n. slice_index d.assigned (n - 1)) c.get.ensures.exact
-    ∙ division-assigned s d c.args.level c.divide.ensures.exact sound.leveled (omega (arith, c.get.ensures.exact, c.get.ensures.low)) (c.bound_is_given_out.ensures.in_a_level s c.args.level (omega (arith, c.get.ensures.exact, c.get.ensures.low)))
+    λ some. ap (slice_index d.assigned) (omega (arith, c.index.ensures.exact))
+    ∙ division-assigned s d c.args.level c.divide.ensures.exact sound.leveled (omega (arith, c.index.ensures.exact)) (c.bound_is_given_out.ensures.in_a_level s c.args.level (omega (arith, c.index.ensures.exact)))
 
 pub returns-then-division-gt0-clause-exact : goal.returns-then-division-gt0-clause-exact
 returns-then-division-gt0-clause-exact c =
@@ -23,9 +23,9 @@ returns-then-division-gt0-clause-exact c =
     let sound : IsSound s = rw c.self.view_is at c.self.invariant in
     let kept : IsKept s.arenas = subst (λ (s : State). IsKept s.arenas) c.self.view_is c.len.ensures.kept in
     let some : 0 < limit_of s = omega (arith, c.divide.ensures.exact.limit, c.if-division-gt0.true) in
-    let given = c.bound_is_given_out.ensures.in_a_level s c.args.level (omega (arith, c.get.ensures.exact, c.get.ensures.low)) in
-    ap (λ n. slice_index d.assigned (n - 1)) c.get.ensures.exact
-    ∙ division-assigned s d c.args.level c.divide.ensures.exact sound.leveled (omega (arith, c.get.ensures.exact, c.get.ensures.low)) given
+    let given = c.bound_is_given_out.ensures.in_a_level s c.args.level (omega (arith, c.index.ensures.exact)) in
+    ap (slice_index d.assigned) (omega (arith, c.index.ensures.exact))
+    ∙ division-assigned s d c.args.level c.divide.ensures.exact sound.leveled (omega (arith, c.index.ensures.exact)) given
     ∙ sym (level-shared s c.args.level kept sound.leveled some (c.no_carry_to_keep.ensures.after_a_level s (assigned s)) given)
 
 pub returns-in_default-clause-exact : goal.returns-in_default-clause-exact
@@ -39,8 +39,8 @@ returns-in-Some-get-clause-exact c =
     let s = c.args.self.now in
     let row = c.in-Some-get.row in
     let none : limit_of s ≡ 0 = omega (arith, c.divide.ensures.exact.limit, c.if-division-gt0.false) in
-    let kept : IsKept s.arenas = subst (λ (s : State). IsKept s.arenas) c.self.view_is c.get-2.ensures.kept in
-    let there : arena_at c.in-Some.picked s.arenas ≡ Some row = ap (λ (s : State). arena_at c.in-Some.picked s.arenas) (sym c.self.view_is) ∙ sym c.get-2.ensures.exact ∙ c.in-Some-get.is in
+    let kept : IsKept s.arenas = subst (λ (s : State). IsKept s.arenas) c.self.view_is c.get.ensures.kept in
+    let there : arena_at c.in-Some.picked s.arenas ≡ Some row = ap (λ (s : State). arena_at c.in-Some.picked s.arenas) (sym c.self.view_is) ∙ sym c.get.ensures.exact ∙ c.in-Some-get.is in
     let same : eqb row.level c.args.level ≡ true = ap (λ l. eqb l c.args.level) (sym c.level.ensures) ∙ sym c.eq.ensures ∙ c.if-eq.true in
     c.from.ensures ∙ c.divide.ensures.exact.bound
     ∙ sym (level-picked s c.args.level c.in-Some.picked row kept none (sym (c.divide.ensures.exact.picked none) ∙ c.in-Some.is) there ∙ rw same refl)
@@ -50,8 +50,8 @@ returns-in_default-get-clause-exact c =
     let s = c.args.self.now in
     let row = c.in-Some-get.row in
     let none : limit_of s ≡ 0 = omega (arith, c.divide.ensures.exact.limit, c.if-division-gt0.false) in
-    let kept : IsKept s.arenas = subst (λ (s : State). IsKept s.arenas) c.self.view_is c.get-2.ensures.kept in
-    let there : arena_at c.in-Some.picked s.arenas ≡ Some row = ap (λ (s : State). arena_at c.in-Some.picked s.arenas) (sym c.self.view_is) ∙ sym c.get-2.ensures.exact ∙ c.in-Some-get.is in
+    let kept : IsKept s.arenas = subst (λ (s : State). IsKept s.arenas) c.self.view_is c.get.ensures.kept in
+    let there : arena_at c.in-Some.picked s.arenas ≡ Some row = ap (λ (s : State). arena_at c.in-Some.picked s.arenas) (sym c.self.view_is) ∙ sym c.get.ensures.exact ∙ c.in-Some-get.is in
     let other : eqb row.level c.args.level ≡ false = ap (λ l. eqb l c.args.level) (sym c.level.ensures) ∙ sym c.eq.ensures ∙ c.if-eq.false in
     sym (level-picked s c.args.level c.in-Some.picked row kept none (sym (c.divide.ensures.exact.picked none) ∙ c.in-Some.is) there ∙ rw other refl)
 
@@ -59,5 +59,5 @@ pub returns-in_default-get-2-clause-exact : goal.returns-in_default-get-2-clause
 returns-in_default-get-2-clause-exact c =
     let s = c.args.self.now in
     let none : limit_of s ≡ 0 = omega (arith, c.divide.ensures.exact.limit, c.if-division-gt0.false) in
-    let missing : arena_at c.in-Some.picked s.arenas ≡ None = ap (λ (s : State). arena_at c.in-Some.picked s.arenas) (sym c.self.view_is) ∙ sym c.get-2.ensures.exact ∙ c.in_default-get.is in
+    let missing : arena_at c.in-Some.picked s.arenas ≡ None = ap (λ (s : State). arena_at c.in-Some.picked s.arenas) (sym c.self.view_is) ∙ sym c.get.ensures.exact ∙ c.in_default-get.is in
     sym (level-missing s c.args.level c.in-Some.picked none (sym (c.divide.ensures.exact.picked none) ∙ c.in-Some.is) missing)

@@ -1,4 +1,4 @@
-use Rattle.std.proofs.Common.{arith, refl, sym, ap, ◌∙◌, ◌≡◌, ◌-◌, ◌+◌}
+use Rattle.std.proofs.Common.{arith, sym, ap, ◌∙◌, ◌≡◌, ◌-◌, ◌+◌}
 use Rattle.market_types.specs.State.{State}
 use Rattle.market_types.specs.Allotment.{at_level, limit_of}
 use Rattle.market_core.specs.Sound.{IsSound}

@@ -7,25 +7,25 @@ use Rattle.market_core.proofs.store.Arenas.before.Goals as goal
 pub returns-clause-exact : goal.returns-clause-exact
 returns-clause-exact c =
     let s = c.self.inside in
-    let place : c.get.result - 1 ≡ c.args.level - 1 = ap (λ n. n - 1) c.get.ensures.exact in
+    let place : c.index.result ≡ c.args.level - 1 = omega arith in
     rw (← c.self.view_is) (c.before-2.ensures.exact
-    ∙ ap (requests_above c.args.stamp) (list-at s.rows.items s.lists s.enqueued c.self.invariant c.args.level (c.get.result - 1) c.index-self-get.result (omega arith) (omega arith) place)
+    ∙ ap (requests_above c.args.stamp) (list-at s.rows.items s.lists s.enqueued c.self.invariant c.args.level c.index.result c.index-self-index.result (omega arith) (omega arith) place)
     ∙ entries-before c.args.level c.args.stamp _)
 
 pub returns-clause-visits : goal.returns-clause-visits
 returns-clause-visits c =
     let s = c.self.inside in
-    let place : c.get.result - 1 ≡ c.args.level - 1 = ap (λ n. n - 1) c.get.ensures.exact in
-    rw (← c.self.view_is) (list-visits s.rows.items s.lists s.enqueued c.self.invariant c.args.level (c.get.result - 1) c.index-self-get.result (omega arith) (omega arith) place c.before-2.result.1 c.before-2.ensures.visits)
+    let place : c.index.result ≡ c.args.level - 1 = omega arith in
+    rw (← c.self.view_is) (list-visits s.rows.items s.lists s.enqueued c.self.invariant c.args.level c.index.result c.index-self-index.result (omega arith) (omega arith) place c.before-2.result.1 c.before-2.ensures.visits)
 
 pub returns-clause-few : goal.returns-clause-few
 returns-clause-few c =
     let s = c.self.inside in
-    let place : c.get.result - 1 ≡ c.args.level - 1 = ap (λ n. n - 1) c.get.ensures.exact in
-    omega (arith, all-visits s.rows.items s.lists s.enqueued c.self.invariant, list-visits s.rows.items s.lists s.enqueued c.self.invariant c.args.level (c.get.result - 1) c.index-self-get.result (omega arith) (omega arith) place c.before-2.result.1 c.before-2.ensures.visits)
+    let place : c.index.result ≡ c.args.level - 1 = omega arith in
+    omega (arith, all-visits s.rows.items s.lists s.enqueued c.self.invariant, list-visits s.rows.items s.lists s.enqueued c.self.invariant c.args.level c.index.result c.index-self-index.result (omega arith) (omega arith) place c.before-2.result.1 c.before-2.ensures.visits)
 
 pub returns-clause-entered : goal.returns-clause-entered
 returns-clause-entered c =
     let s = c.self.inside in
-    let place : c.get.result - 1 ≡ c.args.level - 1 = ap (λ n. n - 1) c.get.ensures.exact in
-    rw (← c.self.view_is) (list-entered s.rows.items s.lists s.enqueued c.self.invariant c.args.level (c.get.result - 1) c.index-self-get.result (omega arith) (omega arith) place c.before-2.result.1 c.before-2.ensures.entered)
+    let place : c.index.result ≡ c.args.level - 1 = omega arith in
+    rw (← c.self.view_is) (list-entered s.rows.items s.lists s.enqueued c.self.invariant c.args.level c.index.result c.index-self-index.result (omega arith) (omega arith) place c.before-2.result.1 c.before-2.ensures.entered)

@@ -39,8 +39,8 @@ update-visits-requires-clause-there c =
     let s = c.self.inside in
     let x = c.index-old.result.now in
     let there = rw c.deref.ensures.value at c.in-Some.ensures.there in
-    let level : c.get.result ≡ x.level = c.get.ensures.exact ∙ c.level.ensures in
-    let some = entry-here s.rows.items s.lists s.enqueued c.in-Some.place x c.self.invariant there c.index-old.ensures (c.get.result - 1) c.index-self-get.result (ap (λ n. n - 1) level) in
+    let level : c.index.result ≡ x.level - 1 = omega (arith, c.level.ensures) in
+    let some = entry-here s.rows.items s.lists s.enqueued c.in-Some.place x c.self.invariant there c.index-old.ensures c.index.result c.index-self-index.result level in
     rw c.entry.ensures.exact some
 
 pub invariant_of-self : goal.invariant_of-self
@@ -49,15 +49,14 @@ invariant_of-self c =
     let x = c.index-old.result.now in
     let i = c.in-Some.place in
     let there = rw c.deref.ensures.value at c.in-Some.ensures.there in
-    let level : c.get.result ≡ x.level = c.get.ensures.exact ∙ c.level.ensures in
-    let place = ap (λ n. n - 1) level in
+    let place : c.index.result ≡ x.level - 1 = omega (arith, c.level.ensures) in
     let entry = c.entry-entry.ensures.exact ∙ ap entry_of c.with_claim-new.ensures in
-    let list : List Row = get_or s.lists (c.get.result - 1) c.index-self-get.result in
+    let list : List Row = get_or s.lists c.index.result c.index-self-index.result in
     let rows = c.update-visits.ensures.rows ∙ ap (λ (r : Row). set_row r.stamp c.entry-entry.result.request c.entry-entry.result.mandated list) c.entry.ensures.exact ∙ ap (λ (r : Row). set_row x.stamp r.request r.mandated list) entry in
     let old : c.counted.result ≡ cond (ltb 0 x.claim.mandatory) 1 0 = c.counted.ensures ∙ ap (λ (q : Claim). cond (ltb 0 q.mandatory) 1 0) c.claim-2.ensures in
     let new : c.counted-2.result ≡ cond (ltb 0 c.in_ok-claim.claim.mandatory) 1 0 = c.counted-2.ensures in
     rw c.with_claim-new.ensures
-    (stored-claimed s.rows.items s.lists s.enqueued i x c.self.invariant there c.index-old.ensures c.in_ok-claim.claim (c.get.result - 1) c.index-self-get.result _ _ place rows
+    (stored-claimed s.rows.items s.lists s.enqueued i x c.self.invariant there c.index-old.ensures c.in_ok-claim.claim c.index.result c.index-self-index.result _ _ place rows
     (omega (arith, counted-within s.rows.items s.lists s.enqueued i x c.self.invariant there c.index-old.ensures, old, new)))
 
 pub returns-clause-next : goal.returns-clause-next
@@ -76,6 +75,6 @@ returns-clause-visits c =
     let s = c.self.inside in
     let x = c.index-old.result.now in
     let there = rw c.deref.ensures.value at c.in-Some.ensures.there in
-    let level : c.get.result ≡ x.level = c.get.ensures.exact ∙ c.level.ensures in
+    let level : c.index.result ≡ x.level - 1 = omega (arith, c.level.ensures) in
     let within = level-here s.rows.items s.lists s.enqueued c.in-Some.place x c.self.invariant there c.index-old.ensures in
-    rw (← c.self.view_is) (list-visits s.rows.items s.lists s.enqueued c.self.invariant x.level (c.get.result - 1) c.index-self-get.result within.0 within.1 (ap (λ n. n - 1) level) c.update-visits.result c.update-visits.ensures.visits)
+    rw (← c.self.view_is) (list-visits s.rows.items s.lists s.enqueued c.self.invariant x.level c.index.result c.index-self-index.result within.0 within.1 level c.update-visits.result c.update-visits.ensures.visits)

@@ -1,4 +1,4 @@
-use Rattle.std.proofs.Common.{arith, refl, sym, ap, ◌∙◌, ◌-◌, ◌≤◌, ◌*◌, length, ◌≡◌}
+use Rattle.std.proofs.Common.{arith, sym, ap, ◌∙◌, ◌-◌, ◌≤◌, ◌*◌, length, ◌≡◌}
 use Rattle.std.specs.Option.{option_map}
 use Rattle.level_list.specs.Bits.{bits}
 use Rattle.market_types.specs.declared.row.Row.{Row}
@@ -9,13 +9,13 @@ use Rattle.market_core.proofs.store.Arenas.first_mandated.Goals as goal
 pub returns-in-Some : goal.returns-in-Some
 returns-in-Some c =
     let s = c.self.inside in
-    let place : c.get.result - 1 ≡ c.args.level - 1 = ap (λ n. n - 1) c.get.ensures.exact in
-    let d = c.index-self-get.result in
+    let place : c.index.result ≡ c.args.level - 1 = omega arith in
+    let d = c.index-self-index.result in
     let visits : c.first_mandated-row.result.1 ≤ 2 * bits (length (by_stamp s.rows.items)) =
-    list-visits s.rows.items s.lists s.enqueued c.self.invariant c.args.level (c.get.result - 1) d (omega arith) (omega arith) place c.first_mandated-row.result.1 c.first_mandated-row.ensures.visits in
+    list-visits s.rows.items s.lists s.enqueued c.self.invariant c.args.level c.index.result d (omega arith) (omega arith) place c.first_mandated-row.result.1 c.first_mandated-row.ensures.visits in
     rw (← c.self.view_is) (record {
-      exact = ap (option_map (λ (r : Row). r.arena)) (sym c.in-Some.is) ∙ list-mandated s.rows.items s.lists s.enqueued c.self.invariant c.args.level (c.get.result - 1) d (omega arith) (omega arith) place c.first_mandated-row.result.0 c.first_mandated-row.ensures.exact;
-      entered = list-entered s.rows.items s.lists s.enqueued c.self.invariant c.args.level (c.get.result - 1) d (omega arith) (omega arith) place c.first_mandated-row.result.1 c.first_mandated-row.ensures.entered;
+      exact = ap (option_map (λ (r : Row). r.arena)) (sym c.in-Some.is) ∙ list-mandated s.rows.items s.lists s.enqueued c.self.invariant c.args.level c.index.result d (omega arith) (omega arith) place c.first_mandated-row.result.0 c.first_mandated-row.ensures.exact;
+      entered = list-entered s.rows.items s.lists s.enqueued c.self.invariant c.args.level c.index.result d (omega arith) (omega arith) place c.first_mandated-row.result.1 c.first_mandated-row.ensures.entered;
       visits = visits;
       few = omega (arith, visits, all-visits s.rows.items s.lists s.enqueued c.self.invariant);
     })
@@ -23,13 +23,13 @@ returns-in-Some c =
 pub returns-in-None : goal.returns-in-None
 returns-in-None c =
     let s = c.self.inside in
-    let place : c.get.result - 1 ≡ c.args.level - 1 = ap (λ n. n - 1) c.get.ensures.exact in
-    let d = c.index-self-get.result in
+    let place : c.index.result ≡ c.args.level - 1 = omega arith in
+    let d = c.index-self-index.result in
     let visits : c.first_mandated-row.result.1 ≤ 2 * bits (length (by_stamp s.rows.items)) =
-    list-visits s.rows.items s.lists s.enqueued c.self.invariant c.args.level (c.get.result - 1) d (omega arith) (omega arith) place c.first_mandated-row.result.1 c.first_mandated-row.ensures.visits in
+    list-visits s.rows.items s.lists s.enqueued c.self.invariant c.args.level c.index.result d (omega arith) (omega arith) place c.first_mandated-row.result.1 c.first_mandated-row.ensures.visits in
     rw (← c.self.view_is) (record {
-      exact = ap (option_map (λ (r : Row). r.arena)) (sym c.in-None.is) ∙ list-mandated s.rows.items s.lists s.enqueued c.self.invariant c.args.level (c.get.result - 1) d (omega arith) (omega arith) place c.first_mandated-row.result.0 c.first_mandated-row.ensures.exact;
-      entered = list-entered s.rows.items s.lists s.enqueued c.self.invariant c.args.level (c.get.result - 1) d (omega arith) (omega arith) place c.first_mandated-row.result.1 c.first_mandated-row.ensures.entered;
+      exact = ap (option_map (λ (r : Row). r.arena)) (sym c.in-None.is) ∙ list-mandated s.rows.items s.lists s.enqueued c.self.invariant c.args.level c.index.result d (omega arith) (omega arith) place c.first_mandated-row.result.0 c.first_mandated-row.ensures.exact;
+      entered = list-entered s.rows.items s.lists s.enqueued c.self.invariant c.args.level c.index.result d (omega arith) (omega arith) place c.first_mandated-row.result.1 c.first_mandated-row.ensures.entered;
       visits = visits;
       few = omega (arith, visits, all-visits s.rows.items s.lists s.enqueued c.self.invariant);
     })

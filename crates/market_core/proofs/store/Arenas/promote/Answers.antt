@@ -17,9 +17,9 @@ unreachable-requires c =
     let within = rw c.deref.ensures.value at c.in_ok-place.ensures.there in
     let found = rw c.deref.ensures.value at c.in_ok-place.ensures.found in
     let e = c.index-row.ensures in
-    let level : c.get.result ≡ x.level = c.get.ensures.exact ∙ c.level.ensures in
-    let some = entry-here s.rows.items s.lists s.enqueued i x c.self.invariant within e (c.get.result - 1) c.index-self-get.result (ap (λ n. n - 1) level) in
-    none-some (entry_of x) (sym c.in_default.is ∙ c.take-taken.ensures.taken ∙ ap (λ k. row_at k (get_or s.lists (c.get.result - 1) c.index-self-get.result)) c.stamp.ensures ∙ some)
+    let level : c.index.result ≡ x.level - 1 = omega (arith, c.level.ensures) in
+    let some = entry-here s.rows.items s.lists s.enqueued i x c.self.invariant within e c.index.result c.index-self-index.result level in
+    none-some (entry_of x) (sym c.in_default.is ∙ c.take-taken.ensures.taken ∙ ap (λ k. row_at k (get_or s.lists c.index.result c.index-self-index.result)) c.stamp.ensures ∙ some)
 
 pub put-back-requires-clause-room : goal.put-back-requires-clause-room
 put-back-requires-clause-room c =
@@ -31,10 +31,10 @@ put-back-requires-clause-room c =
     let found = rw c.deref.ensures.value at c.in_ok-place.ensures.found in
     let older = rw (← c.self.view_is) at c.requires.newest in
     let e = c.index-row.ensures in
-    let level : c.get.result ≡ x.level = c.get.ensures.exact ∙ c.level.ensures in
-    let rows = c.take-taken.ensures.rows ∙ ap (λ k. without_row k (get_or s.lists (c.get.result - 1) c.index-self-get.result)) c.stamp.ensures in
-    promoted-room s.rows.items s.lists s.enqueued i x c.self.invariant within e y older (omega arith, omega arith) (c.get.result - 1) (c.get-2.result - 1) c.index-self-get.result c.index-self-get-2.result _ _
-    (ap (λ n. n - 1) level) (ap (λ n. n - 1) c.get-2.ensures.exact) refl rows
+    let level : c.index.result ≡ x.level - 1 = omega (arith, c.level.ensures) in
+    let rows = c.take-taken.ensures.rows ∙ ap (λ k. without_row k (get_or s.lists c.index.result c.index-self-index.result)) c.stamp.ensures in
+    promoted-room s.rows.items s.lists s.enqueued i x c.self.invariant within e y older (omega arith, omega arith) c.index.result c.index-2.result c.index-self-index.result c.index-self-index-2.result _ _
+    level (omega (arith, c.index-2.ensures.exact)) refl rows
 
 pub put-back-requires-clause-newest : goal.put-back-requires-clause-newest
 put-back-requires-clause-newest c =
@@ -46,10 +46,10 @@ put-back-requires-clause-newest c =
     let found = rw c.deref.ensures.value at c.in_ok-place.ensures.found in
     let older = rw (← c.self.view_is) at c.requires.newest in
     let e = c.index-row.ensures in
-    let level : c.get.result ≡ x.level = c.get.ensures.exact ∙ c.level.ensures in
-    let rows = c.take-taken.ensures.rows ∙ ap (λ k. without_row k (get_or s.lists (c.get.result - 1) c.index-self-get.result)) c.stamp.ensures in
-    promoted-newest s.rows.items s.lists s.enqueued i x c.self.invariant within e y older (omega arith, omega arith) (c.get.result - 1) (c.get-2.result - 1) c.index-self-get.result c.index-self-get-2.result _ _
-    (ap (λ n. n - 1) level) (ap (λ n. n - 1) c.get-2.ensures.exact) refl rows
+    let level : c.index.result ≡ x.level - 1 = omega (arith, c.level.ensures) in
+    let rows = c.take-taken.ensures.rows ∙ ap (λ k. without_row k (get_or s.lists c.index.result c.index-self-index.result)) c.stamp.ensures in
+    promoted-newest s.rows.items s.lists s.enqueued i x c.self.invariant within e y older (omega arith, omega arith) c.index.result c.index-2.result c.index-self-index.result c.index-self-index-2.result _ _
+    level (omega (arith, c.index-2.ensures.exact)) refl rows
 
 pub overflow_add-result : goal.overflow_add-result
 overflow_add-result c =
@@ -61,14 +61,14 @@ overflow_add-result c =
     let found = rw c.deref.ensures.value at c.in_ok-place.ensures.found in
     let older = rw (← c.self.view_is) at c.requires.newest in
     let e = c.index-row.ensures in
-    let level : c.get.result ≡ x.level = c.get.ensures.exact ∙ c.level.ensures in
-    let rows = c.take-taken.ensures.rows ∙ ap (λ k. without_row k (get_or s.lists (c.get.result - 1) c.index-self-get.result)) c.stamp.ensures in
+    let level : c.index.result ≡ x.level - 1 = omega (arith, c.level.ensures) in
+    let rows = c.take-taken.ensures.rows ∙ ap (λ k. without_row k (get_or s.lists c.index.result c.index-self-index.result)) c.stamp.ensures in
     let within_level = level-here s.rows.items s.lists s.enqueued i x c.self.invariant within e in
     let out : c.take-taken.result.1 ≤ 2 * bits (length (by_stamp s.rows.items)) =
-    list-visits s.rows.items s.lists s.enqueued c.self.invariant x.level (c.get.result - 1) c.index-self-get.result within_level.0 within_level.1 (ap (λ n. n - 1) level) c.take-taken.result.1 c.take-taken.ensures.visits in
+    list-visits s.rows.items s.lists s.enqueued c.self.invariant x.level c.index.result c.index-self-index.result within_level.0 within_level.1 level c.take-taken.result.1 c.take-taken.ensures.visits in
     let back : c.put-back.result ≤ 2 * bits (length (by_stamp s.rows.items)) + 1 =
-    promoted-visits s.rows.items s.lists s.enqueued i x c.self.invariant within e y older (omega arith, omega arith) (c.get.result - 1) (c.get-2.result - 1) c.index-self-get.result c.index-self-get-2.result _ _
-    (ap (λ n. n - 1) level) (ap (λ n. n - 1) c.get-2.ensures.exact) refl rows c.put-back.result c.put-back.ensures.visits in
+    promoted-visits s.rows.items s.lists s.enqueued i x c.self.invariant within e y older (omega arith, omega arith) c.index.result c.index-2.result c.index-self-index.result c.index-self-index-2.result _ _
+    level (omega (arith, c.index-2.ensures.exact)) refl rows c.put-back.result c.put-back.ensures.visits in
     omega (arith, all-visits s.rows.items s.lists s.enqueued c.self.invariant, out, back)
 
 pub invariant_of-self : goal.invariant_of-self
@@ -81,16 +81,16 @@ invariant_of-self c =
     let found = rw c.deref.ensures.value at c.in_ok-place.ensures.found in
     let older = rw (← c.self.view_is) at c.requires.newest in
     let e = c.index-row.ensures in
-    let level : c.get.result ≡ x.level = c.get.ensures.exact ∙ c.level.ensures in
-    let rows = c.take-taken.ensures.rows ∙ ap (λ k. without_row k (get_or s.lists (c.get.result - 1) c.index-self-get.result)) c.stamp.ensures in
-    let some = entry-here s.rows.items s.lists s.enqueued i x c.self.invariant within e (c.get.result - 1) c.index-self-get.result (ap (λ n. n - 1) level) in
+    let level : c.index.result ≡ x.level - 1 = omega (arith, c.level.ensures) in
+    let rows = c.take-taken.ensures.rows ∙ ap (λ k. without_row k (get_or s.lists c.index.result c.index-self-index.result)) c.stamp.ensures in
+    let some = entry-here s.rows.items s.lists s.enqueued i x c.self.invariant within e c.index.result c.index-self-index.result level in
     let same : c.in-Some.taken ≡ entry_of x =
-    same_Some c.in-Some.taken (entry_of x) (sym c.in-Some.is ∙ c.take-taken.ensures.taken ∙ ap (λ k. row_at k (get_or s.lists (c.get.result - 1) c.index-self-get.result)) c.stamp.ensures ∙ some) in
+    same_Some c.in-Some.taken (entry_of x) (sym c.in-Some.is ∙ c.take-taken.ensures.taken ∙ ap (λ k. row_at k (get_or s.lists c.index.result c.index-self-index.result)) c.stamp.ensures ∙ some) in
     let fresh : record c.in-Some.taken { stamp = c.args.stamp } ≡ entry_of y = ap (λ (r : Row). record r { stamp = c.args.stamp }) same in
     let after = rw fresh at c.put-back.ensures.rows in
     rw c.promoted.ensures
-    (stored-promoted s.rows.items s.lists s.enqueued i x c.self.invariant within e y older (omega arith, omega arith) (c.get.result - 1) (c.get-2.result - 1) c.index-self-get.result c.index-self-get-2.result _ _
-    (ap (λ n. n - 1) level) (ap (λ n. n - 1) c.get-2.ensures.exact) refl rows _ refl refl after)
+    (stored-promoted s.rows.items s.lists s.enqueued i x c.self.invariant within e y older (omega arith, omega arith) c.index.result c.index-2.result c.index-self-index.result c.index-self-index-2.result _ _
+    level (omega (arith, c.index-2.ensures.exact)) refl rows _ refl refl after)
 
 pub returns-in_err-place-clause-exact : goal.returns-in_err-place-clause-exact
 returns-in_err-place-clause-exact c =
@@ -136,14 +136,14 @@ returns-clause-visits c =
     let found = rw c.deref.ensures.value at c.in_ok-place.ensures.found in
     let older = rw (← c.self.view_is) at c.requires.newest in
     let e = c.index-row.ensures in
-    let level : c.get.result ≡ x.level = c.get.ensures.exact ∙ c.level.ensures in
-    let rows = c.take-taken.ensures.rows ∙ ap (λ k. without_row k (get_or s.lists (c.get.result - 1) c.index-self-get.result)) c.stamp.ensures in
+    let level : c.index.result ≡ x.level - 1 = omega (arith, c.level.ensures) in
+    let rows = c.take-taken.ensures.rows ∙ ap (λ k. without_row k (get_or s.lists c.index.result c.index-self-index.result)) c.stamp.ensures in
     let within_level = level-here s.rows.items s.lists s.enqueued i x c.self.invariant within e in
     let out : c.take-taken.result.1 ≤ 2 * bits (length (by_stamp s.rows.items)) =
-    list-visits s.rows.items s.lists s.enqueued c.self.invariant x.level (c.get.result - 1) c.index-self-get.result within_level.0 within_level.1 (ap (λ n. n - 1) level) c.take-taken.result.1 c.take-taken.ensures.visits in
+    list-visits s.rows.items s.lists s.enqueued c.self.invariant x.level c.index.result c.index-self-index.result within_level.0 within_level.1 level c.take-taken.result.1 c.take-taken.ensures.visits in
     let back : c.put-back.result ≤ 2 * bits (length (by_stamp s.rows.items)) + 1 =
-    promoted-visits s.rows.items s.lists s.enqueued i x c.self.invariant within e y older (omega arith, omega arith) (c.get.result - 1) (c.get-2.result - 1) c.index-self-get.result c.index-self-get-2.result _ _
-    (ap (λ n. n - 1) level) (ap (λ n. n - 1) c.get-2.ensures.exact) refl rows c.put-back.result c.put-back.ensures.visits in
+    promoted-visits s.rows.items s.lists s.enqueued i x c.self.invariant within e y older (omega arith, omega arith) c.index.result c.index-2.result c.index-self-index.result c.index-self-index-2.result _ _
+    level (omega (arith, c.index-2.ensures.exact)) refl rows c.put-back.result c.put-back.ensures.visits in
     rw (← c.self.view_is) (omega (arith, out, back))
 
 pub returns-clause-entered : goal.returns-clause-entered
@@ -151,6 +151,6 @@ returns-clause-entered c =
     let s = c.self.inside in
     let x = c.index-row.result.now in
     let within = rw c.deref.ensures.value at c.in_ok-place.ensures.there in
-    let level : c.get.result ≡ x.level = c.get.ensures.exact ∙ c.level.ensures in
-    let out = c.take-taken.ensures.entered (some-here s.rows.items s.lists s.enqueued c.in_ok-place.place x c.self.invariant within c.index-row.ensures (c.get.result - 1) c.index-self-get.result (ap (λ n. n - 1) level)) in
+    let level : c.index.result ≡ x.level - 1 = omega (arith, c.level.ensures) in
+    let out = c.take-taken.ensures.entered (some-here s.rows.items s.lists s.enqueued c.in_ok-place.place x c.self.invariant within c.index-row.ensures c.index.result c.index-self-index.result level) in
     omega (arith, out, c.put-back.ensures.low)

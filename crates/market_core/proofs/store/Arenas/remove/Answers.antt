@@ -31,12 +31,11 @@ invariant_of-self c =
     let x = c.remove-row.result in
     let i = c.in_ok-place.place in
     let there = rw c.deref.ensures.value at c.in_ok-place.ensures.there in
-    let level : c.get.result ≡ x.level = c.get.ensures.exact ∙ c.level.ensures in
-    let place = ap (λ n. n - 1) level in
-    let rows = c.take-taken.ensures.rows ∙ ap (λ k. without_row k (get_or s.lists (c.get.result - 1) c.index-self-get.result)) c.stamp.ensures in
+    let place : c.index.result ≡ x.level - 1 = omega (arith, c.level.ensures) in
+    let rows = c.take-taken.ensures.rows ∙ ap (λ k. without_row k (get_or s.lists c.index.result c.index-self-index.result)) c.stamp.ensures in
     let old : c.counted.result ≡ cond (ltb 0 x.claim.mandatory) 1 0 = c.counted.ensures ∙ ap (λ (q : Claim). cond (ltb 0 q.mandatory) 1 0) c.claim.ensures in
     rw c.remove-row.ensures.items
-    (stored-removed s.rows.items s.lists s.enqueued i x c.self.invariant there c.remove-row.ensures.value (c.get.result - 1) c.index-self-get.result _ _ place rows
+    (stored-removed s.rows.items s.lists s.enqueued i x c.self.invariant there c.remove-row.ensures.value c.index.result c.index-self-index.result _ _ place rows
     (omega (arith, counted-within s.rows.items s.lists s.enqueued i x c.self.invariant there c.remove-row.ensures.value, old)))
 
 pub returns-clause-exact : goal.returns-clause-exact
@@ -55,14 +54,14 @@ returns-clause-visits c =
     let s = c.self.inside in
     let x = c.remove-row.result in
     let there = rw c.deref.ensures.value at c.in_ok-place.ensures.there in
-    let level : c.get.result ≡ x.level = c.get.ensures.exact ∙ c.level.ensures in
+    let level : c.index.result ≡ x.level - 1 = omega (arith, c.level.ensures) in
     let within = level-here s.rows.items s.lists s.enqueued c.in_ok-place.place x c.self.invariant there c.remove-row.ensures.value in
-    rw (← c.self.view_is) (list-visits s.rows.items s.lists s.enqueued c.self.invariant x.level (c.get.result - 1) c.index-self-get.result within.0 within.1 (ap (λ n. n - 1) level) c.take-taken.result.1 c.take-taken.ensures.visits)
+    rw (← c.self.view_is) (list-visits s.rows.items s.lists s.enqueued c.self.invariant x.level c.index.result c.index-self-index.result within.0 within.1 level c.take-taken.result.1 c.take-taken.ensures.visits)
 
 pub returns-clause-entered : goal.returns-clause-entered
 returns-clause-entered c =
     let s = c.self.inside in
     let x = c.remove-row.result in
     let there = rw c.deref.ensures.value at c.in_ok-place.ensures.there in
-    let level : c.get.result ≡ x.level = c.get.ensures.exact ∙ c.level.ensures in
-    c.take-taken.ensures.entered (some-here s.rows.items s.lists s.enqueued c.in_ok-place.place x c.self.invariant there c.remove-row.ensures.value (c.get.result - 1) c.index-self-get.result (ap (λ n. n - 1) level))
+    let level : c.index.result ≡ x.level - 1 = omega (arith, c.level.ensures) in
+    c.take-taken.ensures.entered (some-here s.rows.items s.lists s.enqueued c.in_ok-place.place x c.self.invariant there c.remove-row.ensures.value c.index.result c.index-self-index.result level)
