@@ -1,1 +1,2 @@
 mod Living
+mod Turns

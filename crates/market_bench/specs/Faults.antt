@@ -1,8 +1,11 @@
-use Rattle.std.specs.Prelude.{◌≡◌, true, None}
+use Rattle.std.specs.Prelude.{◌≡◌, true, Option, None}
 use Rattle.market_types.specs.declared.command.Cmd.{Cmd}
 use Rattle.market_types.specs.declared.reply.Reply.{Reply}
 use Rattle.market_core.specs.Memory.{takes_memory}
 use Rattle.market_bench.specs.Replies.{number_in}
+use Rattle.market_bench.specs.Turns.{Sum}
+use Rattle.market_bench.specs.declared.scenario.Scenario.{Scenario}
+use Rattle.market_bench.specs.declared.scenario.Scenario.TheVariants.{Lists}
 use Rattle.market_bench.specs.declared.fault.TurnFault.{TurnFault}
 use Rattle.market_bench.specs.declared.fault.TurnFault.TheVariants as turn
 use Rattle.market_bench.specs.declared.fault.BenchFault.{BenchFault}
@@ -17,3 +20,8 @@ told_as turn.Refused = bench.Refused
 abbrev pub Stops : TurnFault → Cmd → Reply → Type 0
 Stops turn.Memory cmd reply = takes_memory cmd ≡ true
 Stops turn.Refused cmd reply = number_in reply ≡ None
+
+-- turns with this sum can stop so: those of Lists by want of memory, those without a sum by a refusal
+abbrev pub StopsTurns : TurnFault → Scenario → Option Sum → Type 0
+StopsTurns turn.Memory scenario sum = scenario ≡ Lists
+StopsTurns turn.Refused scenario sum = sum ≡ None

@@ -1,3 +1,5 @@
 pub mod Faults
 pub mod Replies
+pub mod Stages
+pub mod Table
 pub mod Turns

@@ -1,4 +1,8 @@
 //! The words of the command line.
+ghost use Rattle.std.specs.Prelude.{◌≡◌, ◌↔◌, ◌⊎◌, codes};
+ghost use Rattle.market_bench.specs.declared.choice.Choice.TheVariants.{Help, Table, Unknown};
+ghost use Rattle.market_bench.specs.declared.table.Content.TheVariants.{Replies};
+
 use crate::fault::BenchFault;
 use crate::table::Content;
 use std::rt::Env;
@@ -52,7 +56,11 @@ impl Choice {
     }
 
     /// What one word chooses.
-    fn of_word(word: &str) -> Choice {
+    fn of_word(word: &str) -> Choice
+        ensures dry { result ≡ Table Replies ↔ word.now ≡ codes "--dry" }
+        ensures help { result ≡ Help ↔ ((word.now ≡ codes "--help") ⊎ (word.now ≡ codes "-h")) }
+        ensures one { (result ≡ Table Replies) ⊎ ((result ≡ Help) ⊎ (result ≡ Unknown)) }
+    {
         match word {
             "--dry" => Choice::Table(Content::Replies),
             "--help" | "-h" => Choice::Help,

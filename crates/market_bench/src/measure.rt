@@ -1,6 +1,7 @@
 //! How long a turn takes.
-ghost use Rattle.std.specs.Prelude.{◌≤◌};
+ghost use Rattle.std.specs.Prelude.{◌≡◌, ◌≤◌, Some, OnOk};
 ghost use Rattle.std.specs.List.{All, Contains};
+ghost use Rattle.market_bench.specs.Turns.{after_round, after_rounds};
 
 use crate::fault::BenchFault;
 use crate::scenario::Scenario;
@@ -23,7 +24,10 @@ fn least(times: &[u64; ROUNDS]) -> u64
 }
 
 /// The nanoseconds of one round.
-fn time_round(rt: &impl Clock, scenario: Scenario, stage: &mut Stage) -> Result<u64, BenchFault> {
+fn time_round(rt: &impl Clock, scenario: Scenario, stage: &mut Stage) -> Result<u64, BenchFault>
+    ensures round { OnOk result (after_round scenario stage.old.arenas stage.old.market ≡ Some stage.new.market) }
+    ensures arenas { stage.new.arenas ≡ stage.old.arenas }
+{
     let start = Instant::now(rt)?;
     let _sum = scenario.round(stage)?;
     let nanos = start.elapsed(rt)?.as_nanos();
@@ -31,11 +35,10 @@ fn time_round(rt: &impl Clock, scenario: Scenario, stage: &mut Stage) -> Result<
 }
 
 /// The nanoseconds of one turn, in the fastest of the rounds.
-pub fn time_turn(
-    rt: &impl Clock,
-    scenario: Scenario,
-    stage: &mut Stage,
-) -> Result<u64, BenchFault> {
+pub fn time_turn(rt: &impl Clock, scenario: Scenario, stage: &mut Stage) -> Result<u64, BenchFault>
+    ensures rounds { OnOk result (after_rounds scenario stage.old.arenas stage.old.market 5 ≡ Some stage.new.market) }
+    ensures arenas { stage.new.arenas ≡ stage.old.arenas }
+{
     let mut times = [0; ROUNDS];
     for time in times.iter_mut() {
         *time = time_round(rt, scenario, stage)?;

@@ -1,5 +1,10 @@
 //! What is measured.
-ghost use Rattle.std.specs.Prelude.{◌≡◌, ◌<◌, ◌≤◌, IfOk};
+ghost use Rattle.std.specs.Prelude.{◌≡◌, ◌≤◌, [], ◌∷◌, Some, None, OnErr, IfOk, IfErr};
+ghost use Rattle.market_bench.specs.declared.fault.TurnFault.TheVariants.{Refused};
+ghost use Rattle.market_bench.specs.Faults.{StopsTurns};
+ghost use Rattle.market_bench.specs.Stages.{stage_of};
+ghost use Rattle.market_bench.specs.Table.{heading_of};
+ghost use Rattle.market_bench.specs.Turns.{request_in, round_of, sum_after, turn_of, turns_of};
 
 use crate::fault::{BenchFault, TurnFault};
 use crate::stage::Stage;
@@ -35,7 +40,9 @@ impl Scenario {
     ];
 
     /// What the table calls it.
-    pub fn name(self) -> &'static str {
+    pub fn name(self) -> &'static str
+        ensures exact { result.now ≡ heading_of self }
+    {
         match self {
             Scenario::Request => "request",
             Scenario::RequestShow => "request, show",
@@ -47,7 +54,7 @@ impl Scenario {
 
     /// How many turns a round has.
     pub fn turns(self) -> u32
-        ensures { 0 < result }
+        ensures exact { result ≡ turns_of self }
     {
         match self {
             Scenario::Request | Scenario::RequestShow => 50_000,
@@ -61,19 +68,26 @@ impl Scenario {
     pub fn stage(self, alloc: Global, levels: u32, arenas: u32) -> Result<Stage, BenchFault>
         requires levels { (1 ≤ levels) × (levels ≤ 8) }
         requires arenas { (1 ≤ arenas) × (arenas ≤ 1024) }
+        ensures ready { IfOk result (λ stage. stage.market ≡ stage_of self levels arenas) }
         ensures arenas { IfOk result (λ stage. stage.arenas ≡ arenas) }
     {
-        if self != Scenario::JoinInVain {
-            return Stage::new(alloc, 65, levels, arenas);
+        match self {
+            Scenario::JoinInVain => {
+                let mut stage = Stage::new(alloc, 64, levels, arenas)?;
+                stage.place_others()?;
+                Ok(stage)
+            }
+            _ => Stage::new(alloc, 65, levels, arenas),
         }
-        let mut stage = Stage::new(alloc, 64, levels, arenas)?;
-        stage.place_others()?;
-        Ok(stage)
     }
 
     /// One turn. The result is a number out of its replies.
     #[inline(always)]
-    fn turn(self, stage: &mut Stage, turn: u64) -> Result<u64, TurnFault> {
+    fn turn(self, stage: &mut Stage, turn: u64) -> Result<u64, TurnFault>
+        ensures sum { IfOk result (λ sum. turn_of self stage.old.arenas turn stage.old.market ≡ Some (sum, stage.new.market)) }
+        ensures fault { IfErr result (λ fault. StopsTurns fault self (turn_of self stage.old.arenas turn stage.old.market)) }
+        ensures arenas { stage.new.arenas ≡ stage.old.arenas }
+    {
         match self {
             Scenario::Request => request(stage, turn),
             Scenario::RequestShow => {
@@ -94,7 +108,11 @@ impl Scenario {
 
     /// All turns of a round. The result is the sum of their numbers.
     #[inline(never)]
-    pub fn round(self, stage: &mut Stage) -> Result<u64, TurnFault> {
+    pub fn round(self, stage: &mut Stage) -> Result<u64, TurnFault>
+        ensures sum { IfOk result (λ sum. round_of self stage.old.arenas stage.old.market ≡ Some (sum, stage.new.market)) }
+        ensures fault { IfErr result (λ fault. StopsTurns fault self (round_of self stage.old.arenas stage.old.market)) }
+        ensures arenas { stage.new.arenas ≡ stage.old.arenas }
+    {
         let mut sum = 0u64;
         for turn in 0..self.turns() {
             sum = sum.wrapping_add(self.turn(stage, u64::from(turn))?);
@@ -105,7 +123,12 @@ impl Scenario {
 
 /// An arena asks for one worker more in an even turn, and for one less in the odd turn after it.
 #[inline(always)]
-fn request(stage: &mut Stage, turn: u64) -> Result<u64, TurnFault> {
+fn request(stage: &mut Stage, turn: u64) -> Result<u64, TurnFault>
+    ensures refused { IfErr result (λ fault. fault ≡ Refused) }
+    ensures no_number { OnErr result (sum_after 0 stage.old.market (request_in stage.old.arenas turn ∷ []) ≡ None) }
+    ensures number { IfOk result (λ n. sum_after 0 stage.old.market (request_in stage.old.arenas turn ∷ []) ≡ Some (n, stage.new.market)) }
+    ensures arenas { stage.new.arenas ≡ stage.old.arenas }
+{
     let arena = stage.some_arena(turn / 2);
     let workers = if turn % 2 == 0 { 1 } else { -1 };
     stage.ask(CALLER, Cmd::Request(arena, workers, 0))

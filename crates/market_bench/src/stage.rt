@@ -3,7 +3,8 @@ ghost use Rattle.std.specs.Prelude.{◌≡◌, ◌+◌, ◌<◌, ◌≤◌, [], 
 ghost use Rattle.market_types.specs.Step.{step};
 ghost use Rattle.market_bench.specs.Replies.{number_in};
 ghost use Rattle.market_bench.specs.Faults.{Stops};
-ghost use Rattle.market_bench.specs.Turns.{is_in_turns};
+ghost use Rattle.market_bench.specs.Stages.{filled, with_arena, with_arenas, with_others};
+ghost use Rattle.market_bench.specs.Turns.{arena_in, is_in_turns};
 
 use crate::fault::{BenchFault, TurnFault};
 use market_core::Market;
@@ -12,6 +13,9 @@ use std::alloc::Global;
 
 /// How many seats there are.
 const SEATS: u8 = 64;
+
+/// How many seats there are but seat 0.
+const OTHERS: u8 = SEATS - 1;
 
 /// Slots of an arena, of which one is reserved.
 const SLOTS: u32 = 8;
@@ -65,6 +69,7 @@ fn open_arena(
     level: Level,
 ) -> Result<(), TurnFault>
     requires seats { length market.old.seats ≡ 64 }
+    ensures opened { OnOk result (market.new ≡ with_arena market.old arena level) }
     ensures one_more { OnOk result (length market.new.arenas ≡ length market.old.arenas + 1) }
     ensures same_seats { length market.new.seats ≡ length market.old.seats }
 {
@@ -84,6 +89,7 @@ fn open_arenas(
     requires arenas { arenas ≤ 1024 }
     requires none { market.old.arenas ≡ [] }
     requires seats { length market.old.seats ≡ 64 }
+    ensures opened { OnOk result (market.new ≡ with_arenas market.old levels arenas) }
     ensures all { OnOk result (length market.new.arenas ≡ arenas) }
     ensures same_seats { length market.new.seats ≡ length market.old.seats }
 {
@@ -112,6 +118,7 @@ impl Stage {
         requires base { (1 ≤ base) × (base ≤ 65536) }
         requires levels { (1 ≤ levels) × (levels ≤ 8) }
         requires arenas { (1 ≤ arenas) × (arenas ≤ 1024) }
+        ensures filled { IfOk result (λ stage. stage.market ≡ filled base levels arenas) }
         ensures arenas { IfOk result (λ stage. stage.arenas ≡ arenas) }
     {
         let Ok(mut market) = Market::new(alloc, base, 65_535, SEATS, levels) else {
@@ -127,10 +134,11 @@ impl Stage {
 
     /// Has every seat but seat 0 join.
     pub fn place_others(&mut self) -> Result<(), TurnFault>
-        ensures { self.new.arenas ≡ self.old.arenas }
+        ensures joined { OnOk result (self.new.market ≡ with_others self.old.market) }
+        ensures arenas { self.new.arenas ≡ self.old.arenas }
     {
-        for seat in 1..SEATS {
-            self.ask(seat, Cmd::Join)?;
+        for other in 0..OTHERS {
+            self.ask(other + 1, Cmd::Join)?;
         }
         Ok(())
     }
@@ -150,6 +158,7 @@ impl Stage {
 
     /// An arena for a turn, spread evenly by a multiplicative hash.
     pub fn some_arena(&self, turn: u64) -> ArenaId
+        ensures exact { result ≡ arena_in self.now.arenas turn }
         ensures low { 1 ≤ result }
         ensures high { result ≤ self.now.arenas }
     {

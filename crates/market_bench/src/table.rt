@@ -1,5 +1,7 @@
 //! The table.
-ghost use Rattle.std.specs.Prelude.{◌≤◌};
+ghost use Rattle.std.specs.Prelude.{◌≡◌, ◌≤◌, Some, IfOk};
+ghost use Rattle.market_bench.specs.declared.table.Content.TheVariants.{Replies};
+ghost use Rattle.market_bench.specs.Table.{sum_in};
 
 use crate::fault::BenchFault;
 use crate::measure::{ROUNDS, time_turn};
@@ -32,6 +34,7 @@ fn cell<R: Clock + AllocGlobal>(
 ) -> Result<u64, BenchFault>
     requires levels { (1 ≤ levels) × (levels ≤ 8) }
     requires arenas { (1 ≤ arenas) × (arenas ≤ 1024) }
+    ensures replies { content ≡ Replies → IfOk result (λ sum. sum_in scenario levels arenas ≡ Some sum) }
 {
     let mut stage = scenario.stage(rt.alloc(), levels, arenas)?;
     match content {
