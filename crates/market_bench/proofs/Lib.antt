@@ -1,2 +1,5 @@
+mod Faults
 mod Living
+mod Repeated
+mod Stages
 mod Turns

@@ -1,4 +1,5 @@
 pub mod Faults
+pub mod Repeated
 pub mod Replies
 pub mod Stages
 pub mod Table

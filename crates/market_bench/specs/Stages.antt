@@ -1,39 +1,39 @@
--- The markets that are measured.
-use Rattle.std.specs.Prelude.{ℕ, zero, suc, ◌+◌, ◌-◌, ◌%◌, pos, length}
+-- The markets that are measured. Each is nothing where one of the commands that make it is refused.
+use Rattle.std.specs.Prelude.{ℕ, ◌+◌, ◌-◌, ◌%◌, pos, length, Option, option_and_then, option_map}
 use Rattle.market_types.specs.State.{State, opening}
 use Rattle.market_types.specs.Step.{step}
 use Rattle.market_types.specs.declared.command.Cmd.{Cmd}
 use Rattle.market_types.specs.declared.command.Cmd.TheVariants.{Open, Request, Join}
+use Rattle.market_bench.specs.Repeated.{repeated}
+use Rattle.market_bench.specs.Replies.{number_in}
 use Rattle.market_bench.specs.declared.scenario.Scenario.{Scenario}
 use Rattle.market_bench.specs.declared.scenario.Scenario.TheVariants.{JoinInVain}
 
 -- the market after a seat's command
-abbrev pub after : State → ℕ → Cmd → State
-after s seat cmd = (step s seat cmd).1
+abbrev pub after : ℕ → Cmd → State → Option State
+after seat cmd s = option_map (λ number. (step s seat cmd).1) (number_in (step s seat cmd).0)
 
 -- with one more arena, of 8 slots of which 1 is reserved, that asked for 3 workers
-abbrev pub with_arena : State → ℕ → ℕ → State
-with_arena s arena level = after (after s 0 (Open 8 1 level)) 0 (Request arena (pos 3) (pos 0))
+abbrev pub with_arena : ℕ → ℕ → State → Option State
+with_arena arena level s = option_and_then (after 0 (Request arena (pos 3) (pos 0))) (after 0 (Open 8 1 level) s)
 
 -- with so many arenas, numbered from 1 on, level by level in turn
-abbrev pub with_arenas : State → ℕ → ℕ → State
-with_arenas s levels zero = s
-with_arenas s levels (suc n) = with_arena (with_arenas s levels n) (n + 1) (n % levels + 1)
+abbrev pub with_arenas : ℕ → ℕ → State → Option State
+with_arenas levels arenas s = repeated (λ place. with_arena (place + 1) (place % levels + 1)) s arenas
 
 -- after so many seats joined, from seat 1 on
-abbrev pub with_joined : State → ℕ → State
-with_joined s zero = s
-with_joined s (suc n) = after (with_joined s n) (n + 1) Join
+abbrev pub with_joined : ℕ → State → Option State
+with_joined seats s = repeated (λ other. after (other + 1) Join) s seats
 
 -- after every seat but seat 0 joined
-abbrev pub with_others : State → State
-with_others s = with_joined s (length s.seats - 1)
+abbrev pub with_others : State → Option State
+with_others s = with_joined (length s.seats - 1) s
 
 -- a market of 64 seats with so many arenas
-abbrev pub filled : ℕ → ℕ → ℕ → State
-filled base levels arenas = with_arenas (opening base 65535 64 levels) levels arenas
+abbrev pub filled : ℕ → ℕ → ℕ → Option State
+filled base levels arenas = with_arenas levels arenas (opening base 65535 64 levels)
 
 -- the market in which a scenario is measured: 64 workers may be active; where one is to join in vain, 63, who all are
-abbrev pub stage_of : Scenario → ℕ → ℕ → State
-stage_of JoinInVain levels arenas = with_others (filled 64 levels arenas)
+abbrev pub stage_of : Scenario → ℕ → ℕ → Option State
+stage_of JoinInVain levels arenas = option_and_then with_others (filled 64 levels arenas)
 stage_of _ levels arenas = filled 65 levels arenas

@@ -1,9 +1,10 @@
 -- What a scenario's turns are, and what their replies add up to.
-use Rattle.std.specs.Prelude.{ℕ, zero, suc, ◌+◌, ◌*◌, ◌/◌, ◌%◌, ◌^◌, ◌==◌, bit_xor, pos, negsuc, if◌then◌else◌, Bool, true, false, List, [], ◌∷◌, Option, Some, option_and_then, option_map}
+use Rattle.std.specs.Prelude.{ℕ, ◌+◌, ◌*◌, ◌/◌, ◌%◌, ◌^◌, ◌==◌, bit_xor, pos, negsuc, if◌then◌else◌, Bool, true, false, List, [], ◌∷◌, Option, Some, option_and_then, option_map}
 use Rattle.market_types.specs.State.{State}
 use Rattle.market_types.specs.Step.{step}
 use Rattle.market_types.specs.declared.command.Cmd.{Cmd}
 use Rattle.market_types.specs.declared.command.Cmd.TheVariants.{Request, Join, Stay, Leave, Show, Lists}
+use Rattle.market_bench.specs.Repeated.{repeated}
 use Rattle.market_bench.specs.Replies.{number_in}
 use Rattle.market_bench.specs.declared.scenario.Scenario.{Scenario}
 use Rattle.market_bench.specs.declared.scenario.Scenario.TheVariants as scenario
@@ -60,26 +61,23 @@ sum_after sum s (cmd ∷ cmds) =
 abbrev pub turn_of : Scenario → ℕ → ℕ → State → Option Sum
 turn_of scenario arenas turn s = sum_after 0 s (commands_of scenario arenas turn)
 
+-- a sum with one more turn's
+abbrev pub with_turn : Scenario → ℕ → ℕ → Sum → Option Sum
+with_turn scenario arenas turn so_far =
+    option_map (λ (sum : Sum). ((so_far.0 + sum.0) % 2 ^ 64, sum.1)) (turn_of scenario arenas turn so_far.1)
+
 -- the sum of the first turns' sums
 abbrev pub turns_after : Scenario → ℕ → State → ℕ → Option Sum
-turns_after scenario arenas s zero = Some (0, s)
-turns_after scenario arenas s (suc n) =
-    option_and_then
-    (λ (so_far : Sum). option_and_then
-    (λ (turn : Sum). Some ((so_far.0 + turn.0) % 2 ^ 64, turn.1))
-    (turn_of scenario arenas n so_far.1))
-    (turns_after scenario arenas s n)
+turns_after scenario arenas s turns = repeated (with_turn scenario arenas) (0, s) turns
 
 -- the sum of a round
 abbrev pub round_of : Scenario → ℕ → State → Option Sum
 round_of scenario arenas s = turns_after scenario arenas s (turns_of scenario)
 
--- the market after a round, where no command is refused
+-- the market after a round
 abbrev pub after_round : Scenario → ℕ → State → Option State
 after_round scenario arenas s = option_map (λ (sum : Sum). sum.1) (round_of scenario arenas s)
 
 -- the market after so many rounds
 abbrev pub after_rounds : Scenario → ℕ → State → ℕ → Option State
-after_rounds scenario arenas s zero = Some s
-after_rounds scenario arenas s (suc n) =
-    option_and_then (after_round scenario arenas) (after_rounds scenario arenas s n)
+after_rounds scenario arenas s rounds = repeated (λ _. after_round scenario arenas) s rounds

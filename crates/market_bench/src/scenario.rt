@@ -1,5 +1,6 @@
 //! What is measured.
 ghost use Rattle.std.specs.Prelude.{◌≡◌, ◌≤◌, [], ◌∷◌, Some, None, OnErr, IfOk, IfErr};
+ghost use Rattle.market_bench.specs.declared.fault.BenchFault.TheVariants as bench;
 ghost use Rattle.market_bench.specs.declared.fault.TurnFault.TheVariants.{Refused};
 ghost use Rattle.market_bench.specs.Faults.{StopsTurns};
 ghost use Rattle.market_bench.specs.Stages.{stage_of};
@@ -68,7 +69,8 @@ impl Scenario {
     pub fn stage(self, alloc: Global, levels: u32, arenas: u32) -> Result<Stage, BenchFault>
         requires levels { (1 ≤ levels) × (levels ≤ 8) }
         requires arenas { (1 ≤ arenas) × (arenas ≤ 1024) }
-        ensures ready { IfOk result (λ stage. stage.market ≡ stage_of self levels arenas) }
+        ensures ready { IfOk result (λ stage. stage_of self levels arenas ≡ Some stage.market) }
+        ensures refused { IfErr result (λ fault. fault ≡ bench.Refused → stage_of self levels arenas ≡ None) }
         ensures arenas { IfOk result (λ stage. stage.arenas ≡ arenas) }
     {
         match self {

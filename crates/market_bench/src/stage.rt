@@ -1,6 +1,8 @@
 //! A market that is ready to be measured.
-ghost use Rattle.std.specs.Prelude.{◌≡◌, ◌+◌, ◌<◌, ◌≤◌, [], length, true, Some, OnOk, IfOk, IfErr};
+ghost use Rattle.std.specs.Prelude.{◌≡◌, ◌+◌, ◌<◌, ◌≤◌, [], length, true, Some, None, OnOk, OnErr, IfOk, IfErr};
 ghost use Rattle.market_types.specs.Step.{step};
+ghost use Rattle.market_bench.specs.declared.fault.BenchFault.TheVariants as bench;
+ghost use Rattle.market_bench.specs.declared.fault.TurnFault.TheVariants.{Refused};
 ghost use Rattle.market_bench.specs.Replies.{number_in};
 ghost use Rattle.market_bench.specs.Faults.{Stops};
 ghost use Rattle.market_bench.specs.Stages.{filled, with_arena, with_arenas, with_others};
@@ -69,7 +71,8 @@ fn open_arena(
     level: Level,
 ) -> Result<(), TurnFault>
     requires seats { length market.old.seats ≡ 64 }
-    ensures opened { OnOk result (market.new ≡ with_arena market.old arena level) }
+    ensures opened { OnOk result (with_arena arena level market.old ≡ Some market.new) }
+    ensures refused { IfErr result (λ fault. fault ≡ Refused → with_arena arena level market.old ≡ None) }
     ensures one_more { OnOk result (length market.new.arenas ≡ length market.old.arenas + 1) }
     ensures same_seats { length market.new.seats ≡ length market.old.seats }
 {
@@ -89,7 +92,8 @@ fn open_arenas(
     requires arenas { arenas ≤ 1024 }
     requires none { market.old.arenas ≡ [] }
     requires seats { length market.old.seats ≡ 64 }
-    ensures opened { OnOk result (market.new ≡ with_arenas market.old levels arenas) }
+    ensures opened { OnOk result (with_arenas levels arenas market.old ≡ Some market.new) }
+    ensures refused { IfErr result (λ fault. fault ≡ Refused → with_arenas levels arenas market.old ≡ None) }
     ensures all { OnOk result (length market.new.arenas ≡ arenas) }
     ensures same_seats { length market.new.seats ≡ length market.old.seats }
 {
@@ -118,7 +122,8 @@ impl Stage {
         requires base { (1 ≤ base) × (base ≤ 65536) }
         requires levels { (1 ≤ levels) × (levels ≤ 8) }
         requires arenas { (1 ≤ arenas) × (arenas ≤ 1024) }
-        ensures filled { IfOk result (λ stage. stage.market ≡ filled base levels arenas) }
+        ensures filled { IfOk result (λ stage. filled base levels arenas ≡ Some stage.market) }
+        ensures refused { IfErr result (λ fault. fault ≡ bench.Refused → filled base levels arenas ≡ None) }
         ensures arenas { IfOk result (λ stage. stage.arenas ≡ arenas) }
     {
         let Ok(mut market) = Market::new(alloc, base, 65_535, SEATS, levels) else {
@@ -134,7 +139,9 @@ impl Stage {
 
     /// Has every seat but seat 0 join.
     pub fn place_others(&mut self) -> Result<(), TurnFault>
-        ensures joined { OnOk result (self.new.market ≡ with_others self.old.market) }
+        ensures joined { OnOk result (with_others self.old.market ≡ Some self.new.market) }
+        ensures refused { OnErr result (with_others self.old.market ≡ None) }
+        ensures fault { IfErr result (λ fault. fault ≡ Refused) }
         ensures arenas { self.new.arenas ≡ self.old.arenas }
     {
         for other in 0..OTHERS {
