@@ -105,9 +105,9 @@ pub enum Reply {
     Opened(ArenaId),
     Closed,
     Moved,
-    /// What the arena asks for now.
+    /// What the arena then asks for.
     Resized(u32),
-    /// What the arena asks for now.
+    /// What the arena then asks for.
     Requested(u32),
     /// The new control's number.
     Controlled(ControlId),

@@ -43,10 +43,8 @@ impl Rows for LevelOrder<'_> {
 impl Market {
     /// How many arenas a level has.
     fn count_at(&self, level: Level) -> usize
-        requires high { level ≤ self.now.levels }
         ensures { result ≡ length (rows_at self.now level) }
     {
-        let _ = self.levels;
         self.arenas.count(level)
     }
 
