@@ -2,7 +2,7 @@
 ghost use Rattle.std.specs.Prelude.{◌≡◌, ◌≤◌, ◌<◌, length, false, true, IsOk, IfOk, OnOk, OnErr};
 ghost use Rattle.market_types.specs.Step.{open_step, close_step, priority_step, resize_step, request_step, control_step, uncontrol_step, join_from, stay_from, leave_from, place_of, show_step, counts_of, step};
 ghost use Rattle.market_types.specs.declared.reply.Reply.TheVariants.{Listed};
-ghost use Rattle.market_core.specs.Memory.{takes_memory};
+ghost use Rattle.market_core.specs.Memory.{is_refusal, takes_memory};
 ghost use Rattle.market_core.specs.Allotted.{IsStaffed};
 ghost use Rattle.market_core.specs.Visits.{most_visits, most_listed, least_visits, looks_in_order, lists_all};
 
@@ -20,8 +20,8 @@ const LAST: u32 = 1_048_576;
 
 impl Market {
     /// Does what a seat asks, or refuses it: the first refusal that applies is the reply, and changes nothing. Only Open,
-    /// Control and Lists can give an `Err`, where there is no memory, and after one the market is as before. The seat is one
-    /// that the market has. After a worker was placed its arena has no more than it is allotted, and after one was recalled
+    /// Control and Lists can give an `Err`, where there is no memory for what no refusal stops, and after one the market is as
+    /// before. The seat is one that the market has. After a worker was placed its arena has no more than it is allotted, and after one was recalled
     /// no fewer.
     #[inline(always)]
     pub fn apply(&mut self, alloc: Global, seat: SeatNo, cmd: Cmd) -> Result<Reply, AllocError>
@@ -31,6 +31,7 @@ impl Market {
         ensures next { OnOk result (self.new ≡ (step self.old seat cmd).1) }
         ensures unchanged { OnErr result (self.new ≡ self.old) }
         ensures no_memory { takes_memory cmd ≡ false → IsOk result }
+        ensures memory_last { OnErr result (is_refusal (step self.old seat cmd).0 ≡ false) }
         ensures same_seats { length self.new.seats ≡ length self.old.seats }
     {
         let (reply, _visits) = self.apply_counted(alloc, seat, cmd)?;
@@ -55,6 +56,7 @@ impl Market {
         ensures next { OnOk result (self.new ≡ (step self.old seat cmd).1) }
         ensures unchanged { OnErr result (self.new ≡ self.old) }
         ensures no_memory { takes_memory cmd ≡ false → IsOk result }
+        ensures memory_last { OnErr result (is_refusal (step self.old seat cmd).0 ≡ false) }
         ensures same_seats { length self.new.seats ≡ length self.old.seats }
         ensures entered { IfOk result (λ answer. least_visits self.old answer.0 ≤ answer.1) }
         ensures visits { looks_in_order cmd ≡ false → IfOk result (λ answer. answer.1 ≤ most_visits self.old) }
@@ -73,6 +75,7 @@ impl Market {
         ensures next { OnOk result (self.new ≡ (step self.old seat cmd).1) }
         ensures unchanged { OnErr result (self.new ≡ self.old) }
         ensures no_memory { takes_memory cmd ≡ false → IsOk result }
+        ensures memory_last { OnErr result (is_refusal (step self.old seat cmd).0 ≡ false) }
         ensures same_seats { length self.new.seats ≡ length self.old.seats }
         ensures entered { IfOk result (λ answer. least_visits self.old answer.0 ≤ answer.1) }
         ensures visits { looks_in_order cmd ≡ false → IfOk result (λ answer. answer.1 ≤ most_visits self.old) }
@@ -108,6 +111,7 @@ impl Market {
         ensures next { OnOk result (self.new ≡ (open_step self.old slots reserved level).1) }
         ensures same_seats { length self.new.seats ≡ length self.old.seats }
         ensures unchanged { OnErr result (self.new ≡ self.old) }
+        ensures memory_last { OnErr result (is_refusal (open_step self.old slots reserved level).0 ≡ false) }
         ensures entered { IfOk result (λ answer. least_visits self.old answer.0 ≤ answer.1) }
         ensures visits { IfOk result (λ answer. answer.1 ≤ most_visits self.old) }
     {
@@ -222,6 +226,7 @@ impl Market {
         ensures next { OnOk result (self.new ≡ (control_step self.old value).1) }
         ensures same_seats { length self.new.seats ≡ length self.old.seats }
         ensures unchanged { OnErr result (self.new ≡ self.old) }
+        ensures memory_last { OnErr result (is_refusal (control_step self.old value).0 ≡ false) }
     {
         let made = self.controls.make(value)?;
         match made {
