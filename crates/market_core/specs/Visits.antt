@@ -3,7 +3,7 @@ use Rattle.std.specs.Prelude.{ℕ, Bool, true, false, ◌+◌, ◌*◌, ◌==◌
 use Rattle.market_types.specs.declared.command.Cmd.{Cmd}
 use Rattle.market_types.specs.declared.command.Cmd.TheVariants.{Join, Lists}
 use Rattle.market_types.specs.declared.reply.Reply.{Reply}
-use Rattle.market_types.specs.declared.reply.Reply.TheVariants.{Opened, Closed, Moved, Resized, Requested, Placed, Shown, Listed}
+use Rattle.market_types.specs.declared.reply.Reply.TheVariants.{Opened, Closed, Moved, Resized, Requested, Placed, Stays, Shown, Listed}
 use Rattle.market_types.specs.State.{State}
 use Rattle.market_types.specs.Allotment.{limit_of, in_order}
 use Rattle.level_list.specs.Bits.{bits}
@@ -32,7 +32,7 @@ looks_in_order Lists = true
 looks_in_order _ = false
 
 -- the fewest that a command entered which has this reply: one for each row that was put in, taken out or set, one to see
--- an arena that asks for workers or to place a seat, and every row for the lists
+-- an arena that asks for workers or to place or keep a seat, and every row for the lists
 abbrev pub least_visits : State → Reply → ℕ
 least_visits s (Opened arena) = 1
 least_visits s Closed = 1
@@ -40,6 +40,7 @@ least_visits s Moved = 2
 least_visits s (Resized request) = 1
 least_visits s (Requested request) = 1
 least_visits s (Placed arena) = 1
+least_visits s (Stays arena) = 1
 least_visits s (Shown view) = min 1 view.request
 least_visits s (Listed lists) = length (in_order s)
 least_visits s _ = 0

@@ -179,6 +179,7 @@ impl Market {
     /// How many workers an arena is allotted; none where no living arena has this number.
     pub(super) fn allotted(&self, arena: ArenaId) -> (u32, u32)
         ensures exact { result.0 ≡ alloc self.now arena }
+        ensures entered { 0 < alloc self.now arena → 1 ≤ result.1 }
         ensures visits { result.1 ≤ 2 * bits (length self.now.arenas) + extra_visits self.now }
     {
         let Some(row) = self.arenas.get(arena) else {

@@ -1,4 +1,4 @@
-use Rattle.std.proofs.Common.{ap, sym, ◌∙◌}
+use Rattle.std.proofs.Common.{ap, arith, sym, ◌∙◌, ◌≡◌}
 use Rattle.market_types.specs.State.{State}
 use Rattle.market_types.specs.Allotment.{alloc}
 use Rattle.market_types.specs.Step.{arena_at}
@@ -9,6 +9,12 @@ pub returns-in_default-clause-exact : goal.returns-in_default-clause-exact
 returns-in_default-clause-exact c =
     let missing = sym c.get.ensures.exact ∙ c.in_default.is in
     sym (alloc-missing c.args.self.now c.args.arena (ap (λ (s : State). arena_at c.args.arena s.arenas) (sym c.self.view_is) ∙ missing))
+
+pub returns-in_default-clause-entered : goal.returns-in_default-clause-entered
+returns-in_default-clause-entered c =
+    λ some.
+        let none : 0 ≡ alloc c.args.self.now c.args.arena = returns-in_default-clause-exact c in
+        omega (arith, some)
 
 pub allot-allot-requires-clause-there : goal.allot-allot-requires-clause-there
 allot-allot-requires-clause-there c =
