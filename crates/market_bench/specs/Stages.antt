@@ -33,7 +33,8 @@ with_others s = with_joined (length s.seats - 1) s
 abbrev pub filled : ℕ → ℕ → ℕ → Option State
 filled base levels arenas = with_arenas levels arenas (opening base 65535 64 levels)
 
--- the market in which a scenario is measured: 64 workers may be active; where one is to join in vain, 63, who all are
+-- the market in which a scenario is measured: 64 workers may be active; where one is to join in vain, 63, and every seat but
+-- seat 0 joined
 abbrev pub stage_of : Scenario → ℕ → ℕ → Option State
 stage_of JoinInVain levels arenas = option_and_then with_others (filled 64 levels arenas)
 stage_of _ levels arenas = filled 65 levels arenas

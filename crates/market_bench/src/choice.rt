@@ -19,7 +19,7 @@ Prints how many nanoseconds the market's commands take, by the number of living 
 Exit status:
   0  done, or help was asked for
   2  a bad command line
-  3  no memory, or the clock or standard output failed";
+  3  no memory, a refused command, or a fault of the clock, the command line or standard output";
 
 /// What the words choose.
 #[derive(Clone, Copy, Debug, PartialEq, Eq)]

@@ -52,6 +52,11 @@ impl From<TurnFault> for BenchFault {
 }
 
 impl From<io::Error> for BenchFault {
+    ghost use Rattle.std.specs.Prelude.{◌≢◌};
+    ghost use Rattle.market_bench.specs.declared.fault.BenchFault.TheVariants.{Refused};
+
+    ghost from_gives = { λ _ fault. fault ≢ Refused };
+
     fn from(error: io::Error) -> BenchFault {
         match error.kind() {
             io::ErrorKind::OutOfMemory => BenchFault::Memory,

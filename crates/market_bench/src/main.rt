@@ -16,8 +16,8 @@ use std::process::ExitCode;
 /// The exit status of a bad command line.
 const BAD_COMMAND_LINE: u8 = 2;
 
-/// The exit status of want of memory, or of a fault of the system.
-const SYSTEM_FAULT: u8 = 3;
+/// The exit status of any other fault.
+const FAULT: u8 = 3;
 
 /// Does what the words choose.
 fn obey(rt: &HostRuntime) -> Result<u8, BenchFault> {
@@ -38,7 +38,7 @@ fn main(rt: HostRuntime) -> ExitCode {
         Err(fault) => {
             // Where standard error takes nothing, the status tells it alone.
             let _ = eprintln!(rt; "{fault}");
-            SYSTEM_FAULT
+            FAULT
         }
     };
     ExitCode::from(status)

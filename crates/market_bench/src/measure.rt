@@ -1,6 +1,7 @@
 //! How long a turn takes.
-ghost use Rattle.std.specs.Prelude.{◌≡◌, ◌≤◌, Some, OnOk};
+ghost use Rattle.std.specs.Prelude.{◌≡◌, ◌≤◌, Some, None, OnOk, IfErr};
 ghost use Rattle.std.specs.List.{All, Contains};
+ghost use Rattle.market_bench.specs.declared.fault.BenchFault.TheVariants.{Refused};
 ghost use Rattle.market_bench.specs.Turns.{after_round, after_rounds};
 
 use crate::fault::BenchFault;
@@ -25,6 +26,7 @@ fn least(times: &[u64; ROUNDS]) -> u64
 
 /// The nanoseconds of one round.
 fn time_round(rt: &impl Clock, scenario: Scenario, stage: &mut Stage) -> Result<u64, BenchFault>
+    ensures refused { IfErr result (λ fault. fault ≡ Refused → after_round scenario stage.old.arenas stage.old.market ≡ None) }
     ensures round { OnOk result (after_round scenario stage.old.arenas stage.old.market ≡ Some stage.new.market) }
     ensures arenas { stage.new.arenas ≡ stage.old.arenas }
 {
@@ -36,6 +38,7 @@ fn time_round(rt: &impl Clock, scenario: Scenario, stage: &mut Stage) -> Result<
 
 /// The nanoseconds of one turn, in the fastest of the rounds.
 pub fn time_turn(rt: &impl Clock, scenario: Scenario, stage: &mut Stage) -> Result<u64, BenchFault>
+    ensures refused { IfErr result (λ fault. fault ≡ Refused → after_rounds scenario stage.old.arenas stage.old.market 5 ≡ None) }
     ensures rounds { OnOk result (after_rounds scenario stage.old.arenas stage.old.market 5 ≡ Some stage.new.market) }
     ensures arenas { stage.new.arenas ≡ stage.old.arenas }
 {

@@ -20,11 +20,11 @@ const CALLER: u8 = 0;
 pub enum Scenario {
     /// A request, by one worker more and then by one less.
     Request,
-    /// The same, and a look at another arena.
+    /// The same, and a look at an arena that is chosen apart from it.
     RequestShow,
     /// A worker that joins, stays and leaves.
     JoinStayLeave,
-    /// A worker that joins where every worker that may be active is: all arenas are searched in vain.
+    /// A worker that joins where no arena needs one: each arena that is allotted workers is looked at in vain.
     JoinInVain,
     /// The arenas with workers too many or too few.
     Lists,
@@ -65,7 +65,8 @@ impl Scenario {
         }
     }
 
-    /// The market that it is measured in. 64 workers may be active; where one is to join in vain, 63, who all are.
+    /// The market that it is measured in, with 1 to 8 levels and 1 to 1,024 arenas. 64 workers may be active; where one is
+    /// to join in vain, 63, and every seat but the caller's has joined.
     pub fn stage(self, alloc: Global, levels: u32, arenas: u32) -> Result<Stage, BenchFault>
         requires levels { (1 ≤ levels) × (levels ≤ 8) }
         requires arenas { (1 ≤ arenas) × (arenas ≤ 1024) }
@@ -83,7 +84,7 @@ impl Scenario {
         }
     }
 
-    /// One turn. The result is a number out of its replies.
+    /// One turn. The result is the sum of the numbers in its replies, modulo 2^64.
     #[inline(always)]
     fn turn(self, stage: &mut Stage, turn: u64) -> Result<u64, TurnFault>
         ensures sum { IfOk result (λ sum. turn_of self stage.old.arenas turn stage.old.market ≡ Some (sum, stage.new.market)) }
@@ -108,7 +109,7 @@ impl Scenario {
         }
     }
 
-    /// All turns of a round. The result is the sum of their numbers.
+    /// All turns of a round. The result is the sum of theirs, modulo 2^64.
     #[inline(never)]
     pub fn round(self, stage: &mut Stage) -> Result<u64, TurnFault>
         ensures sum { IfOk result (λ sum. round_of self stage.old.arenas stage.old.market ≡ Some (sum, stage.new.market)) }

@@ -117,7 +117,7 @@ pub struct Stage {
 }
 
 impl Stage {
-    /// Opens a market, and its arenas level by level in turn.
+    /// Opens a market with a base of 1 to 65,536 and 1 to 8 levels, and in it 1 to 1,024 arenas, level by level in turn.
     pub fn new(alloc: Global, base: u32, levels: u32, arenas: u32) -> Result<Stage, BenchFault>
         requires base { (1 ≤ base) × (base ≤ 65536) }
         requires levels { (1 ≤ levels) × (levels ≤ 8) }

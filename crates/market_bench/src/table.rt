@@ -1,5 +1,6 @@
 //! The table.
-ghost use Rattle.std.specs.Prelude.{◌≡◌, ◌≤◌, Some, IfOk};
+ghost use Rattle.std.specs.Prelude.{◌≡◌, ◌≤◌, Some, None, IfOk, IfErr};
+ghost use Rattle.market_bench.specs.declared.fault.BenchFault.TheVariants.{Refused};
 ghost use Rattle.market_bench.specs.declared.table.Content.TheVariants.{Replies};
 ghost use Rattle.market_bench.specs.Table.{sum_in};
 
@@ -34,6 +35,7 @@ fn cell<R: Clock + AllocGlobal>(
 ) -> Result<u64, BenchFault>
     requires levels { (1 ≤ levels) × (levels ≤ 8) }
     requires arenas { (1 ≤ arenas) × (arenas ≤ 1024) }
+    ensures refused { content ≡ Replies → IfErr result (λ fault. fault ≡ Refused → sum_in scenario levels arenas ≡ None) }
     ensures replies { content ≡ Replies → IfOk result (λ sum. sum_in scenario levels arenas ≡ Some sum) }
 {
     let mut stage = scenario.stage(rt.alloc(), levels, arenas)?;

@@ -9,7 +9,7 @@ use market_types::ArenaId;
 pub struct Division {
     /// How many workers may be active.
     pub limit: u32,
-    /// How many are allotted in all.
+    /// How many may be allotted in all; where some may be active, so many are.
     pub bound: u32,
     /// What each level asks for, level 1 first.
     pub demands: [u64; 8],

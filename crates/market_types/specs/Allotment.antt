@@ -40,7 +40,7 @@ levels_of s = range_with_len 1 s.levels
 abbrev pub demand : State → ℕ → ℕ
 demand s level = total_request (at_level level s.arenas)
 
--- how many workers are allotted in all
+-- how many workers may be allotted in all; where some may be active, so many are
 abbrev pub bound_of : State → ℕ
 bound_of s = min (total_request s.arenas) (effective_limit_of s)
 

@@ -8,17 +8,18 @@ use crate::number::{ArenaId, ControlId, SeatNo};
 /// A command. Numbers out of their ranges can be asked for: the market refuses them by name.
 #[derive(Clone, Copy, Debug, PartialEq, Eq)]
 pub enum Cmd {
-    /// A new arena: slots, reserved slots, level.
+    /// A new arena: slots, 1 to 65,535; reserved slots, at most as many; level.
     Open(u32, u32, Level),
     /// The arena goes, where no seat is placed at it.
     Close(ArenaId),
     /// The arena goes first in this level, also where that is its own.
     Priority(ArenaId, Level),
-    /// The arena gets other slots and reserved slots, at its place.
+    /// The arena gets other slots and reserved slots, in the same ranges, at its place.
     Resize(ArenaId, u32, u32),
     /// The arena asks for so many workers more, and has so much enqueued work more; either may be below 0.
     Request(ArenaId, i32, i32),
-    /// A new limit on parallelism, of this value: fewer workers than it may be active while it lives.
+    /// A new limit on parallelism, of this value, 1 to 65,536: while it lives, fewer workers than it are allotted, but for
+    /// the one that enqueued work has where the limit is 0.
     Control(u32),
     /// The control goes.
     Uncontrol(ControlId),

@@ -4,7 +4,6 @@ use Rattle.market_bench.specs.declared.fault.TurnFault.TheVariants.{Refused}
 use Rattle.market_bench.proofs.Stages.{stops_opens}
 use Rattle.market_bench.proofs.stage.open_arenas.Goals as goal
 
--- src/stage.rt:102:9
 pub returns-in_err-open_arena-clause-refused : goal.returns-in_err-open_arena-clause-refused
 returns-in_err-open_arena-clause-refused c =
     let here : c.in_err-open_arena.field-0.0 ≡ Refused → with_arena (c.loop-place.place + 1) (c.loop-place.place % c.args.levels + 1) c.loop-place.market ≡ None = search rules in

@@ -4,7 +4,6 @@ use Rattle.market_bench.specs.Turns.{round_of, turn_of, turns_of}
 use Rattle.market_bench.proofs.Turns.{stops_round}
 use Rattle.market_bench.proofs.scenario.Scenario.round.Goals as goal
 
--- src/scenario.rt:119:36
 pub returns-in_err-sum-clause-fault : goal.returns-in_err-sum-clause-fault
 returns-in_err-sum-clause-fault c =
     let fault = c.in_err-sum.field-0.0 in

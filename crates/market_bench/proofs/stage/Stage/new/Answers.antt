@@ -6,7 +6,6 @@ use Rattle.market_bench.specs.declared.fault.TurnFault.TheVariants.{Refused}
 use Rattle.market_bench.proofs.Faults.{told_refused}
 use Rattle.market_bench.proofs.stage.Stage.new.Goals as goal
 
--- src/stage.rt:132:9
 pub returns-in_err-open_arenas-clause-refused : goal.returns-in_err-open_arenas-clause-refused
 returns-in_err-open_arenas-clause-refused c =
     let turn = c.in_err-open_arenas.field-0.0 in

@@ -3,7 +3,6 @@ use Rattle.market_bench.specs.Stages.{with_joined, with_others}
 use Rattle.market_bench.proofs.Stages.{stops_joins}
 use Rattle.market_bench.proofs.stage.Stage.place_others.Goals as goal
 
--- src/stage.rt:136:5
 pub returns-clause-joined : goal.returns-clause-joined
 returns-clause-joined c =
     let seats : length c.args.self.now.market.seats ≡ 64 = c.args.self.now.seats in

@@ -13,8 +13,8 @@ returns-in_default-clause-exact c =
 pub returns-in_default-clause-entered : goal.returns-in_default-clause-entered
 returns-in_default-clause-entered c =
     λ some.
-        let none : 0 ≡ alloc c.args.self.now c.args.arena = returns-in_default-clause-exact c in
-        omega (arith, some)
+    let none : 0 ≡ alloc c.args.self.now c.args.arena = returns-in_default-clause-exact c in
+    omega (arith, some)
 
 pub allot-allot-requires-clause-there : goal.allot-allot-requires-clause-there
 allot-allot-requires-clause-there c =
