@@ -88,6 +88,32 @@ fn joins_pass_over_idle_arenas(rt: HostRuntime) {
     );
 }
 
+/// A Join that is placed at the last level has looked at every filled arena of the levels before it, and counts them all.
+#[test]
+fn joins_count_the_levels_before(rt: HostRuntime) {
+    let Ok(mut market) = Market::new(rt.alloc(), 65, 64, 64, 3) else {
+        panic!(&rt; "no market");
+    };
+    for number in 1..7 {
+        let level = level(&rt, (number + 1) / 2);
+        let _ = answer(&rt, rt.alloc(), &mut market, Cmd::Open(8, 1, level));
+        let request = Cmd::Request(ArenaId::new(number), 2, 0);
+        let asked = answer(&rt, rt.alloc(), &mut market, request);
+        assert!(&rt; matches!(asked, Reply::Requested(2)));
+    }
+    for joined in 0..12_u8 {
+        assert!(&rt; joined < market.seats());
+        let seat = SeatNo::new(joined);
+        let Ok((reply, visits)) = market.apply_counted(rt.alloc(), seat, Cmd::Join) else {
+            panic!(&rt; "no memory");
+        };
+        let filled = joined / 2;
+        let due = if filled % 2 == 0 { filled + 2 } else { filled };
+        assert!(&rt; matches!(&reply, Reply::Placed(arena) if arena.get() == u32::from(due)));
+        assert!(&rt; visits >= u64::from(filled) + 1);
+    }
+}
+
 #[test]
 fn numbers_run_out(rt: HostRuntime) {
     let Ok(mut market) = Market::new(rt.alloc(), 8, 64, 4, 3) else {
