@@ -1,14 +1,15 @@
 -- The arena that a worker is needed at.
-use Rattle.std.proofs.Common.{◌≡◌, ◌≢◌, ℕ, suc, ◌+◌, ◌-◌, ◌<◌, Bool, true, false, ltb, ◌≤◌, length, List, [], ◌∷◌, ◌++◌, Option, Some, None, refl, sym, ap, ◌∙◌, arith, inl, inr}
+use Rattle.std.proofs.Common.{◌≡◌, ◌≢◌, ℕ, suc, ◌+◌, ◌-◌, ◌<◌, Bool, true, false, ltb, eqb, min, ◌≤◌, length, List, [], ◌∷◌, ◌++◌, Option, Some, None, refl, sym, ap, ◌∙◌, arith, inl, inr}
 use Rattle.std.specs.List.{find}
 use Rattle.std.specs.Option.{is_some, option_map, IfSome}
-use Rattle.std.proofs.lemmas.Bool.{cases_eq, cases_Bool, eq-eqb, ne_eqb, lt-ltb}
+use Rattle.std.proofs.lemmas.Bool.{cases_eq, cases_Bool, eq-eqb, eqb-true, ne_eqb, lt-ltb, ltb-true}
 use Rattle.std.proofs.lemmas.Option.{same_Some}
 use Rattle.market_types.specs.State.{Arena, State}
 use Rattle.market_types.specs.Claims.{is_mandated}
 use Rattle.market_types.specs.Allotment.{active, alloc, at_level, bound_of, hire, in_order, limit_of, mandatory_pick}
 use Rattle.allotment.specs.Levels.{number_of, pick_of, IsLeveled}
-use Rattle.recall_hire.specs.Staffed.{need_among, need_of}
+use Rattle.recall_hire.specs.Staffed.{need_among, need_of, rows_among, rows_of, searches}
+use Rattle.market_core.specs.Visits.{searched}
 use Rattle.market_core.proofs.Allotted.{alloc-picked, all_to_number, all_to-number}
 use Rattle.market_core.proofs.Order.{levels_from, in_order-length}
 
@@ -50,6 +51,63 @@ need-later s from n m (Some k) e nobody f = cc
 
 pub need-done : (s : State) (from m : ℕ) → m ≡ 0 → need_among s (levels_from from m s.arenas) ≡ None
 need-done s from m e = rw e refl
+
+-- ---- how many arenas are looked at
+
+-- among some arenas and more
+searches-both : (s : State) (xs ys : List Arena) → searches (rows_among s (xs ++ ys)) ≤ searches (rows_among s xs) + searches (rows_among s ys)
+searches-both s [] ys = omega arith
+searches-both s (x ∷ xs) ys =
+    let rest = searches-both s xs ys in
+    elim (cases_Bool (eqb (alloc s x.number) 0)) [
+      | inl t ↦ rw t rest
+      | inr f ↦
+          elim (cases_Bool (ltb 0 (hire s x.number))) [
+            | inl short ↦ rw (f, short) (omega arith)
+            | inr full ↦ rw (f, full) (omega arith)
+          ]
+    ]
+
+-- where one of the first is in need, none after it
+searches-front : (s : State) (xs ys : List Arena) (n : ℕ) → need_among s xs ≡ Some n → searches (rows_among s (xs ++ ys)) ≤ searches (rows_among s xs)
+searches-front s [] ys n e = cc
+searches-front s (x ∷ xs) ys n e =
+    elim (cases_Bool (ltb 0 (hire s x.number))) [
+      | inl short ↦
+          elim (cases_Bool (eqb (alloc s x.number) 0)) [
+            | inl t ↦ absurd (omega (arith, ltb-true 0 (hire s x.number) short, eqb-true (alloc s x.number) 0 t))
+            | inr f ↦ rw (f, short) (omega arith)
+          ]
+      | inr full ↦
+          let later : need_among s xs ≡ Some n = rw full at e in
+          let rest = searches-front s xs ys n later in
+          elim (cases_Bool (eqb (alloc s x.number) 0)) [
+            | inl t ↦ rw t rest
+            | inr f ↦ rw (f, full) (omega arith)
+          ]
+    ]
+
+-- at the first of the levels, and after it
+pub searches-later : (s : State) (from n m : ℕ) → m ≡ suc n → searches (rows_among s (levels_from from m s.arenas)) ≤ searches (rows_among s (at_level from s.arenas)) + searches (rows_among s (levels_from (from + 1) n s.arenas))
+searches-later s from n m e = rw e (searches-both s (at_level from s.arenas) (levels_from (from + 1) n s.arenas))
+
+pub searches-found : (s : State) (from n m : ℕ) (o : Option ℕ) → m ≡ suc n → is_some o ≡ true → o ≡ need_among s (at_level from s.arenas) → searches (rows_among s (levels_from from m s.arenas)) ≤ searches (rows_among s (at_level from s.arenas))
+searches-found s from n m None e yes_some f = cc
+searches-found s from n m (Some k) e yes_some f = rw e (searches-front s (at_level from s.arenas) (levels_from (from + 1) n s.arenas) k (sym f))
+
+pub searches-done : (s : State) (from m : ℕ) → m ≡ 0 → searches (rows_among s (levels_from from m s.arenas)) ≡ 0
+searches-done s from m e = rw e refl
+
+-- a count that has all of them has enough
+pub searched-within : (s : State) (v : ℕ) → min (searches (rows_of s)) 4294967295 ≤ v → searched s ≤ v
+searched-within s v h =
+    elim (cases_Bool (eqb (limit_of s) 0)) [
+      | inl t ↦ rw t (omega arith)
+      | inr f ↦ rw f h
+    ]
+
+pub searched-nobody : (s : State) (v : ℕ) → limit_of s ≡ 0 → searched s ≤ v
+searched-nobody s v none = rw (eq-eqb (limit_of s) 0 none) (omega arith)
 
 -- ---- where no worker may be active
 

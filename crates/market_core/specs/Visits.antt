@@ -1,11 +1,12 @@
 -- How many nodes of the arenas' trees a command enters.
-use Rattle.std.specs.Prelude.{ℕ, Bool, true, false, ◌+◌, ◌*◌, ◌==◌, length, min, if◌then◌else◌}
+use Rattle.std.specs.Prelude.{ℕ, Bool, true, false, ◌+◌, ◌*◌, ◌==◌, length, min, max, if◌then◌else◌}
 use Rattle.market_types.specs.declared.command.Cmd.{Cmd}
 use Rattle.market_types.specs.declared.command.Cmd.TheVariants.{Join, Lists}
 use Rattle.market_types.specs.declared.reply.Reply.{Reply}
-use Rattle.market_types.specs.declared.reply.Reply.TheVariants.{Opened, Closed, Moved, Resized, Requested, Placed, Stays, Shown, Listed}
+use Rattle.market_types.specs.declared.reply.Reply.TheVariants.{Opened, Closed, Moved, Resized, Requested, Placed, Idle, Stays, Shown, Listed}
 use Rattle.market_types.specs.State.{State}
 use Rattle.market_types.specs.Allotment.{limit_of, in_order}
+use Rattle.recall_hire.specs.Staffed.{rows_of, searches}
 use Rattle.level_list.specs.Bits.{bits}
 
 -- where no worker may be active, so many more, to find the arena whose enqueued work is served
@@ -31,15 +32,21 @@ looks_in_order Join = true
 looks_in_order Lists = true
 looks_in_order _ = false
 
+-- where some worker may be active, how many arenas a Join looks at: those that are allotted a worker, until one has too few
+abbrev pub searched : State → ℕ
+searched s = if limit_of s == 0 then 0 else min (searches (rows_of s)) 4294967295
+
 -- the fewest that a command entered which has this reply: one for each row that was put in, taken out or set, one to see
--- an arena that asks for workers or to place or keep a seat, and every row for the lists
+-- an arena that asks for workers or to place or keep a seat, one for each arena that a Join looked at, and every row for
+-- the lists
 abbrev pub least_visits : State → Reply → ℕ
 least_visits s (Opened arena) = 1
 least_visits s Closed = 1
 least_visits s Moved = 2
 least_visits s (Resized request) = 1
 least_visits s (Requested request) = 1
-least_visits s (Placed arena) = 1
+least_visits s (Placed arena) = max 1 (searched s)
+least_visits s Idle = searched s
 least_visits s (Stays arena) = 1
 least_visits s (Shown view) = min 1 view.request
 least_visits s (Listed lists) = length (in_order s)

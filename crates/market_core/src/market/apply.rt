@@ -42,7 +42,7 @@ impl Market {
     /// Lists no more than four times as many as the number of living arenas has binary digits, and one; for Lists no more
     /// than there are arenas; where no worker may be active, twice as many as these digits more for each level. It is no
     /// fewer than one for each row that was put in, taken out or set, one to see an arena that asks for workers or to place
-    /// a seat, and all rows for Lists.
+    /// or keep a seat, one for each arena that a Join looked at on its way, and all rows for Lists.
     #[inline(always)]
     pub fn apply_counted(
         &mut self,

@@ -5,7 +5,7 @@ ghost use Rattle.market_types.specs.Step.{arena_at, counts_of};
 ghost use Rattle.recall_hire.specs.Staffed.{IsNext, NoneAllotted, row_of, need_of};
 ghost use Rattle.market_core.specs.Divided.{IsDivisionOf, IsSharedAt, rows_at};
 ghost use Rattle.market_core.specs.Store.{IsEntry, IsKept};
-ghost use Rattle.market_core.specs.Visits.{most_listed};
+ghost use Rattle.market_core.specs.Visits.{most_listed, searched};
 
 use super::Market;
 use crate::division::Division;
@@ -138,6 +138,7 @@ impl Market {
     pub(super) fn in_need(&self) -> (Option<ArenaId>, u32)
         ensures exact { result.0 ≡ need_of self.now }
         ensures entered { IfSome result.0 (λ _. 1 ≤ result.1) }
+        ensures every_search { searched self.now ≤ result.1 }
     {
         let levels = self.levels;
         let division = &self.divide();

@@ -1,8 +1,13 @@
-use Rattle.std.proofs.Common.{◌≡◌, ◌+◌, ◌-◌}
-use Rattle.recall_hire.specs.Staffed.{need_among, need_of}
+use Rattle.std.proofs.Common.{◌≡◌, ◌≤◌, ◌+◌, ◌-◌, min}
+use Rattle.recall_hire.specs.Staffed.{need_among, need_of, rows_among, rows_of, searches}
 use Rattle.market_core.proofs.market.Market.in_need.Given as goal
 use Rattle.market_core.proofs.Order.{levels_from}
 
--- the arena that is looked for is at one of the levels to come
+-- the arena that is looked for is at one of the levels to come, and what was looked at so far is counted
 abbrev pub invariant-loop-level : goal.invariant-loop-level
-invariant-loop-level l = need_of l.self ≡ need_among l.self (levels_from (l.level + 1) (l.self.levels - l.level) l.self.arenas)
+invariant-loop-level l =
+    let coming = levels_from (l.level + 1) (l.self.levels - l.level) l.self.arenas in
+    record {
+      needed : need_of l.self ≡ need_among l.self coming;
+      counted : min (searches (rows_of l.self)) 4294967295 ≤ l.visits + searches (rows_among l.self coming);
+    }
