@@ -54,46 +54,49 @@ need-done s from m e = rw e refl
 
 -- ---- how many arenas are looked at
 
--- among some arenas and more
-searches-both : (s : State) (xs ys : List Arena) → searches (rows_among s (xs ++ ys)) ≤ searches (rows_among s xs) + searches (rows_among s ys)
-searches-both s [] ys = omega arith
-searches-both s (x ∷ xs) ys =
-    let rest = searches-both s xs ys in
-    elim (cases_Bool (eqb (alloc s x.number) 0)) [
-      | inl t ↦ rw t rest
-      | inr f ↦
-          elim (cases_Bool (ltb 0 (hire s x.number))) [
-            | inl short ↦ rw (f, short) (omega arith)
-            | inr full ↦ rw (f, full) (omega arith)
-          ]
-    ]
-
 -- where one of the first is in need, none after it
-searches-front : (s : State) (xs ys : List Arena) (n : ℕ) → need_among s xs ≡ Some n → searches (rows_among s (xs ++ ys)) ≤ searches (rows_among s xs)
+searches-front : (s : State) (xs ys : List Arena) (n : ℕ) → need_among s xs ≡ Some n → searches (rows_among s (xs ++ ys)) ≡ searches (rows_among s xs)
 searches-front s [] ys n e = cc
 searches-front s (x ∷ xs) ys n e =
     elim (cases_Bool (ltb 0 (hire s x.number))) [
       | inl short ↦
           elim (cases_Bool (eqb (alloc s x.number) 0)) [
             | inl t ↦ absurd (omega (arith, ltb-true 0 (hire s x.number) short, eqb-true (alloc s x.number) 0 t))
-            | inr f ↦ rw (f, short) (omega arith)
+            | inr f ↦ rw (f, short) refl
           ]
       | inr full ↦
           let later : need_among s xs ≡ Some n = rw full at e in
           let rest = searches-front s xs ys n later in
           elim (cases_Bool (eqb (alloc s x.number) 0)) [
             | inl t ↦ rw t rest
-            | inr f ↦ rw (f, full) (omega arith)
+            | inr f ↦ rw (f, full) (ap (λ k. k + 1) rest)
           ]
     ]
 
--- at the first of the levels, and after it
-pub searches-later : (s : State) (from n m : ℕ) → m ≡ suc n → searches (rows_among s (levels_from from m s.arenas)) ≤ searches (rows_among s (at_level from s.arenas)) + searches (rows_among s (levels_from (from + 1) n s.arenas))
-searches-later s from n m e = rw e (searches-both s (at_level from s.arenas) (levels_from (from + 1) n s.arenas))
+-- else those after them too
+searches-behind : (s : State) (xs ys : List Arena) → need_among s xs ≡ None → searches (rows_among s (xs ++ ys)) ≡ searches (rows_among s xs) + searches (rows_among s ys)
+searches-behind s [] ys e = omega arith
+searches-behind s (x ∷ xs) ys e =
+    elim (cases_Bool (ltb 0 (hire s x.number))) [
+      | inl short ↦ let here : Some x.number ≡ None = rw short at e in cc
+      | inr full ↦
+          let later : need_among s xs ≡ None = rw full at e in
+          let rest = searches-behind s xs ys later in
+          elim (cases_Bool (eqb (alloc s x.number) 0)) [
+            | inl t ↦ rw t rest
+            | inr f ↦ rw (f, full) (omega (arith, rest))
+          ]
+    ]
 
-pub searches-found : (s : State) (from n m : ℕ) (o : Option ℕ) → m ≡ suc n → is_some o ≡ true → o ≡ need_among s (at_level from s.arenas) → searches (rows_among s (levels_from from m s.arenas)) ≤ searches (rows_among s (at_level from s.arenas))
+-- in the first of the levels, or after it
+pub searches-found : (s : State) (from n m : ℕ) (o : Option ℕ) → m ≡ suc n → is_some o ≡ true → o ≡ need_among s (at_level from s.arenas) → searches (rows_among s (levels_from from m s.arenas)) ≡ searches (rows_among s (at_level from s.arenas))
 searches-found s from n m None e yes_some f = cc
 searches-found s from n m (Some k) e yes_some f = rw e (searches-front s (at_level from s.arenas) (levels_from (from + 1) n s.arenas) k (sym f))
+
+pub searches-later : (s : State) (from n m : ℕ) (o : Option ℕ) → m ≡ suc n → is_some o ≡ false → o ≡ need_among s (at_level from s.arenas)
+    → searches (rows_among s (levels_from from m s.arenas)) ≡ searches (rows_among s (at_level from s.arenas)) + searches (rows_among s (levels_from (from + 1) n s.arenas))
+searches-later s from n m None e nobody f = rw e (searches-behind s (at_level from s.arenas) (levels_from (from + 1) n s.arenas) (sym f))
+searches-later s from n m (Some k) e nobody f = cc
 
 pub searches-done : (s : State) (from m : ℕ) → m ≡ 0 → searches (rows_among s (levels_from from m s.arenas)) ≡ 0
 searches-done s from m e = rw e refl

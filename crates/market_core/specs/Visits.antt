@@ -21,6 +21,10 @@ most_visits s = 4 * bits (length s.arenas) + 1 + extra_visits s
 abbrev pub most_listed : State → ℕ
 most_listed s = length s.arenas + extra_visits s
 
+-- the most that Join may enter: two ways down a tree for each arena that it looks at, and for each level
+abbrev pub most_joined : State → ℕ
+most_joined s = (searches (rows_of s) + s.levels) * 44 + extra_visits s
+
 -- the command lists all arenas
 abbrev pub lists_all : Cmd → Bool
 lists_all Lists = true

@@ -1,4 +1,4 @@
-use Rattle.std.proofs.Common.{◌≡◌, ℕ, zero, suc, ◌+◌, ◌<◌, ◌≤◌, ltb, cond, List, [], ◌∷◌, ◌++◌, take, drop, length, get_or, map, Some, None, refl, sym, ap, ◌∙◌, arith, add-one, inl, inr}
+use Rattle.std.proofs.Common.{◌≡◌, ℕ, zero, suc, ◌+◌, ◌*◌, ◌<◌, ◌≤◌, ltb, cond, List, [], ◌∷◌, ◌++◌, take, drop, length, get_or, map, Some, None, refl, sym, ap, ◌∙◌, arith, add-one, inl, inr}
 use Rattle.std.specs.Prelude.{slice_get}
 use Rattle.std.proofs.lemmas.Bool.{cases_lt, cases_Bool, lt-ltb, eq-eqb, ne_eqb}
 use Rattle.std.proofs.Math.Seq.{drop-length, drop-nil}
@@ -105,6 +105,12 @@ searches-found rows from next r e none at some low =
 pub searches-none : (rows : List Staffing) (from : ℕ) → from ≤ length rows → NoneAllotted rows from (length rows) → searches (drop from rows) ≡ 0
 searches-none rows from e none = searches-skip rows from (length rows) e none ∙ ap searches (drop-length rows)
 
+-- a search takes the visits of one
+pub one-search : (v more w s rest all m : ℕ) → w ≤ v + more → more ≤ m → s ≡ rest + 1 → v + s * m ≤ all → w + rest * m ≤ all
+one-search v more w s rest all m add few e before =
+    let product : s * m ≡ rest * m + m = rw e (omega arith) in
+    omega arith
+
 -- ---- in a market
 
 need-rows : (s : State) (arenas : List Arena) → first_in_need (rows_among s arenas) ≡ need_among s arenas
@@ -135,10 +141,11 @@ counts recalls hires = record { recalls = recalls; hires = hires }
 
 -- ---- the rows one by one
 
-pub row-allotted : (rows : List Staffing) (place : ℕ) (r : Staffing) → slice_get rows place ≡ Some r → allotted_at rows place ≡ r.allotted
-row-allotted [] place r e = cc
-row-allotted (x ∷ xs) zero r e = let f : Some x ≡ Some r = e in let same : x ≡ r = cc in ap (λ (y : Staffing). y.allotted) same
-row-allotted (x ∷ xs) (suc place) r e = row-allotted xs place r e
+-- what the row at a place is allotted
+pub row-allotted : (rows : List Staffing) (place : ℕ) (r : Staffing) → place < length rows → r ≡ get_or rows place r → allotted_at rows place ≡ r.allotted
+row-allotted [] place r within e = absurd (omega arith)
+row-allotted (x ∷ xs) zero r within e = ap (λ (y : Staffing). y.allotted) (sym e)
+row-allotted (x ∷ xs) (suc place) r within e = row-allotted xs place r (omega arith) e
 
 -- one row more
 above_zero-suc : (count : Staffing → ℕ) (rows : List Staffing) (place : ℕ) (r : Staffing) → slice_get rows place ≡ Some r

@@ -1,5 +1,5 @@
 //! Where a worker is needed, and where workers are too many or too few.
-ghost use Rattle.std.specs.Prelude.{◌≡◌, ◌≤◌, [], ◌++◌, List, min, IfSome, IsOk, IfOk, OnOk};
+ghost use Rattle.std.specs.Prelude.{◌≡◌, ◌≤◌, ◌+◌, ◌*◌, [], ◌++◌, List, min, IfSome, IsOk, IfOk, OnOk};
 ghost use Rattle.market_types.specs.State.{State, Arena};
 ghost use Rattle.market_types.specs.Step.{counts_of};
 ghost use Rattle.recall_hire.specs.Staffed.{first_in_need, searches, counts_in, listed, rows_of, rows_among, need_among};
@@ -9,14 +9,15 @@ use market_types::{ArenaId, Lists};
 use std::alloc::{AllocError, Global};
 
 /// The first arena in order that is allotted more workers than it has, and how many visits that took: one at least for
-/// each row that is allotted some, up to and with that arena's, or 4,294,967,295 where that is less. Takes no memory, and
-/// looks only at rows that are allotted some.
+/// each row that is allotted some, up to and with that arena's, or 4,294,967,295 where that is less, and no more than for one
+/// search for each of these and one search more. Takes no memory, and looks only at rows that are allotted some.
 pub fn first_in_need<R: Rows>(rows: &R) -> (Option<ArenaId>, u32)
     ensures exact { result.0 ≡ first_in_need (R.rows rows.now) }
     ensures in_market { (s : State) (arenas : List Arena) → R.rows rows.now ≡ rows_among s arenas
         → result.0 ≡ need_among s arenas }
     ensures entered { IfSome result.0 (λ _. 1 ≤ result.1) }
     ensures every_search { min (searches (R.rows rows.now)) 4294967295 ≤ result.1 }
+    ensures most { result.1 ≤ (searches (R.rows rows.now) + 1) * R.most rows.now }
 {
     let len = rows.len();
     let mut place = 0;

@@ -1,5 +1,5 @@
 //! What arenas have of what they are allotted.
-ghost use Rattle.std.specs.Prelude.{◌≡◌, ℕ, ◌-◌, ◌<◌, ◌≤◌, List, length, slice_get, Some, IfSome, IfNone};
+ghost use Rattle.std.specs.Prelude.{◌≡◌, ℕ, ◌-◌, ◌≤◌, List, length, IfSome, IfNone};
 ghost use Rattle.recall_hire.specs.declared.rows.Staffing.{Staffing};
 ghost use Rattle.recall_hire.specs.Staffed.{IsNext, NoneAllotted};
 
@@ -42,31 +42,17 @@ pub trait Rows {
     /// The rows in order.
     ghost rows: { Self → List Staffing };
 
+    /// The most visits that one search takes.
+    ghost most: { Self → ℕ };
+
     /// How many rows there are.
     fn len(&self) -> usize
         ensures exact { result ≡ length (rows self.now) };
 
-    /// The row at a place, from 0, by a visit at least.
-    fn row(&self, place: usize) -> (Staffing, u32)
-        requires known { place < length (rows self.now) }
-        ensures exact { slice_get (rows self.now) place ≡ Some result.0 }
-        ensures entered { 1 ≤ result.1 };
-
-    /// The first row from a place on that is allotted a worker, by a visit at least where there is one. Looks at each row
-    /// on the way, unless the rows know better.
+    /// The first row from a place on that is allotted a worker, by a visit at least where there is one.
     fn next_allotted(&self, place: usize) -> (Option<Next>, u32)
         ensures found { IfSome result.0 (λ next. IsNext place next (rows self.now)) }
         ensures none { IfNone result.0 (NoneAllotted (rows self.now) place (length (rows self.now))) }
         ensures entered { IfSome result.0 (λ _. 1 ≤ result.1) }
-    {
-        let mut visits = 0_u32;
-        for next in place..self.len() {
-            let (row, more) = self.row(next);
-            visits = visits.saturating_add(more);
-            if row.allotted > 0 {
-                return (Some(Next { place: next, row }), visits);
-            }
-        }
-        (None, visits)
-    }
+        ensures most { result.1 ≤ most self.now };
 }

@@ -1,5 +1,7 @@
 //! Rows worked out by hand.
-use crate::{Roster, Rows, Staffing, first_in_need, lists};
+ghost use Rattle.std.specs.Prelude.{length};
+
+use crate::{Next, Roster, Rows, Staffing, first_in_need, lists};
 use market_types::{ArenaId, SeatNo};
 use std::alloc::AllocError;
 
@@ -12,12 +14,22 @@ struct Table<'a> {
 impl Rows for Table<'_> {
     ghost rows = { λ t. t.rows.now };
 
+    ghost most = { λ t. length t.rows.now };
+
     fn len(&self) -> usize {
         self.rows.len()
     }
 
-    fn row(&self, place: usize) -> (Staffing, u32) {
-        (self.rows[place], 1)
+    fn next_allotted(&self, place: usize) -> (Option<Next>, u32) {
+        let mut visits = 0_u32;
+        for next in place..self.rows.len() {
+            let row = self.rows[next];
+            visits = visits.saturating_add(1);
+            if row.allotted > 0 {
+                return (Some(Next { place: next, row }), visits);
+            }
+        }
+        (None, visits)
     }
 }
 

@@ -1,10 +1,11 @@
 //! What a command does.
 ghost use Rattle.std.specs.Prelude.{◌≡◌, ◌≤◌, ◌<◌, length, false, true, IsOk, IfOk, OnOk, OnErr};
 ghost use Rattle.market_types.specs.Step.{open_step, close_step, priority_step, resize_step, request_step, control_step, uncontrol_step, join_from, stay_from, leave_from, place_of, show_step, counts_of, step};
+ghost use Rattle.market_types.specs.declared.command.Cmd.TheVariants.{Join};
 ghost use Rattle.market_types.specs.declared.reply.Reply.TheVariants.{Listed};
 ghost use Rattle.market_core.specs.Memory.{is_refusal, takes_memory};
 ghost use Rattle.market_core.specs.Allotted.{IsStaffed};
-ghost use Rattle.market_core.specs.Visits.{most_visits, most_listed, least_visits, looks_in_order, lists_all};
+ghost use Rattle.market_core.specs.Visits.{most_visits, most_listed, most_joined, least_visits, looks_in_order, lists_all};
 
 use super::Market;
 use crate::change::Change;
@@ -40,7 +41,8 @@ impl Market {
 
     /// Does what `apply` does, and says how many nodes of the arenas' trees it entered: for every command but Join and
     /// Lists no more than four times as many as the number of living arenas has binary digits, and one; for Lists no more
-    /// than there are arenas; where no worker may be active, twice as many as these digits more for each level. It is no
+    /// than there are arenas; for Join no more than 44 for each arena that it looks at, which are those that are allotted a
+    /// worker until one has too few, and for each level; where no worker may be active, twice as many as these digits more for each level. It is no
     /// fewer than one for each row that was put in, taken out or set, one to see an arena that asks for workers or to place
     /// or keep a seat, one for each arena that a Join looked at on its way, and all rows for Lists.
     #[inline(always)]
@@ -61,6 +63,7 @@ impl Market {
         ensures entered { IfOk result (λ answer. least_visits self.old answer.0 ≤ answer.1) }
         ensures visits { looks_in_order cmd ≡ false → IfOk result (λ answer. answer.1 ≤ most_visits self.old) }
         ensures listed { lists_all cmd ≡ true → IfOk result (λ answer. answer.1 ≤ most_listed self.old) }
+        ensures joined { cmd ≡ Join → IfOk result (λ answer. answer.1 ≤ most_joined self.old) }
     {
         let (reply, visits) = self.serve(alloc, seat, cmd)?;
         Ok((reply, u64::from(visits)))
@@ -80,6 +83,7 @@ impl Market {
         ensures entered { IfOk result (λ answer. least_visits self.old answer.0 ≤ answer.1) }
         ensures visits { looks_in_order cmd ≡ false → IfOk result (λ answer. answer.1 ≤ most_visits self.old) }
         ensures listed { lists_all cmd ≡ true → IfOk result (λ answer. answer.1 ≤ most_listed self.old) }
+        ensures joined { cmd ≡ Join → IfOk result (λ answer. answer.1 ≤ most_joined self.old) }
     {
         match cmd {
             Cmd::Open(slots, reserved, level) => self.open(alloc, slots, reserved, level),
@@ -253,6 +257,7 @@ impl Market {
         requires seat { seat < length self.old.seats }
         ensures reply { result.0 ≡ (join_from self.old seat (place_of self.old seat)).0 }
         ensures entered { least_visits self.old result.0 ≤ result.1 }
+        ensures joined { result.1 ≤ most_joined self.old }
         ensures staffed { IsStaffed result.0 self.new }
         ensures next { self.new ≡ (join_from self.old seat (place_of self.old seat)).1 }
         ensures same_seats { length self.new.seats ≡ length self.old.seats }

@@ -1,15 +1,14 @@
 //! The arenas in the order in which they are served, beside what they are allotted and have.
-ghost use Rattle.std.specs.Prelude.{◌≡◌, ◌<◌, ◌≤◌, ◌++◌, Some, length, slice_get, IfOk, OnOk, IfSome, IfNone};
+ghost use Rattle.std.specs.Prelude.{◌≡◌, ◌<◌, ◌≤◌, ◌++◌, length, IfOk, OnOk, IfSome, IfNone};
 ghost use Rattle.market_types.specs.Allotment.{alloc, at_level, in_order, limit_of};
-ghost use Rattle.market_types.specs.Step.{arena_at, counts_of};
-ghost use Rattle.recall_hire.specs.Staffed.{IsNext, NoneAllotted, row_of, need_of};
+ghost use Rattle.market_types.specs.Step.{counts_of};
+ghost use Rattle.recall_hire.specs.Staffed.{IsNext, NoneAllotted, need_of};
 ghost use Rattle.market_core.specs.Divided.{IsDivisionOf, IsSharedAt, rows_at};
-ghost use Rattle.market_core.specs.Store.{IsEntry, IsKept};
-ghost use Rattle.market_core.specs.Visits.{most_listed, searched};
+ghost use Rattle.market_core.specs.Store.{IsEntry};
+ghost use Rattle.market_core.specs.Visits.{most_joined, most_listed, searched};
 
 use super::Market;
 use crate::division::Division;
-use crate::row::ArenaRow;
 use allotment::{no_carry_to_keep, share, sum_before_next};
 use market_types::{ArenaId, Level, Lists, Row};
 use recall_hire::{Next, Rows, Staffing, first_in_need, hire, lists};
@@ -27,12 +26,10 @@ struct LevelOrder<'a> {
 impl Rows for LevelOrder<'_> {
     ghost rows = { λ o. rows_at o.market.now o.level };
 
+    ghost most = { λ _. 44 };
+
     fn len(&self) -> usize {
         self.market.count_at(self.level)
-    }
-
-    fn row(&self, place: usize) -> (Staffing, u32) {
-        self.market.staffing_at(self.division, self.level, place)
     }
 
     fn next_allotted(&self, place: usize) -> (Option<Next>, u32) {
@@ -48,40 +45,6 @@ impl Market {
         self.arenas.count(level)
     }
 
-    /// What an arena is allotted, and how many seats it has.
-    fn staff(&self, row: ArenaRow, division: &Division) -> (Staffing, u32)
-        requires kept { IsKept self.now.arenas }
-        requires there { arena_at row.number self.now.arenas ≡ Some row }
-        requires divided { IsDivisionOf self.now division.now }
-        ensures exact { result.0 ≡ row_of self.now row }
-        ensures few { result.1 ≤ 22 }
-    {
-        let (allotted, visits) = self.allot(row, division);
-        let staffing = Staffing {
-            arena: row.arena(),
-            allotted,
-            active: self.roster.active(row.arena()),
-        };
-        (staffing, visits)
-    }
-
-    /// What the arena at a place of a level is allotted, and how many seats it has.
-    fn staffing_at(&self, division: &Division, level: Level, place: usize) -> (Staffing, u32)
-        requires known { place < length (rows_at self.now level) }
-        requires shared { IsSharedAt level self.now division.now }
-        ensures exact { slice_get (rows_at self.now level) place ≡ Some result.0 }
-        ensures entered { 1 ≤ result.1 }
-    {
-        let _ = self.arenas.len();
-        let _ = self.levels;
-        let (row, first) = self.arenas.walk(level, place);
-        let Some(row) = row else {
-            unreachable!();
-        };
-        let (staffing, more) = self.staff(row, division);
-        (staffing, first + more)
-    }
-
     /// The first arena from a place of a level on that is allotted a worker. Goes down the level's tree twice, and walks over
     /// no arena on the way.
     fn next_at(&self, division: &Division, level: Level, place: usize) -> (Option<Next>, u32)
@@ -89,6 +52,7 @@ impl Market {
         ensures found { IfSome result.0 (λ next. IsNext place next (rows_at self.now level)) }
         ensures none { IfNone result.0 (NoneAllotted (rows_at self.now level) place (length (rows_at self.now level))) }
         ensures entered { IfSome result.0 (λ _. 2 ≤ result.1) }
+        ensures few { result.1 ≤ 44 }
     {
         no_carry_to_keep();
         let _ = self.arenas.len();
@@ -139,6 +103,7 @@ impl Market {
         ensures exact { result.0 ≡ need_of self.now }
         ensures entered { IfSome result.0 (λ _. 1 ≤ result.1) }
         ensures every_search { searched self.now ≤ result.1 }
+        ensures most { result.1 ≤ most_joined self.now }
     {
         let levels = self.levels;
         let division = &self.divide();

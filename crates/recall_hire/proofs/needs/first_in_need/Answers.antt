@@ -1,8 +1,8 @@
-use Rattle.std.proofs.Common.{length, sym, ap, ◌∙◌, arith}
+use Rattle.std.proofs.Common.{length, drop, sym, ap, ◌+◌, ◌*◌, ◌∙◌, arith}
 use Rattle.std.proofs.lemmas.List.{drop_all}
 use Rattle.std.proofs.lemmas.Option.{slice_get_within}
 use Rattle.recall_hire.specs.Staffed.{IsNext, searches}
-use Rattle.recall_hire.proofs.Staffings.{NoneNeeds, needs-to, needs-more, need-found, need-none, need-in_market, searches-more, searches-found, searches-none}
+use Rattle.recall_hire.proofs.Staffings.{NoneNeeds, needs-to, needs-more, need-found, need-none, need-in_market, searches-more, searches-found, searches-none, one-search}
 use Rattle.recall_hire.proofs.needs.first_in_need.Goals as goal
 
 pub returns-in_default-clause-exact : goal.returns-in_default-clause-exact
@@ -40,6 +40,14 @@ loop-place-preserved g c =
             rw c.in-Some.is at c.next_allotted-next.ensures.entered,
             searches-more rows c.loop-place.place c.in-Some.next.place c.in-Some.next.row next.not_behind next.first next.row next.allotted (omega arith),
           );
+      bounded =
+          one-search
+          c.loop-place.visits c.next_allotted-next.result.1 c.saturating_add-visits.result
+          (searches (drop c.loop-place.place rows)) (searches (drop (c.in-Some.next.place + 1) rows))
+          (searches rows * g.R.Rows.most c.args.rows.now) (g.R.Rows.most c.args.rows.now)
+          (omega (arith, c.saturating_add-visits.ensures)) c.next_allotted-next.ensures.most
+          (searches-more rows c.loop-place.place c.in-Some.next.place c.in-Some.next.row next.not_behind next.first next.row next.allotted (omega arith))
+          c.loop-place.invariant.bounded;
       within = omega (arith, slice_get_within rows c.in-Some.next.place c.in-Some.next.row (rw c.in-Some.is at c.next_allotted-next.ensures.found).row);
       searched =
           needs-more rows c.in-Some.next.place c.in-Some.next.row

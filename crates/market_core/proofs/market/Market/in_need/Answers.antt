@@ -1,4 +1,4 @@
-use Rattle.std.proofs.Common.{arith, sym, ap, ◌∙◌, ◌≡◌, ◌≤◌, ◌-◌, ◌+◌, min}
+use Rattle.std.proofs.Common.{arith, sym, ap, ◌∙◌, ◌≡◌, ◌≤◌, ◌-◌, ◌+◌, ◌*◌, min}
 use Rattle.market_types.specs.State.{State}
 use Rattle.market_types.specs.Allotment.{at_level, limit_of}
 use Rattle.market_core.specs.Sound.{IsSound}
@@ -16,6 +16,7 @@ loop-level-init c =
     record {
       needed = ap (λ n. need_among s (levels_from 1 n s.arenas)) all;
       counted = omega (arith, rows);
+      bounded = omega (arith, rows, c.divide.ensures.visits);
     }
 
 pub returns-then-is_some : goal.returns-then-is_some
@@ -26,8 +27,9 @@ returns-then-is_some c =
     let here : c.first_in_need-more.result.0 ≡ need_among s (at_level (level + 1) s.arenas) = c.first_in_need-more.ensures.in_market s (at_level (level + 1) s.arenas) (ap (rows_at s) c.at.ensures) in
     let looked : min (searches (rows_at s (level + 1))) 4294967295 ≤ c.first_in_need-more.result.1 =
     rw (c.at.ensures) at c.first_in_need-more.ensures.every_search in
+    let most : c.first_in_need-more.result.1 ≤ (searches (rows_at s (level + 1)) + 1) * 44 = rw (c.at.ensures) at c.first_in_need-more.ensures.most in
     let found = sym c.is_some.ensures ∙ c.if-is_some.true in
-    let all : searches (rows_among s (levels_from (level + 1) (s.levels - level) s.arenas)) ≤ searches (rows_among s (at_level (level + 1) s.arenas)) =
+    let all : searches (rows_among s (levels_from (level + 1) (s.levels - level) s.arenas)) ≡ searches (rows_among s (at_level (level + 1) s.arenas)) =
     searches-found s (level + 1) (s.levels - (level + 1)) (s.levels - level) c.first_in_need-more.result.0 (omega (arith, levels, c.loop-level-test.true)) found here in
     record {
       exact =
@@ -35,6 +37,7 @@ returns-then-is_some c =
           ∙ sym c.loop-level.invariant.needed;
       entered = found-entered c.first_in_need-more.result.0 c.first_in_need-more.result.1 c.saturating_add-visits.result c.first_in_need-more.ensures.entered (omega (arith, c.saturating_add-visits.ensures));
       every_search = searched-within s c.saturating_add-visits.result (omega (arith, all, c.loop-level.invariant.counted, looked, c.saturating_add-visits.ensures));
+      most = omega (arith, all, levels, c.loop-level-test.true, c.loop-level.invariant.bounded, most, c.saturating_add-visits.ensures);
     }
 
 pub loop-level-preserved : goal.loop-level-preserved
@@ -45,12 +48,14 @@ loop-level-preserved c =
     let here : c.first_in_need-more.result.0 ≡ need_among s (at_level (level + 1) s.arenas) = c.first_in_need-more.ensures.in_market s (at_level (level + 1) s.arenas) (ap (rows_at s) c.at.ensures) in
     let looked : min (searches (rows_at s (level + 1))) 4294967295 ≤ c.first_in_need-more.result.1 =
     rw (c.at.ensures) at c.first_in_need-more.ensures.every_search in
-    let later = searches-later s (level + 1) (s.levels - (level + 1)) (s.levels - level) (omega (arith, levels, c.loop-level-test.true)) in
+    let most : c.first_in_need-more.result.1 ≤ (searches (rows_at s (level + 1)) + 1) * 44 = rw (c.at.ensures) at c.first_in_need-more.ensures.most in
+    let later = searches-later s (level + 1) (s.levels - (level + 1)) (s.levels - level) c.first_in_need-more.result.0 (omega (arith, levels, c.loop-level-test.true)) (sym c.is_some.ensures ∙ c.if-is_some.false) here in
     record {
       needed =
           c.loop-level.invariant.needed
           ∙ need-later s (level + 1) (s.levels - (level + 1)) (s.levels - level) c.first_in_need-more.result.0 (omega (arith, levels, c.loop-level-test.true)) (sym c.is_some.ensures ∙ c.if-is_some.false) here;
       counted = omega (arith, later, c.loop-level.invariant.counted, looked, c.saturating_add-visits.ensures);
+      bounded = omega (arith, later, c.loop-level.invariant.bounded, most, c.saturating_add-visits.ensures);
     }
 
 pub returns : goal.returns
@@ -63,6 +68,7 @@ returns c =
       exact = sym (c.loop-level.invariant.needed ∙ need-done s (level + 1) (s.levels - level) over);
       entered = tt;
       every_search = searched-within s c.loop-level.visits (omega (arith, c.loop-level.invariant.counted, searches-done s (level + 1) (s.levels - level) over));
+      most = omega (arith, levels, c.loop-level.auto.level-end, c.loop-level.invariant.bounded);
     }
 
 pub returns-then-division-eq0-clause-entered : goal.returns-then-division-eq0-clause-entered
