@@ -1,4 +1,4 @@
 mod Carries
 mod Levels
-mod Next
+mod Orders
 mod Sums

@@ -45,20 +45,3 @@ pub fn share(assigned: u64, demand: u64, before: u64, request: u64) -> u64
 {
     assigned * (before + request) / demand - assigned * before / demand
 }
-
-/// Where the next worker goes, after arenas of a level that ask for `before` together: no arena up to which its level asks
-/// for no more than the result gets one, and the first with which it asks for more does.
-pub fn sum_before_next(assigned: u64, demand: u64, before: u64) -> u64
-    requires some_assigned { 0 < assigned }
-    requires within_demand { assigned ≤ demand }
-    requires small_demand { demand < 2 ^ 32 }
-    requires part_of_demand { before ≤ demand }
-    ensures not_behind { before ≤ result }
-    ensures nobody { (others request : ℕ) → before ≤ others → others + request ≤ result
-        → assigned * (others + request) / demand - assigned * others / demand ≡ 0 }
-    ensures next { (others request : ℕ) → others ≤ result → result < others + request
-        → 0 < assigned * (others + request) / demand - assigned * others / demand }
-{
-    let given = assigned * before / demand;
-    ((given + 1) * demand - 1) / assigned
-}

@@ -1,6 +1,6 @@
 //! Why the rule needs no carry to be kept, and that it gives out what there is. These functions do nothing: what they
 //! ensure holds wherever they are called.
-ghost use Rattle.std.specs.Prelude.{◌≡◌, ℕ, ◌+◌, ◌-◌, ◌*◌, ◌/◌, ◌%◌, ◌<◌, ◌≤◌, List};
+ghost use Rattle.std.specs.Prelude.{◌≡◌, ℕ, ◌+◌, ◌-◌, ◌*◌, ◌/◌, ◌%◌, ◌<◌, ◌≤◌, ◌++◌, ◌∷◌, List};
 ghost use Rattle.std.specs.List.{flat_map, sum, sum_by};
 ghost use Rattle.market_types.specs.State.{State, Arena};
 ghost use Rattle.market_types.specs.Claims.{request_of};
@@ -19,6 +19,16 @@ pub fn no_carry_to_keep()
         → carry_after given (demand s) 0 (at_level level s.arenas) ≡ 0 }
     ensures after_levels { (s : State) (given : ℕ → ℕ) (levels : List ℕ)
         → carry_after given (demand s) 0 (flat_map (λ level. at_level level s.arenas) levels) ≡ 0 }
+    // The same in the order of all levels: the carry that the rule has before an arena.
+    ensures in_order { (s : State) (given : ℕ → ℕ) (before after : List Arena) (a : Arena)
+        → in_order s ≡ before ++ a ∷ after
+        → carry_after given (demand s) 0 before
+        ≡ given a.level * total_request (at_level a.level before) % demand s a.level }
+    ensures share_in_order { (s : State) (given : ℕ → ℕ) (before after : List Arena) (a : Arena)
+        → in_order s ≡ before ++ a ∷ after → 0 < demand s a.level
+        → share_of given (demand s) (carry_after given (demand s) 0 before) a
+        ≡ given a.level * (total_request (at_level a.level before) + request_of a.claim) / demand s a.level
+        - given a.level * total_request (at_level a.level before) / demand s a.level }
     ensures share { (given asked : ℕ → ℕ) (before : List Arena) (a : Arena) → 0 < asked a.level
         → share_of given asked (carry_after given asked 0 (at_level a.level before)) a
         ≡ (request_of a.claim * given a.level

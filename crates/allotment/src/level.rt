@@ -30,7 +30,7 @@ pub fn top_level(demands: &[u64; 8]) -> Option<Level>
 {
     for i in 0..8 {
         if demands[i] > 0 {
-            return Some(Level::at(i));
+            return Some(Level::from_index(i));
         }
     }
     None

@@ -1,5 +1,5 @@
 //! Rows worked out by hand.
-use super::{assign, carry_share, mandatory_pick, share, sum_before_next, top_level};
+use super::{assign, carry_share, mandatory_pick, share, top_level};
 use market_types::{ArenaId, Level};
 
 #[test]
@@ -10,8 +10,6 @@ fn three_arenas_share_seven_workers(rt: HostRuntime) {
     assert_eq!(rt; share(7, 15, 0, 5), 2);
     assert_eq!(rt; share(7, 15, 5, 5), 2);
     assert_eq!(rt; share(7, 15, 10, 5), 3);
-    assert_eq!(rt; sum_before_next(7, 15, 0), 2);
-    assert_eq!(rt; sum_before_next(7, 15, 5), 6);
 }
 
 #[test]

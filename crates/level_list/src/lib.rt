@@ -2,15 +2,15 @@
 //!
 //! A [`LevelList`] is a [`prefix_tree::Tree`] in which a new row is newer than all others, so that its contracts put it
 //! at the front. A row that is taken out is a [`Taken`], which can be put back, here or in another level's list, without
-//! memory. Only `push` and `rows` take memory.
+//! memory. Only `push` takes memory.
 //!
-//! Each call but `new`, `len`, `is_empty` and `demand` says how many nodes of the tree it entered, as `Tree` counts them.
+//! Each call but `new`, `len` and `demand` says how many nodes of the tree it entered, as `Tree` counts them.
 #![tactic(auto)]
 
 mod list;
 
 pub use list::LevelList;
-pub use prefix_tree::{Passing, Taken};
+pub use prefix_tree::{Parts, Stretch, Taken};
 
 #[cfg(test)]
 mod tests;

@@ -1,10 +1,10 @@
 //! The list, and its calls.
-ghost use Rattle.std.specs.Prelude.{◌≡◌, ◌+◌, ◌*◌, ◌<◌, ◌≤◌, ◌↔◌, [], ◌∷◌, length, take, slice_get, is_ok, if◌then◌else◌, Some, All, IsTrue, IfNone, IfSome, IsOk, IfOk, OnOk};
-ghost use Rattle.prefix_tree.specs.Rows.{IsNewestFirst, IsAbsent, IsPassing, requests, requests_above, first_mandated, row_at, place_of, without, set_row};
+ghost use Rattle.std.specs.Prelude.{◌≡◌, ◌+◌, ◌*◌, ◌<◌, ◌≤◌, [], ◌∷◌, length, slice_get, is_ok, if◌then◌else◌, Some, All, IfSome, IfOk, OnOk};
+ghost use Rattle.prefix_tree.specs.Rows.{IsNewestFirst, requests, requests_above, first_mandated, row_at, without, set_row};
 ghost use Rattle.prefix_tree.specs.Bits.{bits};
 
 use market_types::Row;
-use prefix_tree::{Passing, Taken, Tree};
+use prefix_tree::{Stretch, Taken, Tree};
 use std::alloc::{AllocError, Global};
 use std::marker::Model;
 
@@ -12,8 +12,8 @@ use std::marker::Model;
 /// see it as the list of its rows, newest first.
 ///
 /// A call on `n` rows enters at most twice as many nodes as `n` has binary digits, and one more where it puts a row
-/// in; where its way goes to an end of the tree, at least half as many; `rows` enters all. The last part of its answer is
-/// their number. Only `push` and `rows` take memory.
+/// in. The last part of its answer is their number. Only `push` takes memory. A walk in order through all rows goes by
+/// [`LevelList::whole`].
 #[derive(Drop)]
 pub struct LevelList {
     rows: Tree,
@@ -45,13 +45,6 @@ impl LevelList {
         self.rows.len()
     }
 
-    /// Whether there are no rows.
-    pub fn is_empty(&self) -> bool
-        ensures exact { IsTrue result ↔ (length self.now ≡ 0) }
-    {
-        self.rows.is_empty()
-    }
-
     /// What the level asks for: the sum of all requests.
     pub fn demand(&self) -> u64
         ensures exact { result ≡ requests self.now }
@@ -64,7 +57,6 @@ impl LevelList {
     pub fn before(&self, stamp: u32) -> (u64, u32)
         ensures exact { result.0 ≡ requests_above stamp self.now }
         ensures entered { 0 < length self.now → 1 ≤ result.1 }
-        ensures deep { IsAbsent stamp self.now → bits (length self.now) ≤ 2 * result.1 }
         ensures visits { result.1 ≤ 2 * bits (length self.now) }
     {
         self.rows.sum_before(stamp)
@@ -74,7 +66,6 @@ impl LevelList {
     pub fn walk(&self, place: usize) -> (Option<Row>, u32)
         ensures exact { result.0 ≡ slice_get self.now place }
         ensures entered { 0 < length self.now → 1 ≤ result.1 }
-        ensures deep { IfNone result.0 (bits (length self.now) ≤ 2 * result.1) }
         ensures visits { result.1 ≤ 2 * bits (length self.now) }
     {
         self.rows.walk(place)
@@ -84,60 +75,28 @@ impl LevelList {
     pub fn first_mandated(&self) -> (Option<Row>, u32)
         ensures exact { result.0 ≡ first_mandated self.now }
         ensures entered { 0 < length self.now → 1 ≤ result.1 }
-        ensures deep { IfNone result.0 (bits (length self.now) ≤ 2 * result.1) }
         ensures visits { result.1 ≤ 2 * bits (length self.now) }
     {
         self.rows.first_mandated()
     }
 
-    /// The first row up to and with which the requests add up to more than `sum`, None where they never do.
-    pub fn passing(&self, sum: u64) -> (Option<Passing>, u32)
-        ensures some { IfSome result.0 (λ passing. IsPassing sum passing self.now) }
-        ensures none { IfNone result.0 (requests self.now ≤ sum) }
-        ensures entered { 0 < length self.now → 1 ≤ result.1 }
-        ensures deep { IfNone result.0 (bits (length self.now) ≤ 2 * result.1) }
-        ensures visits { result.1 ≤ 2 * bits (length self.now) }
+    /// All rows, for a walk in order that may pass over some: see [`Stretch`].
+    pub fn whole(&self) -> Stretch<'_>
+        ensures rows { result.0 ≡ self.now }
+        ensures height { result.1 ≤ 2 * bits (length self.now) }
+        ensures few { length self.now ≤ 1024 }
+        ensures newest_first { IsNewestFirst self.now }
     {
-        self.rows.passing(sum)
+        self.rows.whole()
     }
 
-    /// The sum of the requests of the rows before a place, which may lie beyond the end.
-    pub fn sum_to(&self, place: usize) -> (u64, u32)
-        ensures exact { result.0 ≡ requests (take place self.now) }
-        ensures entered { 0 < length self.now → 1 ≤ result.1 }
-        ensures deep { bits (length self.now) ≤ 2 * result.1 }
-        ensures visits { result.1 ≤ 2 * bits (length self.now) }
-    {
-        self.rows.sum_to(place)
-    }
-
-    /// The place of the row with that stamp, None where no row has it.
-    pub fn place_of(&self, stamp: u32) -> (Option<usize>, u32)
-        ensures exact { result.0 ≡ place_of stamp self.now }
-        ensures none { IfNone result.0 (IsAbsent stamp self.now) }
-        ensures entered { 0 < length self.now → 1 ≤ result.1 }
-        ensures deep { IfNone result.0 (bits (length self.now) ≤ 2 * result.1) }
-        ensures visits { result.1 ≤ 2 * bits (length self.now) }
-    {
-        self.rows.place_of(stamp)
-    }
-
-    /// All rows, newest first. Enters each node once. No rows take no memory.
-    pub fn rows(&self, alloc: Global) -> Result<(Vec<Row>, u32), AllocError>
-        ensures succeeds { length self.now ≡ 0 → IsOk result }
-        ensures exact { IfOk result (λ listed. listed.0.items ≡ self.now) }
-        ensures visits { IfOk result (λ listed. listed.1 ≡ length self.now) }
-    {
-        self.rows.rows(alloc)
-    }
-
-    /// Sets the request and the mandate of the row with that stamp, and leaves all others; nothing where no row has it.
+    /// Sets the request and the mandate of the row with that stamp, and leaves all others; nothing where no row has it. The
+    /// market calls `update`; this is for a caller that knows the stamp alone.
     pub fn set(&mut self, stamp: u32, request: u32, mandated: bool) -> u32
         requires request { request ≤ 65535 }
         ensures rows { self.new ≡ set_row stamp request mandated self.old }
         ensures newest_first { IsNewestFirst self.new }
         ensures entered { 0 < length self.old → 1 ≤ result }
-        ensures deep { IsAbsent stamp self.old → bits (length self.old) ≤ 2 * result }
         ensures visits { result ≤ 2 * bits (length self.old) }
     {
         self.rows.set(stamp, request, mandated)
@@ -156,7 +115,7 @@ impl LevelList {
         self.rows.update(row, request, mandated)
     }
 
-    /// Adds a row that is newer than all others at the front. An error is want of memory, and leaves the rows as they
+    /// Adds a row that is newer than all others at the front. An error says that memory ran out, and leaves the rows as they
     /// were.
     pub fn push(&mut self, alloc: Global, row: Row) -> Result<u32, AllocError>
         requires room { length self.old < 1024 }
@@ -164,7 +123,6 @@ impl LevelList {
         requires newest { All (λ older. older.stamp < row.stamp) self.old }
         ensures rows { self.new ≡ (if is_ok result then row ∷ self.old else self.old) }
         ensures newest_first { OnOk result (IsNewestFirst self.new) }
-        ensures deep { IfOk result (λ visits. bits (length self.old) + 1 ≤ 2 * visits) }
         ensures visits { IfOk result (λ visits. (1 ≤ visits) × (visits ≤ 2 * bits (length self.old) + 1)) }
     {
         self.rows.insert(alloc, row)
@@ -178,7 +136,6 @@ impl LevelList {
         ensures rows { self.new ≡ record taken { stamp = stamp } ∷ self.old }
         ensures newest_first { IsNewestFirst self.new }
         ensures low { 1 ≤ result }
-        ensures deep { bits (length self.old) + 1 ≤ 2 * result }
         ensures visits { result ≤ 2 * bits (length self.old) + 1 }
     {
         self.rows.put_node(taken, stamp)
@@ -191,7 +148,6 @@ impl LevelList {
         ensures newest_first { IsNewestFirst self.new }
         ensures room { IfSome result.0 (λ _. length self.new < 1024) }
         ensures entered { 0 < length self.old → 1 ≤ result.1 }
-        ensures deep { bits (length self.old) ≤ 2 * result.1 }
         ensures visits { result.1 ≤ 2 * bits (length self.old) }
     {
         self.rows.take_node(stamp)

@@ -1,10 +1,10 @@
 //! The program `market`: its words, its streams and its exit status.
 #![tactic(auto)]
 
+use byte_devices::{ReadSource, WriteSink};
 use clap::Error;
 use clap::error::ErrorKind;
 use market_prog::{Choice, RunOptions, read_words, run_script, status_of_run};
-use market_types::{ReadSource, WriteSink};
 use std::fmt::Display;
 use std::process::ExitCode;
 use std::{env, io};

@@ -21,7 +21,7 @@ abbrev pub Stops : TurnFault → Cmd → Reply → Type 0
 Stops turn.Memory cmd reply = takes_memory cmd ≡ true
 Stops turn.Refused cmd reply = number_in reply ≡ None
 
--- turns with this sum can stop so: those of Lists by want of memory, those without a sum by a refusal
+-- turns with this sum can stop so: those of Lists by running out of memory, those without a sum by a refusal
 abbrev pub StopsTurns : TurnFault → Scenario → Option Sum → Type 0
 StopsTurns turn.Memory scenario sum = scenario ≡ Lists
 StopsTurns turn.Refused scenario sum = sum ≡ None

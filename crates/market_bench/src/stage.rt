@@ -9,7 +9,7 @@ ghost use Rattle.market_bench.specs.Stages.{filled, with_arena, with_arenas, wit
 ghost use Rattle.market_bench.specs.Turns.{arena_in, is_in_turns};
 
 use crate::fault::{BenchFault, TurnFault};
-use market_core::Market;
+use market_core::{Market, seats_stay};
 use market_types::{ArenaId, Cmd, Level, Reply, SeatNo};
 use std::alloc::Global;
 
@@ -59,6 +59,7 @@ fn ask(alloc: Global, market: &mut Market, seat: u8, cmd: Cmd) -> Result<u64, Tu
     ensures same_seats { length market.new.seats ≡ length market.old.seats }
     ensures same_arenas { is_in_turns cmd ≡ true → length market.new.arenas ≡ length market.old.arenas }
 {
+    seats_stay();
     let reply = market.apply(alloc, SeatNo::new(seat), cmd)?;
     number_in(&reply).ok_or(TurnFault::Refused)
 }
@@ -98,7 +99,7 @@ fn open_arenas(
     ensures same_seats { length market.new.seats ≡ length market.old.seats }
 {
     for place in 0..arenas {
-        let level = Level::at((place % levels) as usize);
+        let level = Level::from_index((place % levels) as usize);
         open_arena(alloc, market, ArenaId::new(place + 1), level)?;
     }
     Ok(())

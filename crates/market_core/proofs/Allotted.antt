@@ -8,12 +8,10 @@ use Rattle.std.proofs.lemmas.List.Elements.{All-nil, All-cons, All-append, All-f
 use Rattle.std.proofs.lemmas.List.Sums.{sum_by-cons, sum_by-append}
 use Rattle.market_types.specs.State.{Arena, State}
 use Rattle.market_types.specs.Claims.{request_of, is_mandated}
-use Rattle.market_types.specs.Allotment.{total_request, at_level, share_of, carry_past, carry_after, carried, count_at, assigned, demand, alloc, all_to, bound_of, limit_of, mandatory_pick, in_order, levels_of, is_just}
+use Rattle.market_types.specs.Allotment.{total_request, at_level, share_of, carry_past, carry_after, carried, count_at, assigned, demand, allotment_of, all_to, bound_of, limit_of, mandatory_pick, in_order, levels_of, is_just}
 use Rattle.market_types.specs.Step.{arena_at}
 use Rattle.allotment.specs.Levels.{AreDemandsOf, IsLeveled, number_of}
-use Rattle.market_core.specs.Store.{newer}
-use Rattle.market_core.proofs.ByStamp.{has_number, IsMissing}
-use Rattle.market_core.proofs.Found.{Found, found-newer}
+use Rattle.arena_store.specs.Arenas.{has_number, newer, older, IsMissing, IsFound}
 
 -- ---- levels
 
@@ -74,14 +72,14 @@ count_at-missing a K D carry (x ∷ xs) h =
     rw (All-head (λ (y : Arena). has_number a y ≡ false) x xs h) (count_at-missing a K D (carry_past K D carry x) xs (All-tail (λ (y : Arena). has_number a y ≡ false) x xs h))
 
 -- an arena gets its share, by the carry of the arenas of its level before it
-pub count_at-found : (K D : ℕ → ℕ) (n : ℕ) (row : Arena) (arenas : List Arena) (levels : List ℕ) (f : Found n row arenas)
+pub count_at-found : (K D : ℕ → ℕ) (n : ℕ) (row : Arena) (arenas : List Arena) (levels : List ℕ) (f : IsFound n row arenas)
     → ((level : ℕ) → carry_after K D 0 (at_level level arenas) ≡ 0) → list_any (λ level. eqb level row.level) levels ≡ true
-    → count_at n (carried K D 0 (flat_map (λ level. at_level level arenas) levels)) ≡ share_of K D (carry_after K D 0 (at_level row.level f.before)) row
+    → count_at n (carried K D 0 (flat_map (λ level. at_level level arenas) levels)) ≡ share_of K D (carry_after K D 0 (at_level row.level (newer row.stamp arenas))) row
 count_at-found K D n row arenas [] f whole e = cc
 count_at-found K D n row arenas (k ∷ ks) f whole e =
     let P : Arena → Type 0 = λ (x : Arena). has_number n x ≡ false in
-    let xs = f.before in
-    let ys = f.after in
+    let xs = newer row.stamp arenas in
+    let ys = older row.stamp arenas in
     let rest = flat_map (λ level. at_level level arenas) ks in
     elim (cases_eq k row.level) [
       | inl same ↦
@@ -110,30 +108,28 @@ cond-no : (b : Bool) (x y : ℕ) → b ≡ false → cond b x y ≡ y
 cond-no true x y e = cc
 cond-no false x y e = refl
 
-pub alloc-shared : (s : State) (n : ℕ) → 0 < limit_of s → alloc s n ≡ count_at n (carried (assigned s) (demand s) 0 (in_order s))
-alloc-shared s n some =
+pub allotment_of-shared : (s : State) (n : ℕ) → 0 < limit_of s → allotment_of s n ≡ count_at n (carried (assigned s) (demand s) 0 (in_order s))
+allotment_of-shared s n some =
     cond-yes (ltb 0 (limit_of s)) (count_at n (carried (assigned s) (demand s) 0 (in_order s))) (all_to (mandatory_pick s) (bound_of s) n) (lt-ltb 0 (limit_of s) some)
 
-pub alloc-picked : (s : State) (n : ℕ) → limit_of s ≡ 0 → alloc s n ≡ all_to (mandatory_pick s) (bound_of s) n
-alloc-picked s n none =
+pub allotment_of-picked : (s : State) (n : ℕ) → limit_of s ≡ 0 → allotment_of s n ≡ all_to (mandatory_pick s) (bound_of s) n
+allotment_of-picked s n none =
     cond-no (ltb 0 (limit_of s)) (count_at n (carried (assigned s) (demand s) 0 (in_order s))) (all_to (mandatory_pick s) (bound_of s) n) (le-ltb 0 (limit_of s) (omega arith))
 
-pub alloc-found : (s : State) (n : ℕ) (row : Arena) → Found n row s.arenas → (1 ≤ row.level) × (row.level ≤ s.levels) → 0 < limit_of s
+pub allotment_of-found : (s : State) (n : ℕ) (row : Arena) → IsFound n row s.arenas → (1 ≤ row.level) × (row.level ≤ s.levels) → 0 < limit_of s
     → ((level : ℕ) → carry_after (assigned s) (demand s) 0 (at_level level s.arenas) ≡ 0)
-    → alloc s n ≡ share_of (assigned s) (demand s) (carry_after (assigned s) (demand s) 0 (at_level row.level (newer row.stamp s.arenas))) row
-alloc-found s n row f level some whole =
-    alloc-shared s n some
+    → allotment_of s n ≡ share_of (assigned s) (demand s) (carry_after (assigned s) (demand s) 0 (at_level row.level (newer row.stamp s.arenas))) row
+allotment_of-found s n row f level some whole =
+    allotment_of-shared s n some
     ∙ count_at-found (assigned s) (demand s) n row s.arenas (levels_of s) f whole (level-in-range row.level 1 s.levels level.0 (omega (arith, level.1)))
-    ∙ ap (λ xs. share_of (assigned s) (demand s) (carry_after (assigned s) (demand s) 0 (at_level row.level xs)) row) (sym (found-newer n row s.arenas f))
 
 -- an arena asks for no more than its level, the arenas before it included
-pub request-within : (n : ℕ) (row : Arena) (arenas : List Arena) → Found n row arenas
+pub request-within : (n : ℕ) (row : Arena) (arenas : List Arena) → IsFound n row arenas
     → total_request (at_level row.level (newer row.stamp arenas)) + request_of row.claim ≤ total_request (at_level row.level arenas)
 request-within n row arenas f =
     let q : Arena → ℕ = λ (a : Arena). request_of a.claim in
-    let xs = f.before in
-    let ys = f.after in
-    let front : total_request (at_level row.level (newer row.stamp arenas)) ≡ total_request (at_level row.level xs) = ap (λ zs. total_request (at_level row.level zs)) (found-newer n row arenas f) in
+    let xs = newer row.stamp arenas in
+    let ys = older row.stamp arenas in
     let sums : total_request (at_level row.level arenas) ≡ total_request (at_level row.level xs) + (request_of row.claim + total_request (at_level row.level ys)) =
     ap (λ zs. total_request (at_level row.level zs)) f.split ∙ ap total_request (at_level-own xs ys row)
     ∙ sum_by-append q (at_level row.level xs) (row ∷ at_level row.level ys)
@@ -167,12 +163,12 @@ all_to-missing n w p (x ∷ xs) h =
       | inr f ↦ rw f (all_to-missing n w p xs (All-tail (λ (b : Arena). has_number n b ≡ false) x xs h))
     ]
 
-pub alloc-missing : (s : State) (n : ℕ) → arena_at n s.arenas ≡ None → alloc s n ≡ 0
-alloc-missing s n e =
+pub allotment_of-missing : (s : State) (n : ℕ) → arena_at n s.arenas ≡ None → allotment_of s n ≡ 0
+allotment_of-missing s n e =
     let none : IsMissing n (in_order s) = missing-levels n s.arenas (levels_of s) (missing-at n s.arenas e) in
     elim (cases_lt 0 (limit_of s)) [
-      | inl some ↦ alloc-shared s n some ∙ count_at-missing n (assigned s) (demand s) 0 (in_order s) none
-      | inr zero_limit ↦ alloc-picked s n (omega arith) ∙ all_to-missing n (bound_of s) (λ (a : Arena). is_mandated a.claim) (in_order s) none
+      | inl some ↦ allotment_of-shared s n some ∙ count_at-missing n (assigned s) (demand s) 0 (in_order s) none
+      | inr zero_limit ↦ allotment_of-picked s n (omega arith) ∙ all_to-missing n (bound_of s) (λ (a : Arena). is_mandated a.claim) (in_order s) none
     ]
 
 -- ---- where no worker may be active

@@ -6,12 +6,42 @@ use Rattle.std.proofs.lemmas.Bool.{cases_eq, cases_Bool, eq-eqb, eqb-true, ne_eq
 use Rattle.std.proofs.lemmas.Option.{same_Some}
 use Rattle.market_types.specs.State.{Arena, State}
 use Rattle.market_types.specs.Claims.{is_mandated}
-use Rattle.market_types.specs.Allotment.{active, alloc, at_level, bound_of, hire, in_order, limit_of, mandatory_pick}
+use Rattle.market_types.specs.Allotment.{active, allotment_of, at_level, bound_of, hire, in_order, limit_of, mandatory_pick}
 use Rattle.allotment.specs.Levels.{number_of, pick_of, IsLeveled}
-use Rattle.recall_hire.specs.Staffed.{need_among, need_of, rows_among, rows_of, searches}
+use Rattle.recall_hire.specs.Staffed.{first_in_need, need_among, need_of, rows_among, rows_of, searches}
 use Rattle.market_core.specs.Visits.{searched}
-use Rattle.market_core.proofs.Allotted.{alloc-picked, all_to_number, all_to-number}
+use Rattle.market_core.proofs.Allotted.{allotment_of-picked, all_to_number, all_to-number}
 use Rattle.market_core.proofs.Order.{levels_from, in_order-length}
+
+-- ---- its row
+
+-- the first row that has too few is that of the first arena that has
+pub need-rows : (s : State) (arenas : List Arena) → first_in_need (rows_among s arenas) ≡ need_among s arenas
+need-rows s [] = refl
+need-rows s (a ∷ arenas) =
+    elim (cases_Bool (ltb 0 (hire s a.number))) [
+      | inl e ↦ rw e refl
+      | inr e ↦ rw e (need-rows s arenas)
+    ]
+
+-- a row in need is looked at
+pub searched-some : (s : State) (arenas : List Arena) (n : ℕ) → need_among s arenas ≡ Some n → 1 ≤ searches (rows_among s arenas)
+searched-some s [] n e = cc
+searched-some s (a ∷ arenas) n e =
+    elim (cases_Bool (ltb 0 (hire s a.number))) [
+      | inl short ↦
+          elim (cases_Bool (eqb (allotment_of s a.number) 0)) [
+            | inl t ↦ absurd (omega (arith, ltb-true 0 (hire s a.number) short, eqb-true (allotment_of s a.number) 0 t))
+            | inr f ↦ rw (f, short) (omega arith)
+          ]
+      | inr full ↦
+          let later : need_among s arenas ≡ Some n = rw full at e in
+          let rest : 1 ≤ searches (rows_among s arenas) = searched-some s arenas n later in
+          elim (cases_Bool (eqb (allotment_of s a.number) 0)) [
+            | inl t ↦ rw t rest
+            | inr f ↦ rw (f, full) (omega arith)
+          ]
+    ]
 
 -- ---- level by level
 
@@ -60,14 +90,14 @@ searches-front s [] ys n e = cc
 searches-front s (x ∷ xs) ys n e =
     elim (cases_Bool (ltb 0 (hire s x.number))) [
       | inl short ↦
-          elim (cases_Bool (eqb (alloc s x.number) 0)) [
-            | inl t ↦ absurd (omega (arith, ltb-true 0 (hire s x.number) short, eqb-true (alloc s x.number) 0 t))
+          elim (cases_Bool (eqb (allotment_of s x.number) 0)) [
+            | inl t ↦ absurd (omega (arith, ltb-true 0 (hire s x.number) short, eqb-true (allotment_of s x.number) 0 t))
             | inr f ↦ rw (f, short) refl
           ]
       | inr full ↦
           let later : need_among s xs ≡ Some n = rw full at e in
           let rest = searches-front s xs ys n later in
-          elim (cases_Bool (eqb (alloc s x.number) 0)) [
+          elim (cases_Bool (eqb (allotment_of s x.number) 0)) [
             | inl t ↦ rw t rest
             | inr f ↦ rw (f, full) (ap (λ k. k + 1) rest)
           ]
@@ -82,7 +112,7 @@ searches-behind s (x ∷ xs) ys e =
       | inr full ↦
           let later : need_among s xs ≡ None = rw full at e in
           let rest = searches-behind s xs ys later in
-          elim (cases_Bool (eqb (alloc s x.number) 0)) [
+          elim (cases_Bool (eqb (allotment_of s x.number) 0)) [
             | inl t ↦ rw t rest
             | inr f ↦ rw (f, full) (omega (arith, rest))
           ]
@@ -102,7 +132,7 @@ pub searches-done : (s : State) (from m : ℕ) → m ≡ 0 → searches (rows_am
 searches-done s from m e = rw e refl
 
 -- a count that has all of them has enough
-pub searched-within : (s : State) (v : ℕ) → min (searches (rows_of s)) 4294967295 ≤ v → searched s ≤ v
+pub searched-within : (s : State) (v : ℕ) → searches (rows_of s) ≤ v → searched s ≤ v
 searched-within s v h =
     elim (cases_Bool (eqb (limit_of s) 0)) [
       | inl t ↦ rw t (omega arith)
@@ -123,21 +153,21 @@ find-nobody s (x ∷ xs) h =
     let none : ltb 0 (hire s x.number) ≡ false = ap (ltb 0) (h x.number) in
     rw none (find-nobody s xs h)
 
-picked-alloc : (s : State) (n : ℕ) → limit_of s ≡ 0 → alloc s n ≡ all_to_number (pick_of s) (bound_of s) n
-picked-alloc s n none = alloc-picked s n none ∙ all_to-number (mandatory_pick s) (bound_of s) n
+picked-allotment_of : (s : State) (n : ℕ) → limit_of s ≡ 0 → allotment_of s n ≡ all_to_number (pick_of s) (bound_of s) n
+picked-allotment_of s n none = allotment_of-picked s n none ∙ all_to-number (mandatory_pick s) (bound_of s) n
 
 pub need-unpicked : (s : State) → limit_of s ≡ 0 → pick_of s ≡ None → need_of s ≡ None
 need-unpicked s none e =
-    find-nobody s (in_order s) (λ n. let given : alloc s n ≡ 0 = picked-alloc s n none ∙ ap (λ o. all_to_number o (bound_of s) n) e in omega arith)
+    find-nobody s (in_order s) (λ n. let given : allotment_of s n ≡ 0 = picked-allotment_of s n none ∙ ap (λ o. all_to_number o (bound_of s) n) e in omega arith)
 
 other-hires : (s : State) (picked n : ℕ) → limit_of s ≡ 0 → pick_of s ≡ Some picked → picked ≢ n → hire s n ≡ 0
 other-hires s picked n none e m =
-    let given : alloc s n ≡ 0 = picked-alloc s n none ∙ ap (λ o. all_to_number o (bound_of s) n) e ∙ rw (ne_eqb picked n m) refl in
+    let given : allotment_of s n ≡ 0 = picked-allotment_of s n none ∙ ap (λ o. all_to_number o (bound_of s) n) e ∙ rw (ne_eqb picked n m) refl in
     omega arith
 
 own-hires : (s : State) (picked n : ℕ) → limit_of s ≡ 0 → pick_of s ≡ Some picked → picked ≡ n → hire s n ≡ bound_of s - active s picked
 own-hires s picked n none e m =
-    let given : alloc s n ≡ bound_of s = picked-alloc s n none ∙ ap (λ o. all_to_number o (bound_of s) n) e ∙ rw (eq-eqb picked n m) refl in
+    let given : allotment_of s n ≡ bound_of s = picked-allotment_of s n none ∙ ap (λ o. all_to_number o (bound_of s) n) e ∙ rw (eq-eqb picked n m) refl in
     let placed : active s n ≡ active s picked = ap (active s) (sym m) in
     omega arith
 
@@ -178,7 +208,7 @@ pub needed-entered : (s : State) (o : Option ℕ) (v : ℕ) → IsLeveled s → 
 needed-entered s None v leveled e f = tt
 needed-entered s (Some n) v leveled e f = f (need-some s n leveled (sym e))
 
--- a count that was added to counts the arena that was found
-pub found-entered : (o : Option ℕ) (a b : ℕ) → IfSome o (λ _. 1 ≤ a) → a ≤ b → IfSome o (λ _. 1 ≤ b)
-found-entered None a b h more = tt
-found-entered (Some n) a b h more = omega (arith, h)
+-- a count that has every row that was looked at counts the arena that was found
+pub found-some : (s : State) (arenas : List Arena) (o : Option ℕ) (v : ℕ) → o ≡ need_among s arenas → searches (rows_among s arenas) ≤ v → IfSome o (λ _. 1 ≤ v)
+found-some s arenas None v e h = tt
+found-some s arenas (Some n) v e h = omega (arith, searched-some s arenas n (sym e))

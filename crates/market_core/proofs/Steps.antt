@@ -8,7 +8,7 @@ use Rattle.market_types.specs.State.{Claim, Arena, State}
 use Rattle.market_types.specs.Step.{arena_at, with_claim, without, moved}
 use Rattle.market_types.specs.declared.reply.Fault.{Fault}
 use Rattle.market_core.specs.Sound.{IsSound}
-use Rattle.market_core.proofs.Found.{All-found}
+use Rattle.market_core.proofs.Numbers.{All-found}
 
 -- ---- what holds of each arena
 

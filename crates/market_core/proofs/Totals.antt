@@ -1,20 +1,20 @@
 -- What all arenas are allotted together, and that none is allotted more than it asks for.
-use Rattle.std.proofs.Common.{◌≡◌, ◌≢◌, ℕ, zero, suc, ◌+◌, ◌-◌, ◌*◌, ◌<◌, ◌≤◌, Bool, true, false, cond, eqb, ltb, ℤ, pos, negsuc, List, [], ◌∷◌, Option, Some, None, refl, sym, ap, ◌∙◌, arith, inl, inr, zero-add}
-use Rattle.std.specs.Prelude.{◌==◌, ◌&&◌}
-use Rattle.std.specs.List.{All, count_by, sum_by, find, flat_map}
-use Rattle.std.proofs.lemmas.Bool.{both_ways, cases_eq, cases_Bool, ne_eqb, eq-eqb, lt-ltb, le-ltb, ltb-true, and_parts}
+use Rattle.std.proofs.Common.{◌≡◌, ℕ, zero, suc, ◌+◌, ◌-◌, ◌*◌, ◌<◌, ◌≤◌, Bool, true, false, cond, eqb, ltb, ℤ, pos, negsuc, List, [], ◌∷◌, get_or, map, Option, Some, None, refl, sym, ap, ◌∙◌, arith, inl, inr, zero-add}
+use Rattle.std.specs.Prelude.{◌==◌, ◌&&◌, min}
+use Rattle.std.specs.List.{All, count_by, filter, sum_by, find, flat_map, range_with_len}
+use Rattle.std.proofs.lemmas.Bool.{both_ways, cases_eq, cases_lt, cases_Bool, ne_eqb, eq-eqb, lt-ltb, le-ltb, ltb-true, and_parts}
 use Rattle.std.proofs.lemmas.List.Elements.{All-nil, All-cons, All-head, All-tail, All-append, All-filter, All-weaker}
 use Rattle.std.proofs.lemmas.List.Sums.{sum_by-cons}
 use Rattle.market_types.specs.State.{Claim, Arena, State}
 use Rattle.market_types.specs.Claims.{cap_of, clamp_total, request_of, is_mandated}
-use Rattle.market_types.specs.Allotment.{at_level, share_of, carry_past, carried, count_at, assigned, demand, alloc, all_to, bound_of, limit_of, effective_limit_of, has_mandatory, mandatory_pick, in_order, levels_of}
+use Rattle.market_types.specs.Allotment.{at_level, share_of, carry_past, carry_after, assigned_to, carried, count_at, assigned, demand, allotment_of, all_to, bound_of, limit_of, effective_limit_of, has_mandatory, mandatory_pick, in_order, levels_of}
 use Rattle.allotment.specs.Levels.{workers_of, IsLeveled}
-use Rattle.market_core.specs.Allotted.{IsWithin, total_alloc}
-use Rattle.market_core.specs.Store.{IsApart}
-use Rattle.market_core.proofs.ByStamp.{has_number, IsMissing}
-use Rattle.market_core.proofs.Found.{Found, AllPairs-head, AllPairs-tail}
-use Rattle.market_core.proofs.Allotted.{alloc-picked}
+use Rattle.arena_store.specs.Arenas.{has_number, newer, older, IsMissing, IsFound, StandOnce}
+use Rattle.market_core.specs.Allotted.{IsWithin, total_allotment}
+use Rattle.market_core.proofs.Allotted.{allotment_of-found, allotment_of-picked}
+use Rattle.market_core.proofs.Numbers.{All-found}
 use Rattle.market_core.proofs.Order.{sum-in_levels}
+use Rattle.market_types.specs.Step.{arena_at}
 
 -- ---- a number is used once
 
@@ -37,17 +37,17 @@ missing-count n (x ∷ xs) e =
       | inr f ↦ All-cons (λ (b : Arena). has_number n b ≡ false) x xs f (missing-count n xs (sym (count-no n x xs f) ∙ e))
     ]
 
-pub unique : (n : ℕ) (xs : List Arena) → IsApart xs → count_by (has_number n) xs ≤ 1
-unique n [] apart = omega arith
-unique n (x ∷ xs) apart =
-    let R : Arena → Arena → Type 0 = λ (a b : Arena). a.number ≢ b.number in
-    elim (cases_eq x.number n) [
-      | inl e ↦
-          let others : IsMissing n xs =
-          All-weaker (λ (b : Arena). x.number ≢ b.number) (λ (b : Arena). has_number n b ≡ false) (λ b m. ne_eqb b.number n (λ f. m (e ∙ sym f))) xs (AllPairs-head R x xs apart) in
-          omega (arith, count-yes n x xs (eq-eqb x.number n e), count-missing n xs others)
-      | inr m ↦ omega (arith, count-no n x xs (ne_eqb x.number n m), unique n xs (AllPairs-tail R x xs apart))
+-- no more arenas of a number stand among some of them
+pub count-filter : (n : ℕ) (p : Arena → Bool) (xs : List Arena) → count_by (has_number n) (filter p xs) ≤ count_by (has_number n) xs
+count-filter n p [] = omega arith
+count-filter n p (x ∷ xs) =
+    elim (cases_Bool (p x)) [
+      | inl t ↦ rw t (omega (arith, count-cons n x (filter p xs), count-cons n x xs, count-filter n p xs))
+      | inr f ↦ rw f (omega (arith, count-cons n x xs, count-filter n p xs))
     ]
+  where
+    count-cons : (n : ℕ) (x : Arena) (xs : List Arena) → count_by (has_number n) (x ∷ xs) ≡ cond (has_number n x) 1 0 + count_by (has_number n) xs
+    count-cons n x xs = sum_by-cons (λ (y : Arena). cond (has_number n y) 1 0) x xs
 
 -- ---- allotments by number, and in order
 
@@ -87,19 +87,19 @@ sum-counts K D carry (a ∷ arenas) h =
     )
 
 -- where workers may be active, all allotments together are what is carried through all arenas
-pub total-carried : (s : State) → IsApart s.arenas → IsLeveled s → 0 < limit_of s → total_alloc s ≡ sum_by workers_of (carried (assigned s) (demand s) 0 (in_order s))
-total-carried s apart leveled some =
-    let f : Arena → ℕ = λ a. alloc s a.number in
+pub total-carried : (s : State) → StandOnce s.arenas → IsLeveled s → 0 < limit_of s → total_allotment s ≡ sum_by workers_of (carried (assigned s) (demand s) 0 (in_order s))
+total-carried s stand leveled some =
+    let f : Arena → ℕ = λ a. allotment_of s a.number in
     let given = carried (assigned s) (demand s) 0 (in_order s) in
     let distinct : (n : ℕ) → count_by (has_number n) (in_order s) ≤ 1 =
-    λ n. omega (arith, unique n s.arenas apart, sum-in_levels (λ (a : Arena). cond (has_number n a) 1 0) s.levels s.arenas leveled) in
+    λ n. omega (arith, stand.once n, sum-in_levels (λ (a : Arena). cond (has_number n a) 1 0) s.levels s.arenas leveled) in
     sym (sum-in_levels f s.levels s.arenas leveled)
     ∙ ap (λ b. sum_by (λ (a : Arena). cond b (count_at a.number given) (all_to (mandatory_pick s) (bound_of s) a.number)) (in_order s)) (lt-ltb 0 (limit_of s) some)
     ∙ sum-counts (assigned s) (demand s) 0 (in_order s) distinct
 
 -- ---- where no worker may be active
 
-cond-most : (b : Bool) → cond b 1 0 ≤ 1
+pub cond-most : (b : Bool) → cond b 1 0 ≤ 1
 cond-most true = omega arith
 cond-most false = omega arith
 
@@ -127,32 +127,32 @@ few-times zero w p q = omega arith
 few-times (suc zero) w p q = omega arith
 few-times (suc (suc k)) w p q = absurd (omega arith)
 
-sum-all_to : (picked : Option Arena) (w : ℕ) (xs : List Arena) → IsApart xs → w ≤ 1 → sum_by (λ (a : Arena). all_to picked w a.number) xs ≤ 1
-sum-all_to None w xs apart few = sum-zero xs
+sum-all_to : (picked : Option Arena) (w : ℕ) (xs : List Arena) → StandOnce xs → w ≤ 1 → sum_by (λ (a : Arena). all_to picked w a.number) xs ≤ 1
+sum-all_to None w xs stand few = sum-zero xs
   where
     sum-zero : (xs : List Arena) → sum_by (λ (a : Arena). 0) xs ≤ 1
     sum-zero [] = omega arith
     sum-zero (x ∷ xs) = omega (arith, sum_by-cons (λ (a : Arena). 0) x xs, sum-zero xs)
-sum-all_to (Some p) w xs apart few = omega (arith, sum-picked p.number w xs, few-times (count_by (has_number p.number) xs) w (unique p.number xs apart) few)
+sum-all_to (Some p) w xs stand few = omega (arith, sum-picked p.number w xs, few-times (count_by (has_number p.number) xs) w (stand.once p.number) few)
 
 pub sum-same : (f g : Arena → ℕ) (xs : List Arena) → ((a : Arena) → f a ≡ g a) → sum_by f xs ≡ sum_by g xs
 sum-same f g [] h = refl
 sum-same f g (x ∷ xs) h = omega (arith, sum_by-cons f x xs, sum_by-cons g x xs, h x, sum-same f g xs h)
 
 -- at most one worker is allotted
-pub total-one : (s : State) → IsApart s.arenas → limit_of s ≡ 0 → total_alloc s ≤ 1
-total-one s apart none =
-    let same = sum-same (λ (a : Arena). alloc s a.number) (λ (a : Arena). all_to (mandatory_pick s) (bound_of s) a.number) s.arenas (λ a. alloc-picked s a.number none) in
-    omega (arith, same, sum-all_to (mandatory_pick s) (bound_of s) s.arenas apart (bound-one s none))
+pub total-one : (s : State) → StandOnce s.arenas → limit_of s ≡ 0 → total_allotment s ≤ 1
+total-one s stand none =
+    let same = sum-same (λ (a : Arena). allotment_of s a.number) (λ (a : Arena). all_to (mandatory_pick s) (bound_of s) a.number) s.arenas (λ a. allotment_of-picked s a.number none) in
+    omega (arith, same, sum-all_to (mandatory_pick s) (bound_of s) s.arenas stand (bound-one s none))
 
 -- ---- no more than asked for
 
-found-same : (n : ℕ) (row : Arena) (arenas : List Arena) → Found n row arenas → All (λ (b : Arena). has_number n b ≡ true → b ≡ row) arenas
+found-same : (n : ℕ) (row : Arena) (arenas : List Arena) → IsFound n row arenas → All (λ (b : Arena). has_number n b ≡ true → b ≡ row) arenas
 found-same n row arenas f =
     let P : Arena → Type 0 = λ (b : Arena). has_number n b ≡ true → b ≡ row in
     let other : (b : Arena) → has_number n b ≡ false → P b = λ b unlike like. absurd (both_ways (has_number n b) unlike like) in
-    rw f.split (All-append P f.before (row ∷ f.after) (All-weaker (λ (b : Arena). has_number n b ≡ false) P other f.before f.missing_before)
-    (All-cons P row f.after (λ _. refl) (All-weaker (λ (b : Arena). has_number n b ≡ false) P other f.after f.missing_after)))
+    rw f.split (All-append P (newer row.stamp arenas) (row ∷ (older row.stamp arenas)) (All-weaker (λ (b : Arena). has_number n b ≡ false) P other (newer row.stamp arenas) f.missing_before)
+    (All-cons P row (older row.stamp arenas) (λ _. refl) (All-weaker (λ (b : Arena). has_number n b ≡ false) P other (older row.stamp arenas) f.missing_after)))
 
 All-levels : (P : Arena → Type 0) (arenas : List Arena) (levels : List ℕ) → All P arenas → All P (flat_map (λ level. at_level level arenas) levels)
 All-levels P arenas [] h = All-nil P
@@ -178,11 +178,11 @@ all_to-few n w row (x ∷ xs) few h =
           | inr g ↦ rw g (omega arith)
         ]
 
-pub picked-few : (s : State) (n : ℕ) (row : Arena) → Found n row s.arenas → limit_of s ≡ 0 → alloc s n ≤ request_of row.claim
+picked-few : (s : State) (n : ℕ) (row : Arena) → IsFound n row s.arenas → limit_of s ≡ 0 → allotment_of s n ≤ request_of row.claim
 picked-few s n row f none =
     omega (
       arith,
-      alloc-picked s n none,
+      allotment_of-picked s n none,
       all_to-few n (bound_of s) row (in_order s) (bound-one s none)
           (All-levels (λ (b : Arena). has_number n b ≡ true → b ≡ row) s.arenas (levels_of s) (found-same n row s.arenas f)),
     )
@@ -202,5 +202,40 @@ cap-usable c =
       | inr n ↦ rw (ne_eqb c.slots 1 n) (omega arith)
     ]
 
-pub within : (s : State) (a : Arena) → alloc s a.number ≤ request_of a.claim → IsWithin s a
-within s a few = record { allotted = few; asked = clamp-within a.claim.wanted (cap_of a.claim); usable = cap-usable a.claim }
+-- a level is assigned no more than it asks for
+assigned_to-few : (ds : List ℕ) (m i : ℕ) → get_or (assigned_to ds m) i 0 ≤ get_or ds i 0
+assigned_to-few [] m i = omega arith
+assigned_to-few (d ∷ ds) m zero = omega arith
+assigned_to-few (d ∷ ds) m (suc i) = assigned_to-few ds (m - min d m) i
+
+level-at : (D : ℕ → ℕ) (from n i : ℕ) → i < n → get_or (map D (range_with_len from n)) i 0 ≡ D (from + i)
+level-at D from zero i h = absurd (omega arith)
+level-at D from (suc n) zero h = ap D (omega arith)
+level-at D from (suc n) (suc i) h = level-at D (from + 1) n i (omega arith) ∙ ap D (omega arith)
+
+assigned-few : (s : State) (level : ℕ) → 1 ≤ level → level ≤ s.levels → assigned s level ≤ demand s level
+assigned-few s level low high =
+    let asked : get_or (map (demand s) (levels_of s)) (level - 1) 0 ≡ demand s level = level-at (demand s) 1 s.levels (level - 1) (omega arith) ∙ ap (demand s) (omega arith) in
+    omega (arith, asked, assigned_to-few (map (demand s) (levels_of s)) (bound_of s) (level - 1))
+
+-- the law of shares: none is above its request
+abbrev pub SharesAreFew : Type 0
+SharesAreFew =
+    (given asked : ℕ → ℕ) (before : List Arena) (a : Arena) → given a.level ≤ asked a.level
+    → share_of given asked (carry_after given asked 0 (at_level a.level before)) a ≤ request_of a.claim
+
+pub within : (s : State) (a : Arena) → StandOnce s.arenas → IsLeveled s → SharesAreFew → ((level : ℕ) → carry_after (assigned s) (demand s) 0 (at_level level s.arenas) ≡ 0)
+    → arena_at a.number s.arenas ≡ Some a → IsWithin s a
+within s a stand leveled law whole there =
+    let found = stand.found a.number a there in
+    let level = All-found (λ (b : Arena). (1 ≤ b.level) × (b.level ≤ s.levels)) a.number s.arenas a there leveled in
+    let few : allotment_of s a.number ≤ request_of a.claim = elim (cases_lt 0 (limit_of s)) [
+      | inl some ↦
+          omega (
+            arith,
+            allotment_of-found s a.number a found level some whole,
+            law (assigned s) (demand s) (newer a.stamp s.arenas) a (assigned-few s a.level level.0 level.1),
+          )
+      | inr none ↦ picked-few s a.number a found (omega arith)
+    ] in
+    record { allotted = few; asked = clamp-within a.claim.wanted (cap_of a.claim); usable = cap-usable a.claim }

@@ -1,13 +1,18 @@
+-- How the workers of a market are divided at a moment. Private functions alone cite these words.
 use Rattle.std.specs.Prelude.{◌≡◌, ℕ, ◌-◌, ◌*◌, ◌<◌, ◌≤◌, List, slice_index}
 use Rattle.market_types.specs.State.{State}
 use Rattle.market_types.specs.Allotment.{limit_of, bound_of, assigned, at_level}
-use Rattle.allotment.specs.Levels.{AreDemandsOf, pick_of}
+use Rattle.allotment.specs.Levels.{AreDemandsOf, IsLeveled, pick_of}
+use Rattle.arena_store.specs.Arenas.{StandOnce}
 use Rattle.recall_hire.specs.declared.rows.Staffing.{Staffing}
 use Rattle.recall_hire.specs.Staffed.{rows_among}
 use Rattle.market_core.specs.declared.division.Division.{Division}
 
--- how the workers of a market are divided among its levels; where none may be active, who is served
+-- how the workers of a market are divided among its levels; where none may be active, who is served; and what holds of
+-- the market's arenas
 pub record IsDivisionOf (s : State) (d : Division) : Type 0 where
+  pub once : StandOnce s.arenas
+  pub leveled : IsLeveled s
   pub limit : d.limit ≡ limit_of s
   pub bound : d.bound ≡ bound_of s
   pub demands : AreDemandsOf s d.demands

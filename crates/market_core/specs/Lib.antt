@@ -1,5 +1,3 @@
-pub mod Store
-pub mod Changed
 pub mod Memory
 pub mod Allotted
 pub mod Sound

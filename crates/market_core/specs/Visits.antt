@@ -7,7 +7,7 @@ use Rattle.market_types.specs.declared.reply.Reply.TheVariants.{Opened, Closed, 
 use Rattle.market_types.specs.State.{State}
 use Rattle.market_types.specs.Allotment.{limit_of, in_order}
 use Rattle.recall_hire.specs.Staffed.{rows_of, searches}
-use Rattle.level_list.specs.Bits.{bits}
+use Rattle.arena_store.specs.Bits.{bits}
 
 -- where no worker may be active, so many more, to find the arena whose enqueued work is served
 abbrev pub extra_visits : State → ℕ
@@ -21,9 +21,9 @@ most_visits s = 4 * bits (length s.arenas) + 1 + extra_visits s
 abbrev pub most_listed : State → ℕ
 most_listed s = length s.arenas + extra_visits s
 
--- the most that Join may enter: two ways down a tree for each arena that it looks at, and for each level
+-- the most that Join may enter: each node once, and no more than a way down a tree for each arena that it looks at
 abbrev pub most_joined : State → ℕ
-most_joined s = (searches (rows_of s) + s.levels) * 44 + extra_visits s
+most_joined s = min (length s.arenas) (searches (rows_of s) * (2 * bits (length s.arenas))) + extra_visits s
 
 -- the command lists all arenas
 abbrev pub lists_all : Cmd → Bool
@@ -38,7 +38,7 @@ looks_in_order _ = false
 
 -- where some worker may be active, how many arenas a Join looks at: those that are allotted a worker, until one has too few
 abbrev pub searched : State → ℕ
-searched s = if limit_of s == 0 then 0 else min (searches (rows_of s)) 4294967295
+searched s = if limit_of s == 0 then 0 else searches (rows_of s)
 
 -- the fewest that a command entered which has this reply: one for each row that was put in, taken out or set, one to see
 -- an arena that asks for workers or to place or keep a seat, one for each arena that a Join looked at, and every row for

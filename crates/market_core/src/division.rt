@@ -1,8 +1,10 @@
 //! How workers are divided at a moment.
-ghost use Rattle.std.specs.Prelude.{◌≡◌, ℕ, ◌*◌, ◌≤◌, slice_index, sum, if◌then◌else◌};
+ghost use Rattle.std.specs.Prelude.{◌≡◌, ℕ, ◌-◌, ◌*◌, ◌<◌, ◌≤◌, slice_index, sum, if◌then◌else◌};
 ghost use Rattle.market_types.specs.Allotment.{is_just};
+ghost use Rattle.recall_hire.specs.declared.sharing.Sharing.TheVariants.{Carried, Picked};
 
-use market_types::ArenaId;
+use market_types::{ArenaId, Level};
+use recall_hire::Sharing;
 
 /// What the allotment of each arena follows from.
 #[derive(Clone, Copy, Debug)]
@@ -22,6 +24,25 @@ pub struct Division {
 }
 
 impl Division {
+    /// How the workers of a level are shared out among its arenas.
+    pub fn sharing(&self, level: Level) -> Sharing
+        ensures picked { self.now.limit ≡ 0 → result ≡ Picked self.now.picked self.now.bound }
+        ensures carried { 0 < self.now.limit
+            → result ≡ Carried (slice_index self.now.assigned (level - 1)) (slice_index self.now.demands (level - 1)) }
+    {
+        if self.limit == 0 {
+            return Sharing::Picked {
+                arena: self.picked,
+                workers: self.bound,
+            };
+        }
+        let at = level.index();
+        Sharing::Carried {
+            workers: self.assigned[at],
+            demand: self.demands[at],
+        }
+    }
+
     /// How many workers an arena is allotted where no worker may be active: all that there are, if its enqueued work is
     /// served.
     pub fn picked_workers(&self, arena: ArenaId) -> u32

@@ -1,17 +1,16 @@
 //! The market: arenas that share workers, and what each command of a seat does to them.
 //!
-//! A market answers every command at once and never fails but for want of memory; then it is as it was. What it answers
+//! A market answers every command at once and never fails unless memory runs out; then it is as it was. What it answers
 //! is what its arenas, controls and seats give as they stand, and depends on nothing that went before.
 #![tactic(auto)]
 
 mod calls;
-mod change;
 mod division;
+mod law;
 mod market;
-mod row;
-mod store;
 
 pub use calls::apply_all;
+pub use law::{placed_worker_is_allotted, seats_stay};
 pub use market::Market;
 
 #[cfg(test)]

@@ -1,19 +1,20 @@
 //! The market, and what can be read of it.
-ghost use Rattle.std.specs.Prelude.{◌≡◌, ◌≤◌, ◌<◌, length, IfOk};
-ghost use Rattle.market_types.specs.State.{opening};
+ghost use Rattle.std.specs.Prelude.{◌≡◌, ◌≤◌, ◌<◌, Some, is_some, length, slice_get, IfOk};
+ghost use Rattle.std.specs.List.{count_by};
+ghost use Rattle.market_types.specs.State.{Arena, opening};
 ghost use Rattle.market_types.specs.Opening.{opened_market, MemoryAside};
 ghost use Rattle.market_types.specs.Allotment.{limit_of, bound_of};
-ghost use Rattle.market_core.specs.Allotted.{total_alloc};
-ghost use Rattle.market_types.specs.Step.{limits_of};
+ghost use Rattle.market_types.specs.Step.{arena_at, limits_of};
+ghost use Rattle.market_core.specs.Allotted.{IsWithin, total_allotment};
 
 mod allot;
 mod apply;
 mod order;
 
-use crate::store::Arenas;
-use allotment::bound_is_given_out;
+use allotment::{bound_is_given_out, no_carry_to_keep};
+use arena_store::Arenas;
 use control_set::ControlSet;
-use market_types::{LimitView, OpenFault};
+use market_types::{ArenaId, LimitView, OpenFault, SeatNo};
 use recall_hire::Roster;
 use std::alloc::Global;
 use std::marker::Model;
@@ -45,7 +46,7 @@ impl Model for Market {
 
 impl Market {
     /// A market that nothing has happened to: with a base of 1 to 65,536, else `BadBase`; a hard limit of 1 to 65,535,
-    /// else `BadHard`; 1 to 64 seats, else `BadSeats`; and 1 to 8 levels, else `BadLevels`. Then want of memory is
+    /// else `BadHard`; 1 to 64 seats, else `BadSeats`; and 1 to 8 levels, else `BadLevels`. Running out of memory is then
     /// `Memory`.
     pub fn new(
         alloc: Global,
@@ -120,14 +121,41 @@ impl Market {
         self.levels
     }
 
+    /// How many seats are placed, 0 to 64. It takes no memory.
+    pub fn placed(&self) -> u32
+        ensures exact { result ≡ count_by is_some self.now.seats }
+        ensures high { result ≤ 64 }
+    {
+        self.roster.placed()
+    }
+
+    /// The arena that a seat is placed at, or `None`. The seat is one that the market has. It takes no memory.
+    pub fn arena_of(&self, seat: SeatNo) -> Option<ArenaId>
+        requires seat { seat < length self.now.seats }
+        ensures exact { slice_get self.now.seats seat ≡ Some result }
+    {
+        self.roster.at(seat)
+    }
+
+    /// Each living arena is allotted no more workers than it asks for, asks for no more than it can use, and can use no more
+    /// than its slots: so does an arena that a Show tells. This does nothing: what it ensures holds wherever it is called.
+    #[inline(always)]
+    pub fn arenas_are_within(&self)
+        ensures { (a : Arena) → arena_at a.number self.now.arenas ≡ Some a → IsWithin self.now a }
+    {
+        no_carry_to_keep();
+        self.arenas.stand_once();
+    }
+
     /// How many workers may be active, and why. Where some may be, all arenas together are allotted what they ask for and
     /// may have; where none may be, one at most.
     pub fn limits(&self) -> LimitView
         ensures exact { result ≡ limits_of self.now }
-        ensures given_out { 0 < limit_of self.now → total_alloc self.now ≡ bound_of self.now }
-        ensures one_at_most { limit_of self.now ≡ 0 → total_alloc self.now ≤ 1 }
+        ensures given_out { 0 < limit_of self.now → total_allotment self.now ≡ bound_of self.now }
+        ensures one_at_most { limit_of self.now ≡ 0 → total_allotment self.now ≤ 1 }
     {
         bound_is_given_out();
+        self.arenas.stand_once();
         let enqueued = self.arenas.has_mandatory();
         let limit = self.limit();
         let effective = if limit > 0 {

@@ -3,6 +3,8 @@ use crate::{Market, apply_all};
 use market_types::{ArenaId, Call, Cmd, Fault, Level, LimitView, OpenFault, Reply, SeatNo};
 use std::rt::HostRuntime;
 
+mod growth;
+
 /// What the first three arenas are allotted.
 fn allots(market: &Market) -> [u32; 3] {
     let mut allots = [0; 3];
@@ -47,6 +49,30 @@ fn three_arenas_share_seven(rt: HostRuntime) {
     }
     assert!(&rt; allots(&market) == [3, 2, 2]);
     assert!(&rt; assigned(&market) == [0, 7, 0, 0, 0, 0, 0, 0]);
+}
+
+#[test]
+fn a_seat_is_placed_and_leaves(rt: HostRuntime) {
+    let alloc = rt.alloc();
+    let Ok(mut market) = Market::new(alloc, 8, 64, 4, 3) else {
+        panic!(&rt; "no market");
+    };
+    let seat = SeatNo::new(3);
+    let arena = ArenaId::new(1);
+    let wanted = [
+        (Cmd::Open(8, 1, Level::from_index(1)), 0, None),
+        (Cmd::Request(arena, 2, 0), 0, None),
+        (Cmd::Join, 1, Some(arena)),
+        (Cmd::Stay, 1, Some(arena)),
+        (Cmd::Leave, 0, None),
+    ];
+    for (cmd, placed, at) in wanted {
+        assert!(&rt; market.seats() == 4);
+        assert!(&rt; market.apply(alloc, seat, cmd).is_ok());
+        assert!(&rt; market.placed() == placed);
+        assert!(&rt; market.seats() == 4);
+        assert!(&rt; market.arena_of(seat) == at);
+    }
 }
 
 #[test]

@@ -1,11 +1,13 @@
--- Why a run stops, where a market was not opened.
+-- Why a run stops, where a market was not opened, or its lines were not taken.
 use Rattle.std.specs.Prelude.{◌≡◌}
 use Rattle.market_types.specs.declared.reply.OpenFault.{OpenFault}
 use Rattle.market_types.specs.declared.reply.OpenFault.TheVariants.{BadBase, BadHard, BadSeats, BadPlaces, BadLevels, Memory as NoMemory}
 use Rattle.market_prog.specs.declared.fault.RunFault.{RunFault}
-use Rattle.market_prog.specs.declared.fault.RunFault.TheVariants.{Open, Memory}
+use Rattle.market_prog.specs.declared.fault.RunFault.TheVariants.{Open, Read, TooLong, Write, Memory}
+use Rattle.line_engine.specs.declared.fault.InputFault.{InputFault}
+use Rattle.line_engine.specs.declared.fault.InputFault.TheVariants.{Read as ReadFault, TooLong as LongInput, Write as WriteFault, Memory as InputMemory, Taker}
 
--- an opening's fault as a run's: want of memory is the same in both
+-- an opening's fault as a run's: running out of memory is the same in both
 abbrev pub run_fault_of : OpenFault → RunFault
 run_fault_of NoMemory = Memory
 run_fault_of BadBase = Open BadBase
@@ -16,3 +18,11 @@ run_fault_of BadLevels = Open BadLevels
 
 abbrev pub IsRunFaultOf : OpenFault → RunFault → Type 0
 IsRunFaultOf fault stop = stop ≡ run_fault_of fault
+
+-- a fault of the lines' input as a run's: a line is not taken where memory is wanting
+abbrev pub run_fault_of_input : {F : Type 0} → InputFault F → RunFault
+run_fault_of_input ReadFault = Read
+run_fault_of_input LongInput = TooLong
+run_fault_of_input WriteFault = Write
+run_fault_of_input InputMemory = Memory
+run_fault_of_input (Taker fault) = Memory

@@ -1,9 +1,7 @@
 pub mod Words
 pub mod Passed
 pub mod Command
-pub mod Ended
 pub mod Faults
-pub mod Pieces
 pub mod Run
 pub mod Sessions
 pub mod Status

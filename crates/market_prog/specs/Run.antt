@@ -3,14 +3,11 @@ use Rattle.std.specs.Prelude.{◌≡◌, ℕ, ◌<◌, ◌≤◌, List, length, 
 use Rattle.std.specs.Io.KnownBytes.{Consumes, Appends}
 use Rattle.market_types.specs.State.{State}
 use Rattle.market_types.specs.Script.{told, told_lines}
-use Rattle.market_types.specs.Devices.{WritesFront}
-use Rattle.market_prog.specs.Ended.{ended_lines}
+use Rattle.byte_devices.specs.Devices.{WritesFront}
+use Rattle.line_engine.specs.Lines.{ended_lines}
+use Rattle.line_engine.specs.Input.{longest_input}
 use Rattle.market_prog.specs.declared.fault.RunFault.{RunFault}
 use Rattle.market_prog.specs.declared.fault.RunFault.TheVariants.{Open, Read, TooLong, Write, Memory, HistoryFull}
-
--- the most bytes that a run reads
-abbrev pub longest_input : ℕ
-longest_input = 268435456
 
 -- The script was read, all replies to it were written, and `unread` of its lines were unread.
 pub record Answers (start : State) (left left' taken taken' : Option (List ℕ)) (unread : ℕ) : Type 0 where
@@ -22,10 +19,10 @@ pub record Answers (start : State) (left left' taken taken' : Option (List ℕ))
 
 -- why a run stopped after its opening, by the bytes that it read and by whether its source and its sink have failed
 abbrev pub CauseOf : RunFault → List ℕ → Bool → Bool → Type 0
-CauseOf Read script source_failed sink_failed = (source_failed ≡ true) × (sink_failed ≡ false)
-CauseOf Write script source_failed sink_failed = (source_failed ≡ false) × (sink_failed ≡ true)
+CauseOf Read script source_failed sink_failed = (length script ≤ longest_input) × (source_failed ≡ true) × (sink_failed ≡ false)
+CauseOf Write script source_failed sink_failed = (length script ≤ longest_input) × (source_failed ≡ false) × (sink_failed ≡ true)
 CauseOf TooLong script source_failed sink_failed = (longest_input < length script) × (source_failed ≡ false) × (sink_failed ≡ false)
-CauseOf Memory script source_failed sink_failed = (source_failed ≡ false) × (sink_failed ≡ false)
+CauseOf Memory script source_failed sink_failed = (length script ≤ longest_input) × (source_failed ≡ false) × (sink_failed ≡ false)
 CauseOf (Open fault) script source_failed sink_failed = ⊥
 CauseOf HistoryFull script source_failed sink_failed = ⊥
 

@@ -26,10 +26,10 @@ run_app = with_rule (with_rule (with_rule (with_rule (new_app (codes "run"))
     (number_rule (codes "seats") (codes "4") 64))
     (number_rule (codes "levels") (codes "3") 8)
 
--- a command that is nothing without a subcommand
+-- a command that tells its version, and is nothing without a subcommand
 abbrev pub with_choice_asked : App → App
 with_choice_asked a =
-    record a { top = record a.top { arg_required_else_help = true; subcommand_required = true } }
+    record a { top = record a.top { has_version = true; arg_required_else_help = true; subcommand_required = true } }
 
 -- the program's command
 abbrev pub market_app : App

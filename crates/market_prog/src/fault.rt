@@ -3,14 +3,15 @@ ghost use Rattle.std.specs.Prelude.{◌≡◌};
 ghost use Rattle.market_types.specs.Texts.{open_fault_text};
 ghost use Rattle.market_prog.specs.Status.{status_of};
 
-use market_types::{OpenFault, WriteFault, open_fault_text};
+use line_engine::InputFault;
+use market_types::{OpenFault, open_fault_text};
 use std::alloc::AllocError;
 use thiserror::Error;
 
 /// Why a run stopped. Its text is what the program tells on standard error.
 #[derive(Clone, Copy, Debug, PartialEq, Eq, Error)]
 pub enum RunFault {
-    /// The market was not opened: one of its numbers is out of range. Want of memory is `Memory`.
+    /// The market was not opened: one of its numbers is out of range. Running out of memory is `Memory`.
     #[error("{}", text_of(.0))]
     Open(OpenFault),
     /// A read failed.
@@ -37,25 +38,19 @@ fn text_of(fault: &OpenFault) -> &'static str
     open_fault_text(*fault)
 }
 
-impl From<AllocError> for RunFault {
+impl From<InputFault<AllocError>> for RunFault {
     ghost use Rattle.std.specs.Prelude.{◌≡◌};
-    ghost use Rattle.market_prog.specs.declared.fault.RunFault.TheVariants.{Memory};
+    ghost use Rattle.market_prog.specs.Faults.{run_fault_of_input};
 
-    ghost from_gives = { λ _ fault. fault ≡ Memory };
+    ghost from_gives = { λ fault stop. stop ≡ run_fault_of_input fault };
 
-    fn from(_error: AllocError) -> RunFault {
-        RunFault::Memory
-    }
-}
-
-impl From<WriteFault> for RunFault {
-    ghost use Rattle.std.specs.Prelude.{◌≡◌};
-    ghost use Rattle.market_prog.specs.declared.fault.RunFault.TheVariants.{Write};
-
-    ghost from_gives = { λ _ fault. fault ≡ Write };
-
-    fn from(_fault: WriteFault) -> RunFault {
-        RunFault::Write
+    fn from(fault: InputFault<AllocError>) -> RunFault {
+        match fault {
+            InputFault::Read => RunFault::Read,
+            InputFault::TooLong => RunFault::TooLong,
+            InputFault::Write => RunFault::Write,
+            InputFault::Memory | InputFault::Taker(_) => RunFault::Memory,
+        }
     }
 }
 

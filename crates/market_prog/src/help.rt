@@ -11,7 +11,7 @@ Example:
   request 3
 
 Exit status:
-  0  done, or help was asked for
+  0  done, or help or the version was asked for
   1  a line was unread
   2  a bad command line, or a fault at opening
   3  a read, write, memory or length fault; its text is on standard error";

@@ -4,7 +4,6 @@
 mod engine;
 mod fault;
 mod help;
-mod lines;
 mod session;
 mod words;
 

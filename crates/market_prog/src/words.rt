@@ -9,6 +9,9 @@ use crate::help;
 use clap::{Arg, ArgAction, ArgMatches, Command, Error};
 use std::alloc::{AllocError, Global};
 
+/// What `market --version` tells.
+const VERSION: &str = "0.1.0";
+
 /// A subcommand with its options.
 #[derive(Clone, Copy, Debug, PartialEq, Eq)]
 pub enum Choice {
@@ -118,6 +121,7 @@ fn market_command<'a>(alloc: Global) -> Result<Command<'a>, AllocError>
         .about(
             "The worker market of a task runtime: who gets how many workers, by priority and demand",
         )
+        .version(VERSION)
         .after_help(help::OF_MARKET)
         .arg_required_else_help(true)
         .subcommand_required(true)
@@ -150,7 +154,7 @@ fn choice_of(name: &str, matches: &ArgMatches<'_>) -> Choice
 
 /// What the words of a command line choose. The first word is the program's name.
 ///
-/// An error is clap's: help that was asked for, the first mistake in the words, or want of memory. Its `print` writes
+/// An error is clap's: help that was asked for, the first mistake in the words, or running out of memory. Its `print` writes
 /// the text, and its `exit_code` is 0 for help and else 2.
 pub fn read_words<'a>(alloc: Global, words: &'a [&'a str]) -> Result<Choice, Error>
     ensures choice { IfOk result (Chooses (map (λ s. s.now) words.entry.now)) }

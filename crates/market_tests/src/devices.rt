@@ -1,8 +1,9 @@
 //! Devices that fail, give their bytes in pieces, or never end; and what is asked before any byte is read.
 ghost use Rattle.std.specs.Prelude.{◌≡◌, false};
 
+use byte_devices::{DeviceFault, Refusal, Source, TestSink, TestSource};
 use market_prog::{RunFault, run_script};
-use market_types::{DeviceFault, OpenFault, Refusal, Source, TestSink, TestSource};
+use market_types::OpenFault;
 use std::alloc::Global;
 use std::process::Abort;
 use std::rt::HostRuntime;
@@ -21,24 +22,59 @@ fn new_sink(rt: &impl Abort, alloc: Global) -> TestSink
     TestSink::new(memory)
 }
 
-#[test]
-fn what_went_out_before_a_write_fault_is_a_prefix(rt: HostRuntime) {
-    for refusal in [Refusal::Fault, Refusal::NoneTaken] {
-        let mut source = TestSource::new(HIRED);
-        let mut sink = new_sink(&rt, rt.alloc()).refusing_after(10, refusal);
-        let told = run_script(rt.alloc(), 8, 64, 4, 3, &mut source, &mut sink);
-        assert!(&rt; told == Err(RunFault::Write));
-        assert!(&rt; sink.taken() == b"arena 1\nre".as_slice());
+/// The replies to the lines that end within the first bytes of the script.
+fn replies_due(bytes: usize) -> &'static [u8] {
+    match bytes {
+        0..18 => b"",
+        18..34 => b"arena 1\n",
+        34..43 => b"arena 1\nrequest 3\n",
+        _ => HIRED_REPLIES,
     }
 }
 
 #[test]
-fn a_read_fault_comes_after_the_replies_that_were_due(rt: HostRuntime) {
-    let mut source = TestSource::new(HIRED).in_pieces_of(20).failing_after(1);
-    let mut sink = new_sink(&rt, rt.alloc());
-    let told = run_script(rt.alloc(), 8, 64, 4, 3, &mut source, &mut sink);
-    assert!(&rt; told == Err(RunFault::Read));
-    assert!(&rt; sink.taken() == b"arena 1\n".as_slice());
+fn each_read_fails_in_turn(rt: HostRuntime) {
+    for size in [1, 7, 20, 43] {
+        // The script takes so many reads, and one that finds its end.
+        let reads = HIRED.len().div_ceil(size) + 1;
+        for good in 0..=reads {
+            let mut source = TestSource::new(HIRED)
+                .in_pieces_of(size)
+                .failing_after(good as u64);
+            let mut sink = new_sink(&rt, rt.alloc());
+            let told = run_script(rt.alloc(), 8, 64, 4, 3, &mut source, &mut sink);
+            let wanted = if good < reads {
+                Err(RunFault::Read)
+            } else {
+                Ok(0)
+            };
+            assert!(&rt; told == wanted, "{good} reads of {size} bytes");
+            assert!(&rt; sink.taken() == replies_due(good * size));
+        }
+    }
+}
+
+#[test]
+fn each_write_fails_in_turn(rt: HostRuntime) {
+    for refusal in [Refusal::Fault, Refusal::NoneTaken] {
+        for size in [1, 7, 100] {
+            for room in 0..=HIRED_REPLIES.len() {
+                let mut source = TestSource::new(HIRED);
+                let mut sink = new_sink(&rt, rt.alloc())
+                    .in_pieces_of(size)
+                    .refusing_after(room, refusal);
+                let told = run_script(rt.alloc(), 8, 64, 4, 3, &mut source, &mut sink);
+                let is_whole = room == HIRED_REPLIES.len();
+                let wanted = if is_whole {
+                    Ok(0)
+                } else {
+                    Err(RunFault::Write)
+                };
+                assert!(&rt; told == wanted, "room for {room} bytes");
+                assert!(&rt; sink.taken() == &HIRED_REPLIES[..room]);
+            }
+        }
+    }
 }
 
 #[test]

@@ -2,7 +2,7 @@
 ghost use Rattle.std.specs.Prelude.{◌≡◌, ◌<◌, length, IsTrue};
 
 use market_core::{Market, apply_all};
-use market_types::{ArenaId, Call, Cmd, Fault, Level, OpenFault, Reply, SeatNo};
+use market_types::{ArenaId, Call, Cmd, ControlId, Fault, Level, OpenFault, Reply, SeatNo};
 use std::alloc::Global;
 use std::process::Abort;
 use std::rt::HostRuntime;
@@ -150,6 +150,51 @@ fn stamps_run_out(rt: HostRuntime) {
     }
     let refused = answer(&rt, rt.alloc(), &mut market, priority);
     assert!(&rt; matches!(refused, Reply::Refused(Fault::OutOfNumbers)));
+}
+
+#[test]
+fn control_numbers_run_out(rt: HostRuntime) {
+    let Ok(mut market) = Market::new(rt.alloc(), 8, 64, 4, 3) else {
+        panic!(&rt; "no market");
+    };
+    for number in 1..1_048_577 {
+        let made = answer(&rt, rt.alloc(), &mut market, Cmd::Control(5));
+        assert!(&rt; matches!(made, Reply::Controlled(control) if control.get() == number));
+        let gone = Cmd::Uncontrol(ControlId::new(number));
+        let removed = answer(&rt, rt.alloc(), &mut market, gone);
+        assert!(&rt; matches!(removed, Reply::Uncontrolled));
+    }
+    let refused = answer(&rt, rt.alloc(), &mut market, Cmd::Control(5));
+    assert!(&rt; matches!(refused, Reply::Refused(Fault::OutOfNumbers)));
+}
+
+/// Where each of 1,024 arenas is hired for, Lists names all of them, and then the 64 that have a worker too many: no market can
+/// have more of either.
+#[test]
+fn a_thousand_arenas_are_listed(rt: HostRuntime) {
+    let Ok(mut market) = Market::new(rt.alloc(), 65536, 65535, 64, 3) else {
+        panic!(&rt; "no market");
+    };
+    let normal = level(&rt, 2);
+    for number in 1..1025 {
+        let _ = answer(&rt, rt.alloc(), &mut market, Cmd::Open(8, 1, normal));
+        let request = Cmd::Request(ArenaId::new(number), 1, 0);
+        let asked = answer(&rt, rt.alloc(), &mut market, request);
+        assert!(&rt; matches!(asked, Reply::Requested(1)));
+    }
+    let lists = answer(&rt, rt.alloc(), &mut market, Cmd::Lists);
+    assert!(&rt; matches!(&lists, Reply::Listed(lists) if lists.hires.len() == 1024));
+    for joining in 0..64_u8 {
+        assert!(&rt; joining < market.seats());
+        let seat = SeatNo::new(joining);
+        let Ok(reply) = market.apply(rt.alloc(), seat, Cmd::Join) else {
+            panic!(&rt; "no memory");
+        };
+        assert!(&rt; matches!(reply, Reply::Placed(_)));
+    }
+    let _ = answer(&rt, rt.alloc(), &mut market, Cmd::Control(1));
+    let lists = answer(&rt, rt.alloc(), &mut market, Cmd::Lists);
+    assert!(&rt; matches!(&lists, Reply::Listed(lists) if lists.recalls.len() == 64));
 }
 
 #[test]

@@ -15,7 +15,7 @@ use Rattle.market_types.specs.declared.command.Cmd.{Cmd}
 use Rattle.market_types.specs.declared.command.Cmd.TheVariants.{Open, Close, Priority, Resize, Request, Control as ControlBy, Uncontrol, Join, Stay, Leave, Show, Lists, Limit}
 use Rattle.market_types.specs.Commands.{is_zero}
 use Rattle.market_types.specs.Texts.{cmd_text}
-use Rattle.market_types.specs.Reading.{is_space, command_of, number, signed, level, in_levels, middle_level, level_spellings, if_allowed, spellings, Fits, FitsLevel, alone, of_number, open_of, open_reserved, open_level, priority_of, priority_level, resize_of, resize_slots, request_of, request_workers, request_mandatory}
+use Rattle.market_types.specs.Reading.{is_space, command_of, number, signed, level, in_levels, middle_level, level_spellings, if_allowed, spellings, Fits, FitsLevel, alone, of_number, open_reading, open_reserved, open_level, priority_reading, priority_level, resize_reading, resize_slots, request_reading, request_workers, request_mandatory}
 use Rattle.market_types.proofs.Decimals.{number_only, signed_only}
 use Rattle.market_types.proofs.Levels.{SpellsLevel, level_only, in_levels_only, chosen, text_is, contains_first}
 
@@ -108,7 +108,7 @@ open_reserved_spelled levels slots (field ∷ more) cmd h read =
     number_then (λ t. Spelled levels cmd (codes "open" ++ spaced (decimal slots ∷ t ∷ more))) (λ reserved. open_level levels slots reserved more) field cmd read (λ reserved k g.
     open_level_spelled levels slots reserved more cmd h k g)
 
-open_spelled : (levels : ℕ) (fields : List (List ℕ)) (cmd : Cmd) → open_of levels fields ≡ Some cmd → Spelled levels cmd (codes "open" ++ spaced fields)
+open_spelled : (levels : ℕ) (fields : List (List ℕ)) (cmd : Cmd) → open_reading levels fields ≡ Some cmd → Spelled levels cmd (codes "open" ++ spaced fields)
 open_spelled levels [] cmd read = absurd (cc)
 open_spelled levels (field ∷ more) cmd read =
     number_then (λ t. Spelled levels cmd (codes "open" ++ spaced (t ∷ more))) (λ slots. open_reserved levels slots more) field cmd read (λ slots h g.
@@ -130,7 +130,7 @@ priority_level_spelled levels arena (field ∷ more) cmd h read =
     alone_then (λ c fields. Spelled levels c (codes "priority" ++ spaced (decimal arena ∷ field ∷ fields))) (Priority arena l) more cmd g
     ((h, s.0), map_contains (λ text. codes "priority " ++ (decimal arena ++ (codes " " ++ text))) (level_spellings levels l) field s.1))
 
-priority_spelled : (levels : ℕ) (fields : List (List ℕ)) (cmd : Cmd) → priority_of levels fields ≡ Some cmd → Spelled levels cmd (codes "priority" ++ spaced fields)
+priority_spelled : (levels : ℕ) (fields : List (List ℕ)) (cmd : Cmd) → priority_reading levels fields ≡ Some cmd → Spelled levels cmd (codes "priority" ++ spaced fields)
 priority_spelled levels [] cmd read = absurd (cc)
 priority_spelled levels (field ∷ more) cmd read =
     number_then (λ t. Spelled levels cmd (codes "priority" ++ spaced (t ∷ more))) (λ arena. priority_level levels arena more) field cmd read (λ arena h g.
@@ -142,7 +142,7 @@ resize_slots_spelled levels arena (field ∷ more) cmd h read =
     number_then (λ t. Spelled levels cmd (codes "resize" ++ spaced (decimal arena ∷ t ∷ more))) (λ slots. of_number (Resize arena slots) more) field cmd read (λ slots k g.
     number_spelled levels (Resize arena slots) (λ fields. codes "resize" ++ spaced (decimal arena ∷ decimal slots ∷ fields)) more cmd (λ reserved j. ((h, k, j), contains_first _ [])) g)
 
-resize_spelled : (levels : ℕ) (fields : List (List ℕ)) (cmd : Cmd) → resize_of fields ≡ Some cmd → Spelled levels cmd (codes "resize" ++ spaced fields)
+resize_spelled : (levels : ℕ) (fields : List (List ℕ)) (cmd : Cmd) → resize_reading fields ≡ Some cmd → Spelled levels cmd (codes "resize" ++ spaced fields)
 resize_spelled levels [] cmd read = absurd (cc)
 resize_spelled levels (field ∷ more) cmd read =
     number_then (λ t. Spelled levels cmd (codes "resize" ++ spaced (t ∷ more))) (λ arena. resize_slots arena more) field cmd read (λ arena h g.
@@ -168,7 +168,7 @@ workers_spelled levels arena (field ∷ more) cmd h read =
     signed_then (λ t. Spelled levels cmd (codes "request" ++ spaced (decimal arena ∷ t ∷ more))) (λ workers. request_mandatory arena workers more) field cmd read (λ workers k g.
     mandatory_spelled levels arena workers more cmd h k g)
 
-request_spelled : (levels : ℕ) (fields : List (List ℕ)) (cmd : Cmd) → request_of fields ≡ Some cmd → Spelled levels cmd (codes "request" ++ spaced fields)
+request_spelled : (levels : ℕ) (fields : List (List ℕ)) (cmd : Cmd) → request_reading fields ≡ Some cmd → Spelled levels cmd (codes "request" ++ spaced fields)
 request_spelled levels [] cmd read = absurd (cc)
 request_spelled levels (field ∷ more) cmd read =
     number_then (λ t. Spelled levels cmd (codes "request" ++ spaced (t ∷ more))) (λ arena. request_workers arena more) field cmd read (λ arena h g.

@@ -1,4 +1,5 @@
--- How workers are divided among arenas: oneTBB's `update_allotment`, said over plain lists.
+-- How workers are divided among arenas, in the manner of oneTBB's market. A definition that restates the oneTBB specification
+-- names its section; all others are our own, among them the order, the carries, and that enqueued work is a mandatory count.
 use Rattle.std.specs.Prelude.{ℕ, ◌+◌, ◌-◌, ◌*◌, ◌/◌, ◌%◌, min, Bool, false, ◌&&◌, nat_lt, ◌==◌, if◌then◌else◌, List, [], ◌∷◌, map, Option, Some, None, unwrap_or, slice_index}
 use Rattle.std.specs.List.{filter, flat_map, sum_by, count_by, fold, find, list_any, position_from, range_with_len, reduce}
 use Rattle.market_types.specs.State.{Claim, Arena, Control, State}
@@ -6,7 +7,7 @@ use Rattle.market_types.specs.Claims.{request_of, is_mandated}
 
 -- ---- the limit
 
--- the least control value, or `base` where there is none (oneTBB's global_control: of several living limits the least counts)
+-- the least control value (global_control: of several living limits the least counts), or `base` where there is none (own)
 abbrev pub active_value : ℕ → List Control → ℕ
 active_value base controls = unwrap_or (reduce min (map (λ (c : Control). c.value) controls)) base
 
@@ -14,11 +15,11 @@ active_value base controls = unwrap_or (reduce min (map (λ (c : Control). c.val
 abbrev pub limit_of : State → ℕ
 limit_of s = min (active_value s.base s.controls - 1) s.hard
 
--- some arena has enqueued work
+-- some arena has enqueued work: a mandatory count above 0 (own)
 abbrev pub has_mandatory : List Arena → Bool
 has_mandatory arenas = list_any (λ (a : Arena). nat_lt 0 a.claim.mandatory) arenas
 
--- the limit; where it is 0, one worker for enqueued work (global_control: with a limit of 1 a worker still runs for it)
+-- the limit; where it is 0, one worker for enqueued work (global_control: with a value of 1 a worker still runs for it)
 abbrev pub effective_limit_of : State → ℕ
 effective_limit_of s = if nat_lt 0 (limit_of s) then limit_of s else if has_mandatory s.arenas then 1 else 0
 
@@ -96,8 +97,8 @@ count_at a [] = 0
 count_at a (e ∷ es) = if e.0 == a then e.1 else count_at a es
 
 -- how many workers an arena is allotted
-abbrev pub alloc : State → ℕ → ℕ
-alloc s a =
+abbrev pub allotment_of : State → ℕ → ℕ
+allotment_of s a =
     if nat_lt 0 (limit_of s)
     then count_at a (carried (assigned s) (demand s) 0 (in_order s))
     else all_to (mandatory_pick s) (bound_of s) a
@@ -127,11 +128,11 @@ active s a = count_by (is_just a) s.seats
 
 -- how many workers it has too many
 abbrev pub recall : State → ℕ → ℕ
-recall s a = active s a - alloc s a
+recall s a = active s a - allotment_of s a
 
 -- how many more it is allotted
 abbrev pub hire : State → ℕ → ℕ
-hire s a = alloc s a - active s a
+hire s a = allotment_of s a - active s a
 
 -- the first arena in order that is allotted more workers than it has
 abbrev pub need : State → Option Arena

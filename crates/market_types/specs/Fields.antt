@@ -1,4 +1,5 @@
--- What the reader's inner functions answer: the fields that are left, and a number after one more digit.
+-- What the reader's inner functions answer: the fields that are left, and a number after one more digit. No public clause
+-- has these words.
 use Rattle.std.specs.Prelude.{ℕ, ◌+◌, ◌*◌, ◌^◌, List, [], ◌&&◌, nat_lt, if◌then◌else◌, Option, Some, None}
 use Rattle.std.specs.Borrow.{Bor}
 use Rattle.std.specs.Char.{is_ascii_digit, digit_value}

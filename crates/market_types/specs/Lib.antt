@@ -1,5 +1,6 @@
 pub mod Commands
 pub mod Counts
+pub mod Replies
 pub mod State
 pub mod Claims
 pub mod Allotment
@@ -11,5 +12,3 @@ pub mod Reading
 pub mod Fields
 pub mod Written
 pub mod Script
-pub mod Devices
-pub mod TestDevices

@@ -13,6 +13,6 @@ opened_market base hard seats levels =
     else if levels == 0 || nat_lt 8 levels then Err BadLevels
     else Ok (opening base hard seats levels)
 
--- the answer is the one that is due, or want of memory where a market is due
-abbrev pub MemoryAside : Result State OpenFault → Result State OpenFault → Type 0
+-- the answer is the one that is due, or out of memory where no fault is due
+abbrev pub MemoryAside : {A : Type 0} → Result A OpenFault → Result A OpenFault → Type 0
 MemoryAside due answer = (answer ≡ due) ⊎ (IsOk due × (answer ≡ Err Memory))

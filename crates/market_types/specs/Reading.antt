@@ -128,9 +128,9 @@ open_reserved levels slots [] = option_map (λ l. Open slots 1 l) (in_levels (mi
 open_reserved levels slots (field ∷ more) = option_and_then (λ reserved. open_level levels slots reserved more) (number field)
 
 -- open: slots first
-abbrev pub open_of : ℕ → List (List ℕ) → Option Cmd
-open_of levels [] = None
-open_of levels (field ∷ more) = option_and_then (λ slots. open_reserved levels slots more) (number field)
+abbrev pub open_reading : ℕ → List (List ℕ) → Option Cmd
+open_reading levels [] = None
+open_reading levels (field ∷ more) = option_and_then (λ slots. open_reserved levels slots more) (number field)
 
 -- priority, after the arena: the level
 abbrev pub priority_level : ℕ → ℕ → List (List ℕ) → Option Cmd
@@ -138,9 +138,9 @@ priority_level levels arena [] = None
 priority_level levels arena (field ∷ more) = option_and_then (λ l. alone (Priority arena l) more) (level levels field)
 
 -- priority: the arena first
-abbrev pub priority_of : ℕ → List (List ℕ) → Option Cmd
-priority_of levels [] = None
-priority_of levels (field ∷ more) = option_and_then (λ arena. priority_level levels arena more) (number field)
+abbrev pub priority_reading : ℕ → List (List ℕ) → Option Cmd
+priority_reading levels [] = None
+priority_reading levels (field ∷ more) = option_and_then (λ arena. priority_level levels arena more) (number field)
 
 -- resize, after the arena: slots and reserved slots
 abbrev pub resize_slots : ℕ → List (List ℕ) → Option Cmd
@@ -148,9 +148,9 @@ resize_slots arena [] = None
 resize_slots arena (field ∷ more) = option_and_then (λ slots. of_number (Resize arena slots) more) (number field)
 
 -- resize: the arena first
-abbrev pub resize_of : List (List ℕ) → Option Cmd
-resize_of [] = None
-resize_of (field ∷ more) = option_and_then (λ arena. resize_slots arena more) (number field)
+abbrev pub resize_reading : List (List ℕ) → Option Cmd
+resize_reading [] = None
+resize_reading (field ∷ more) = option_and_then (λ arena. resize_slots arena more) (number field)
 
 -- request, after arena and workers: the mandatory count, or 0 where the text ends
 abbrev pub request_mandatory : ℕ → ℤ → List (List ℕ) → Option Cmd
@@ -164,19 +164,19 @@ request_workers arena [] = None
 request_workers arena (field ∷ more) = option_and_then (λ workers. request_mandatory arena workers more) (signed field)
 
 -- request: the arena first
-abbrev pub request_of : List (List ℕ) → Option Cmd
-request_of [] = None
-request_of (field ∷ more) = option_and_then (λ arena. request_workers arena more) (number field)
+abbrev pub request_reading : List (List ℕ) → Option Cmd
+request_reading [] = None
+request_reading (field ∷ more) = option_and_then (λ arena. request_workers arena more) (number field)
 
 -- a command by its word and the fields after it
 unfoldable pub command_of : ℕ → List (List ℕ) → Option Cmd
 command_of levels [] = None
 command_of levels (word ∷ more) =
-    if bytes_eq word (codes "open") then open_of levels more
+    if bytes_eq word (codes "open") then open_reading levels more
     else if bytes_eq word (codes "close") then of_number Close more
-    else if bytes_eq word (codes "priority") then priority_of levels more
-    else if bytes_eq word (codes "resize") then resize_of more
-    else if bytes_eq word (codes "request") then request_of more
+    else if bytes_eq word (codes "priority") then priority_reading levels more
+    else if bytes_eq word (codes "resize") then resize_reading more
+    else if bytes_eq word (codes "request") then request_reading more
     else if bytes_eq word (codes "control") then of_number ControlBy more
     else if bytes_eq word (codes "uncontrol") then of_number Uncontrol more
     else if bytes_eq word (codes "join") then alone Join more

@@ -12,7 +12,7 @@ use Rattle.market_types.specs.declared.reply.Reply.TheVariants.{Opened, Closed, 
 use Rattle.market_types.specs.Counts.{Counts}
 use Rattle.market_types.specs.Claims.{new_claim, with_slots, added_claim, request_of}
 use Rattle.market_types.specs.State.{Claim, Arena, Control, State}
-use Rattle.market_types.specs.Allotment.{active_value, limit_of, effective_limit_of, in_order, alloc, is_top, active, recall, hire, need}
+use Rattle.market_types.specs.Allotment.{active_value, limit_of, effective_limit_of, in_order, allotment_of, is_top, active, recall, hire, need}
 
 -- a reply, and the market after it
 abbrev pub Outcome : Type 0
@@ -164,7 +164,7 @@ view_of s arena =
     record {
       arena = arena.number;
       request = request_of arena.claim;
-      allot = alloc s arena.number;
+      allot = allotment_of s arena.number;
       top = is_top s arena;
       active = active s arena.number;
       recall = recall s arena.number;

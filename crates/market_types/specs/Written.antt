@@ -1,4 +1,4 @@
--- What the writer's inner functions answer.
+-- What the writer's inner functions answer. No public clause has these words.
 use Rattle.std.specs.Prelude.{◌≡◌, ℕ, List, [], ◌∷◌, ◌++◌, IsUtf8, codes, decimal}
 use Rattle.market_types.specs.declared.reply.ArenaView.{ArenaView}
 use Rattle.market_types.specs.Texts.{count_text}

@@ -23,9 +23,6 @@ impl Model for Level {
 }
 
 impl Level {
-    /// The most levels that a market can have.
-    pub const MOST: u32 = 8;
-
     /// The level of this number, where it is 1 to 8.
     pub const fn new(number: u32) -> Option<Level>
         ensures some { IsSome result ↔ ((1 ≤ number) × (number ≤ 8)) }
@@ -41,7 +38,7 @@ impl Level {
     }
 
     /// The level of this index, 0 to 7, in the order in which levels are served.
-    pub const fn at(index: usize) -> Level
+    pub const fn from_index(index: usize) -> Level
         requires { index < 8 }
         ensures { result ≡ index + 1 }
     {

@@ -1,5 +1,5 @@
 //! The words that every crate of the market speaks: the numbers of arenas, controls and seats, levels, commands and
-//! replies; their texts, read and written; and the devices that bytes come from and go to.
+//! replies; and their texts, read and written.
 //!
 //! `specs/` says what the market is: its state (`State`), one arena (`Claims`), who is allotted how many workers
 //! (`Allotment`), what each command does (`Step`), lists of commands (`History`), and the bytes (`Reading`, `Texts`,
@@ -7,7 +7,6 @@
 #![tactic(auto)]
 
 mod command;
-mod device;
 mod field;
 mod level;
 mod number;
@@ -15,18 +14,13 @@ mod reading;
 mod reply;
 mod row;
 mod spelling;
-mod std_device;
-mod test_device;
 mod writing;
 
 pub use command::{Call, Cmd};
-pub use device::{DeviceFault, Sink, Source, WriteFault, put_all};
 pub use level::Level;
 pub use number::{ArenaId, ControlId, SeatNo};
 pub use reading::{read_cmd, read_line};
 pub use reply::{ArenaView, Entry, Fault, LimitView, Lists, OpenFault, Reply};
 pub use row::Row;
 pub use spelling::{lines_spell_calls, texts_spell_commands};
-pub use std_device::{ReadSource, WriteSink};
-pub use test_device::{Refusal, TestSink, TestSource};
 pub use writing::{cmd_text, open_fault_text, push_reply, reply_text};

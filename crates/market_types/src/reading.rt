@@ -1,7 +1,7 @@
 //! Commands read from their texts.
 ghost use Rattle.std.specs.Prelude.{◌≡◌, ◌<◌, IfSome};
 ghost use Rattle.market_types.specs.Fields.{fields_left};
-ghost use Rattle.market_types.specs.Reading.{alone, command_of, line_reading, of_number, open_of, priority_of, reading, request_of, resize_of};
+ghost use Rattle.market_types.specs.Reading.{alone, command_of, line_reading, of_number, open_reading, priority_reading, reading, request_reading, resize_reading};
 
 use crate::command::Cmd;
 use crate::field::{cut_field, middle_level, read_level, read_number, read_seat, read_signed};
@@ -88,7 +88,7 @@ fn alone(cmd: Cmd, more: Option<&[u8]>) -> Option<Cmd>
 }
 
 fn read_open(more: Option<&[u8]>, levels: u32) -> Option<Cmd>
-    ensures { result ≡ open_of levels (fields_left more.entry) }
+    ensures { result ≡ open_reading levels (fields_left more.entry) }
 {
     let (field, more) = cut_field(more?);
     let slots = read_number(field)?;
@@ -114,7 +114,7 @@ fn read_close(more: Option<&[u8]>) -> Option<Cmd>
 }
 
 fn read_priority(more: Option<&[u8]>, levels: u32) -> Option<Cmd>
-    ensures { result ≡ priority_of levels (fields_left more.entry) }
+    ensures { result ≡ priority_reading levels (fields_left more.entry) }
 {
     let (field, more) = cut_field(more?);
     let arena = ArenaId::new(read_number(field)?);
@@ -124,7 +124,7 @@ fn read_priority(more: Option<&[u8]>, levels: u32) -> Option<Cmd>
 }
 
 fn read_resize(more: Option<&[u8]>) -> Option<Cmd>
-    ensures { result ≡ resize_of (fields_left more.entry) }
+    ensures { result ≡ resize_reading (fields_left more.entry) }
 {
     let (field, more) = cut_field(more?);
     let arena = ArenaId::new(read_number(field)?);
@@ -136,7 +136,7 @@ fn read_resize(more: Option<&[u8]>) -> Option<Cmd>
 }
 
 fn read_request(more: Option<&[u8]>) -> Option<Cmd>
-    ensures { result ≡ request_of (fields_left more.entry) }
+    ensures { result ≡ request_reading (fields_left more.entry) }
 {
     let (field, more) = cut_field(more?);
     let arena = ArenaId::new(read_number(field)?);

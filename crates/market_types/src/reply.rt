@@ -1,7 +1,12 @@
 //! What the market answers.
+ghost use Rattle.std.specs.Prelude.{◌≡◌, true, IfOk, OnErr};
+ghost use Rattle.market_types.specs.Replies.{is_listed};
+
 use crate::command::Call;
 use crate::number::{ArenaId, ControlId};
+use std::alloc::{AllocError, Global};
 use std::marker::Model;
+use thiserror::Error;
 
 /// Why a command is refused. A refusal changes nothing.
 #[derive(Clone, Copy, Debug, PartialEq, Eq)]
@@ -37,19 +42,25 @@ pub enum Fault {
 }
 
 /// Why a market is not opened.
-#[derive(Clone, Copy, Debug, PartialEq, Eq)]
+#[derive(Clone, Copy, Debug, Error, PartialEq, Eq)]
 pub enum OpenFault {
     /// O1: the base is not 1 to 65,536.
+    #[error("O1 bad base")]
     BadBase,
     /// O2: the hard limit is not 1 to 65,535.
+    #[error("O2 bad hard")]
     BadHard,
     /// O3: the seats are not 1 to 64.
+    #[error("O3 bad seats")]
     BadSeats,
     /// O4: the places of the history are not 1 to 1,048,576.
+    #[error("O4 bad places")]
     BadPlaces,
     /// O5: the levels are not 1 to 8.
+    #[error("O5 bad levels")]
     BadLevels,
-    /// There is no memory for it.
+    /// Out of memory.
+    #[error("memory")]
     Memory,
 }
 
@@ -98,6 +109,18 @@ impl Model for Lists {
     ghost view = { λ l. record { recalls = l.recalls.items; hires = l.hires.items } };
 }
 
+impl Lists {
+    /// The same lists, in memory of their own. Out of memory is the `Err`.
+    pub fn copied(&self, alloc: Global) -> Result<Lists, AllocError>
+        ensures exact { IfOk result (λ lists. lists ≡ self.now) }
+    {
+        Ok(Lists {
+            recalls: self.recalls.to_vec(alloc)?,
+            hires: self.hires.to_vec(alloc)?,
+        })
+    }
+}
+
 /// What the market answers a command.
 #[derive(Debug, Drop)]
 pub enum Reply {
@@ -127,6 +150,33 @@ pub enum Reply {
     Limits(LimitView),
     /// Nothing was changed.
     Refused(Fault),
+}
+
+impl Reply {
+    /// The same reply, in memory of its own. Out of memory is the `Err`, and only lists take any.
+    pub fn copied(&self, alloc: Global) -> Result<Reply, AllocError>
+        ensures exact { IfOk result (λ reply. reply ≡ self.now) }
+        ensures lists_alone { OnErr result (is_listed self.now ≡ true) }
+    {
+        Ok(match self {
+            Reply::Opened(arena) => Reply::Opened(*arena),
+            Reply::Closed => Reply::Closed,
+            Reply::Moved => Reply::Moved,
+            Reply::Resized(request) => Reply::Resized(*request),
+            Reply::Requested(request) => Reply::Requested(*request),
+            Reply::Controlled(control) => Reply::Controlled(*control),
+            Reply::Uncontrolled => Reply::Uncontrolled,
+            Reply::Placed(arena) => Reply::Placed(*arena),
+            Reply::Idle => Reply::Idle,
+            Reply::Stays(arena) => Reply::Stays(*arena),
+            Reply::Recalled(arena) => Reply::Recalled(*arena),
+            Reply::Left(arena) => Reply::Left(*arena),
+            Reply::Shown(view) => Reply::Shown(*view),
+            Reply::Listed(lists) => Reply::Listed(lists.copied(alloc)?),
+            Reply::Limits(view) => Reply::Limits(*view),
+            Reply::Refused(fault) => Reply::Refused(*fault),
+        })
+    }
 }
 
 /// A call, and what it was answered.

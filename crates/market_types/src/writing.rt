@@ -13,7 +13,7 @@ use itoa::Buffer;
 use std::alloc::{AllocError, Global};
 
 /// The canonical text of a command in a market of so many levels, as `open 8 1 normal`: every field is written, and a
-/// level by its name where it has one. Err is want of memory.
+/// level by its name where it has one. `Err` says that memory ran out.
 pub fn cmd_text(alloc: Global, cmd: &Cmd, levels: u32) -> Result<String, AllocError>
     ensures exact { IfOk result (λ text. string_bytes text ≡ cmd_text levels cmd.now) }
 {
@@ -96,7 +96,7 @@ pub fn open_fault_text(fault: OpenFault) -> &'static str
     }
 }
 
-/// A reply's text, as `arena 1`. Err is want of memory.
+/// A reply's text, as `arena 1`. `Err` says that memory ran out.
 pub fn reply_text(alloc: Global, reply: &Reply) -> Result<String, AllocError>
     ensures exact { IfOk result (λ text. string_bytes text ≡ reply_text reply.now) }
 {
@@ -108,7 +108,7 @@ pub fn reply_text(alloc: Global, reply: &Reply) -> Result<String, AllocError>
     Ok(text)
 }
 
-/// Writes a reply's text, without an end of line, behind what `out` holds. Err is want of memory, and leaves `out` as
+/// Writes a reply's text, without an end of line, behind what `out` holds. `Err` says that memory ran out, and leaves `out` as
 /// it was.
 pub fn push_reply(out: &mut Vec<u8>, reply: &Reply) -> Result<(), AllocError>
     ensures ok { OnOk result (out.new.items ≡ out.old.items ++ reply_text reply.now) }

@@ -3,7 +3,7 @@ use Rattle.std.proofs.Common.{◌≡◌, ℕ, zero, suc, ◌+◌, ◌*◌, ◌/�
 use Rattle.std.proofs.lemmas.Bool.{cases_order}
 use Rattle.std.proofs.lemmas.Int.Digits.{length-digits_of_step}
 use Rattle.prefix_tree.specs.Bits.{bits}
-use Rattle.prefix_tree.specs.Nodes.{rows_for, room_for}
+use Rattle.prefix_tree.specs.Nodes.{rows_for}
 
 -- one more level needs no fewer rows
 pub rows_for-step : (h : ℕ) → rows_for h ≤ rows_for (suc h)
@@ -37,21 +37,3 @@ height-le-below (suc k) n (suc (suc h)) p q =
 -- a height is at most twice the binary digits of the rows that it needs
 pub height-le-bits : (n h : ℕ) → rows_for h ≤ n → h ≤ 2 * bits n
 height-le-bits n h q = height-le-below n n h (omega arith) q
-
--- more levels have no less room
-pub room_for-le : (a b : ℕ) → a ≤ b → room_for a ≤ room_for b
-room_for-le zero b p = omega arith
-room_for-le (suc a) zero p = absurd (omega arith)
-room_for-le (suc a) (suc b) p = omega (arith, room_for-le a b (omega arith))
-
--- a node over two sides has room for both and its row
-pub room_node : (a b m n : ℕ) → m ≤ room_for a → n ≤ room_for b → m + n + 1 ≤ room_for (max a b + 1)
-room_node a b m n p q =
-    let h : max a b + 1 ≡ suc (max a b) = omega arith in
-    rw h (omega (arith, room_for-le a (max a b) (omega arith), room_for-le b (max a b) (omega arith)))
-
--- rows have no more binary digits than the levels that have room for them
-pub bits-le-height : (h n : ℕ) → n ≤ room_for h → bits n ≤ h
-bits-le-height h zero p = omega arith
-bits-le-height zero (suc n) p = absurd (omega arith)
-bits-le-height (suc h) (suc n) p = omega (arith, length-digits_of_step 2 (suc n) (omega arith) (omega arith), bits-le-height h (suc n / 2) (omega arith))

@@ -1,16 +1,13 @@
 -- What is read of a list of rows, told of what stands before a row x, of x, and of what stands after it.
-use Rattle.std.specs.List.{slice_get, position_from}
-use Rattle.std.specs.Prelude.{All, IfNone, filter}
-use Rattle.std.proofs.Common.{◌≡◌, ℕ, zero, suc, ◌+◌, ◌<◌, ◌≤◌, Bool, true, false, cond, not, eqb, ltb, List, [], ◌∷◌, ◌++◌, length, take, refl, ap, sym, subst, ◌∙◌, arith, Option, Some, None, length-append}
-use Rattle.std.proofs.Math.Seq.{take-append_seam, take-append-add}
-use Rattle.std.proofs.lemmas.Bool.{lt-ltb, le-ltb, eq-eqb, ne_eqb, eqb-false}
-use Rattle.std.proofs.lemmas.List.{take-append-le}
-use Rattle.std.proofs.lemmas.List.Elements.{All-nil, All-cons, All-head, All-tail, All-weaker, filter-append}
+use Rattle.std.specs.List.{slice_get}
+use Rattle.std.specs.Prelude.{All, filter}
+use Rattle.std.proofs.Common.{◌≡◌, ℕ, zero, suc, ◌+◌, ◌<◌, ◌≤◌, Bool, true, false, cond, not, ltb, List, [], ◌∷◌, ◌++◌, length, take, refl, ap, sym, subst, ◌∙◌, arith, Some, length-append}
+use Rattle.std.proofs.lemmas.Bool.{lt-ltb, le-ltb}
+use Rattle.std.proofs.lemmas.List.Elements.{All-cons, All-head, All-tail, All-weaker, filter-append}
 use Rattle.std.proofs.lemmas.List.Filters.{sum_by-filter_both}
 use Rattle.std.proofs.lemmas.List.Sums.{sum_by-append, sum_by-cons}
 use Rattle.market_types.specs.declared.row.Row.{Row}
-use Rattle.prefix_tree.specs.Rows.{IsNewestFirst, IsAbsent, IsPassedAt, IsPassing, requests, requests_above, first_mandated}
-use Rattle.prefix_tree.specs.declared.passing.Passing.{Passing}
+use Rattle.prefix_tree.specs.Rows.{IsNewestFirst, requests, requests_above, first_mandated}
 use Rattle.prefix_tree.specs.Nodes.{mandates, one_if}
 use Rattle.prefix_tree.proofs.Ordered.{over_all, under_all, over_here, under_here}
 
@@ -122,89 +119,6 @@ first-left (x ∷ l) m e =
       | false ↦ λ h. first-left l m (omega arith)
     ] (omega (arith, mandates-cons x l))
 
--- ---- the place where the requests pass a sum
-
--- passed in the first of two lists
-pub passed_left : (s p : ℕ) (l m : List Row) → IsPassedAt s p l → IsPassedAt s p (l ++ m)
-passed_left s p l m h =
-    record {
-      in_range = omega (arith, h.in_range, length-append l m);
-      within = rw (take-append-le p l m (omega (arith, h.in_range))) h.within;
-      beyond = rw (take-append-le (p + 1) l m (omega (arith, h.in_range))) h.beyond;
-    }
-
--- passed with x
-pub passed_here : (s : ℕ) (l : List Row) (x : Row) (r : List Row) → requests l ≤ s → s < requests l + x.request → IsPassedAt s (length l) (l ++ x ∷ r)
-passed_here s l x r h g =
-    let one : requests (l ++ x ∷ []) ≡ requests l + x.request = omega (arith, requests-append l (x ∷ []), requests-cons x []) in
-    record {
-      in_range = omega (arith, length-node l x r);
-      within = rw (take-append_seam l (x ∷ r)) h;
-      beyond = rw (take-append-add l (x ∷ r) 1) (omega (arith, one));
-    }
-
--- passed in r
-pub passed_right : (s t p k : ℕ) (l : List Row) (x : Row) (r : List Row) → requests l + x.request + t ≡ s → length l + suc p ≡ k → IsPassedAt t p r → IsPassedAt s k (l ++ x ∷ r)
-passed_right s t p k l x r e i h =
-    let low : requests (l ++ x ∷ take p r) ≡ requests l + x.request + requests (take p r) = omega (arith, requests-append l (x ∷ take p r), requests-cons x (take p r)) in
-    let high : requests (l ++ x ∷ take (p + 1) r) ≡ requests l + x.request + requests (take (p + 1) r) = omega (arith, requests-append l (x ∷ take (p + 1) r), requests-cons x (take (p + 1) r)) in
-    let a : take k (l ++ x ∷ r) ≡ l ++ x ∷ take p r = ap (λ z. take z (l ++ x ∷ r)) (sym i) ∙ take-append-add l (x ∷ r) (suc p) in
-    let b : take (k + 1) (l ++ x ∷ r) ≡ l ++ x ∷ take (p + 1) r = ap (λ z. take z (l ++ x ∷ r)) (let j : k + 1 ≡ length l + suc (p + 1) = omega arith in j) ∙ take-append-add l (x ∷ r) (suc (p + 1)) in
-    record {
-      in_range = omega (arith, h.in_range, length-node l x r);
-      within = rw a (omega (arith, low, h.within));
-      beyond = rw b (omega (arith, high, h.beyond));
-    }
-
--- ---- the place of a stamp
-
--- the place, counted from k
-abbrev pub place_from : ℕ → ℕ → List Row → Option ℕ
-place_from k s t = position_from (λ row. eqb row.stamp s) k t
-
--- equal starts give equal places
-place_from-arg : (t : List Row) (s : ℕ) {k j : ℕ} → k ≡ j → place_from k s t ≡ place_from j s t
-place_from-arg t s e = cc
-
--- a stamp above the second of two lists
-place-left : (k s : ℕ) (l m : List Row) → All (λ y. y.stamp < s) m → place_from k s (l ++ m) ≡ place_from k s l
-place-left k s [] [] a = refl
-place-left k s [] (x ∷ m) a =
-    rw (ne_eqb x.stamp s (let h : x.stamp < s = All-head (λ y. y.stamp < s) x m a in omega arith)) (place-left (k + 1) s [] m (All-tail (λ y. y.stamp < s) x m a))
-place-left k s (x ∷ l) m a = ap (λ z. cond (eqb x.stamp s) (Some k) z) (place-left (k + 1) s l m a)
-
--- a stamp below the first of two lists
-place-right : (k s : ℕ) (l m : List Row) → All (λ y. s < y.stamp) l → place_from k s (l ++ m) ≡ place_from (k + length l) s m
-place-right k s [] m a = place_from-arg m s (omega arith)
-place-right k s (x ∷ l) m a =
-    rw (ne_eqb x.stamp s (let h : s < x.stamp = All-head (λ y. s < y.stamp) x l a in omega arith)) (place-right (k + 1) s l m (All-tail (λ y. s < y.stamp) x l a) ∙ place_from-arg m s (omega arith))
-
--- a stamp over x: in l
-pub place_left : (k s : ℕ) (l : List Row) (x : Row) (r : List Row) → IsNewestFirst (l ++ x ∷ r) → x.stamp < s → place_from k s (l ++ x ∷ r) ≡ place_from k s l
-place_left k s l x r d h = place-left k s l (x ∷ r) (under_all s l x r d h)
-
--- a stamp below x: in r
-pub place_right : (k s : ℕ) (l : List Row) (x : Row) (r : List Row) → IsNewestFirst (l ++ x ∷ r) → s < x.stamp → place_from k s (l ++ x ∷ r) ≡ place_from (k + length l + 1) s r
-place_right k s l x r d h = place-right k s l (x ∷ r) (over_all s l x r d h) ∙ rw (ne_eqb x.stamp s (omega arith))
-
--- that of x: after l
-pub place_here : (k s : ℕ) (l : List Row) (x : Row) (r : List Row) → IsNewestFirst (l ++ x ∷ r) → x.stamp ≡ s → place_from k s (l ++ x ∷ r) ≡ Some (k + length l)
-place_here k s l x r d h = place-right k s l (x ∷ r) (over_here l x r d s h) ∙ rw (eq-eqb x.stamp s h)
-
--- a stamp with no place is that of no row
-place-none : (k s : ℕ) (t : List Row) → place_from k s t ≡ None → IsAbsent s t
-place-none k s [] e = All-nil (λ y. y.stamp ≡ s → ⊥)
-place-none k s (x ∷ t) e =
-    elim (eqb x.stamp s) as (λ b. eqb x.stamp s ≡ b → cond b (Some k) (place_from (k + 1) s t) ≡ None → IsAbsent s (x ∷ t)) [
-      | true ↦ λ h i. absurd (cc)
-      | false ↦ λ h i. All-cons (λ y. y.stamp ≡ s → ⊥) x t (eqb-false x.stamp s h) (place-none (k + 1) s t i)
-    ] refl e
-
--- told of the answer of a search
-pub place_absent : (o : Option ℕ) (s : ℕ) (t : List Row) → o ≡ place_from 0 s t → IfNone o (IsAbsent s t)
-place_absent None s t e = place-none 0 s t (sym e)
-place_absent (Some k) s t e = tt
-
 -- ---- the row at a place
 
 -- a place in l
@@ -226,60 +140,3 @@ get_right zero j [] x r h = absurd (omega arith)
 get_right (suc i) j [] x r h = ap (λ z. slice_get r z) (let e : i ≡ j = omega arith in e)
 get_right zero j (y ∷ l) x r h = absurd (omega arith)
 get_right (suc i) j (y ∷ l) x r h = get_right i j l x r (omega arith)
-
--- ---- the row with which the requests pass a sum
-
--- the same row, place and sum
-pub passing_same : (s : ℕ) (p q : Passing) (l : List Row) → q.place ≡ p.place → q.row ≡ p.row → q.before ≡ p.before → IsPassing s p l → IsPassing s q l
-passing_same s p q l e f g h =
-    record {
-      at = subst (λ k. IsPassedAt s k l) (sym e) h.at;
-      row = ap (slice_get l) e ∙ h.row ∙ ap Some (sym f);
-      before = g ∙ h.before ∙ ap (λ k. requests (take k l)) (sym e);
-    }
-
--- in the first of two lists
-pub passing_left : (s : ℕ) (p : Passing) (l m : List Row) → IsPassing s p l → IsPassing s p (l ++ m)
-passing_left s p l m h =
-    record {
-      at = passed_left s p.place l m h.at;
-      row = get_left p.place l m h.at.in_range ∙ h.row;
-      before = h.before ∙ ap requests (sym (take-append-le p.place l m (omega (arith, h.at.in_range))));
-    }
-
--- x
-pub passing_here : (s : ℕ) (p : Passing) (l : List Row) (x : Row) (r : List Row) → p.place ≡ length l → p.row ≡ x → p.before ≡ requests l → requests l ≤ s → s < requests l + x.request → IsPassing s p (l ++ x ∷ r)
-passing_here s p l x r e f g low high =
-    record {
-      at = subst (λ k. IsPassedAt s k (l ++ x ∷ r)) (sym e) (passed_here s l x r low high);
-      row = get_here p.place l x r e ∙ ap Some (sym f);
-      before = g ∙ ap requests (sym (ap (λ k. take k (l ++ x ∷ r)) e ∙ take-append_seam l (x ∷ r)));
-    }
-
--- in r
-pub passing_right : (s t : ℕ) (p q : Passing) (l : List Row) (x : Row) (r : List Row) → requests l + x.request + t ≡ s → length l + suc p.place ≡ q.place → q.row ≡ p.row → q.before ≡ requests l + x.request + p.before → IsPassing t p r → IsPassing s q (l ++ x ∷ r)
-passing_right s t p q l x r e i f g h =
-    let low : requests (l ++ x ∷ take p.place r) ≡ requests l + x.request + requests (take p.place r) = omega (arith, requests-append l (x ∷ take p.place r), requests-cons x (take p.place r)) in
-    record {
-      at = passed_right s t p.place q.place l x r e i h.at;
-      row = get_right q.place p.place l x r (omega (arith, i)) ∙ h.row ∙ ap Some (sym f);
-      before = g ∙ ap (λ n. requests l + x.request + n) h.before ∙ sym low ∙ ap requests (sym (ap (λ k. take k (l ++ x ∷ r)) (sym i) ∙ take-append-add l (x ∷ r) (suc p.place)));
-    }
-
--- ---- the requests before a place
-
--- a place in l, or right after it
-pub taken_left : (i : ℕ) (l m : List Row) → i ≤ length l → requests (take i (l ++ m)) ≡ requests (take i l)
-taken_left i l m h = ap requests (take-append-le i l m h)
-
--- a place in r, or right before it
-pub taken_right : (i j : ℕ) (l : List Row) (x : Row) (r : List Row) → i ≡ length l + 1 + j → requests (take i (l ++ x ∷ r)) ≡ requests l + x.request + requests (take j r)
-taken_right i j l x r e =
-    let after : i ≡ length l + suc j = omega arith in
-    ap (λ k. requests (take k (l ++ x ∷ r))) after ∙ ap requests (take-append-add l (x ∷ r) (suc j))
-    ∙ (let sums : requests (l ++ x ∷ take j r) ≡ requests l + x.request + requests (take j r) = omega (arith, requests-append l (x ∷ take j r), requests-cons x (take j r)) in sums)
-
--- no rows ask for nothing
-pub taken_none : (i : ℕ) → requests (take i []) ≡ 0
-taken_none zero = refl
-taken_none (suc i) = refl

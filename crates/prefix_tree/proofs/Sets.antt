@@ -42,8 +42,8 @@ sound_after s q m {b} n g e h c hl hr ll lr u v w =
       balanced = record {
         height = omega (arith, k.height);
         near = record { left = omega (arith, k.near.left); right = omega (arith, k.near.right) };
-        left = record { least = rw (hl, ll) k.left.least; most = rw (hl, ll) k.left.most };
-        right = record { least = rw (hr, lr) k.right.least; most = rw (hr, lr) k.right.most };
+        left = record { least = rw (hl, ll) k.left.least };
+        right = record { least = rw (hr, lr) k.right.least };
       };
       summed = record { sum = u; count = c ∙ g.summed.count ∙ sym (set-length s q m (rows_in b)) ∙ ap length (sym e); mandates = v; newer = w };
     }

@@ -1,12 +1,12 @@
 -- A whole tree: small enough for the code's numbers, and a tree again after each change.
 use Rattle.std.proofs.Common.{◌≡◌, Bool, ℕ, ◌*◌, ◌<◌, ◌≤◌, Option, Some, None, List, [], ◌∷◌, length, arith}
-use Rattle.std.specs.Prelude.{IfSome, IfNone, ◌+◌}
+use Rattle.std.specs.Prelude.{IfSome}
 use Rattle.std.proofs.lemmas.List.Elements.{All-head, All-tail}
 use Rattle.market_types.specs.declared.row.Row.{Row}
 use Rattle.prefix_tree.specs.Bits.{bits}
 use Rattle.prefix_tree.specs.Rows.{IsAbsent, HasLowRequests, requests, insert_row, without, set_row, row_at}
 use Rattle.prefix_tree.specs.Nodes.{IsTree, IsSmall, IsFilled}
-use Rattle.prefix_tree.proofs.Heights.{height-le-rows, height-le-bits, bits-le-height}
+use Rattle.prefix_tree.proofs.Heights.{height-le-rows, height-le-bits}
 use Rattle.prefix_tree.proofs.Readings.{requests-cons}
 use Rattle.prefix_tree.proofs.Changes.{insert-low, insert-newest, insert-length, without-low, without-newest, without-length, set-low, set-newest, set-length, row-fewer}
 
@@ -23,10 +23,6 @@ small_tree {s} t = record { height = omega (arith, height-le-rows s.1 (length s.
 pub tree_height : {s : List Row × ℕ} → IsTree s → s.1 ≤ 2 * bits (length s.0)
 tree_height {s} t = height-le-bits (length s.0) s.1 t.filled.least
 
--- and at least their number
-pub tree_deep : {s : List Row × ℕ} → IsTree s → bits (length s.0) ≤ s.1
-tree_deep {s} t = bits-le-height s.1 (length s.0) t.filled.most
-
 -- a tree with a row put in is a tree
 pub inserted : {s u : List Row × ℕ} (x : Row) → IsTree s → length s.0 < 1024 → x.request ≤ 65535 → IsAbsent x.stamp s.0 → u.0 ≡ insert_row x s.0 → IsFilled u → IsTree u
 inserted {s} {u} x t n q a e filled = record { filled = filled; room = rw e (omega (arith, insert-length x s.0)); low = rw e (insert-low x s.0 q t.low); ordered = rw e (insert-newest x s.0 t.ordered a) }
@@ -37,7 +33,7 @@ removed {s} {u} k t e filled = record { filled = filled; room = rw e (omega (ari
 
 -- a tree with a row set is a tree
 pub reset : {s u : List Row × ℕ} (k q : ℕ) (m : Bool) → IsTree s → q ≤ 65535 → u.0 ≡ set_row k q m s.0 → u.1 ≡ s.1 → IsTree u
-reset {s} {u} k q m t h e i = record { filled = record { least = rw (i, e, set-length k q m s.0) t.filled.least; most = rw (i, e, set-length k q m s.0) t.filled.most }; room = rw (e, set-length k q m s.0) t.room; low = rw e (set-low k q m s.0 h t.low); ordered = rw e (set-newest k q m s.0 t.ordered) }
+reset {s} {u} k q m t h e i = record { filled = record { least = rw (i, e, set-length k q m s.0) t.filled.least }; room = rw (e, set-length k q m s.0) t.room; low = rw e (set-low k q m s.0 h t.low); ordered = rw e (set-newest k q m s.0 t.ordered) }
 
 -- told for the row that was found
 room-from-fewer : (a b : ℕ) (o : Option Row) → b ≤ 1024 → IfSome o (λ _. a < b) → IfSome o (λ _. a < 1024)
@@ -47,8 +43,3 @@ room-from-fewer a b (Some x) h f = omega arith
 -- a tree that a row was taken out of has room
 pub room_again : {s : List Row × ℕ} (k : ℕ) → IsTree s → IfSome (row_at k s.0) (λ _. length (without k s.0) < 1024)
 room_again {s} k t = room-from-fewer (length (without k s.0)) (length s.0) (row_at k s.0) t.room (row-fewer k s.0)
-
--- a search that finds nothing goes as deep as half the height
-pub deep_none : {A : Type 0} {s : List Row × ℕ} (o : Option A) (n : ℕ) → IsTree s → IfNone o (s.1 ≤ n + n) → IfNone o (bits (length s.0) ≤ 2 * n)
-deep_none {A} {s} None n t h = omega (arith, tree_deep t)
-deep_none {A} {s} (Some x) n t h = tt

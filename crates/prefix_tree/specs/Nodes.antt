@@ -15,15 +15,9 @@ rows_for zero = 0
 rows_for (suc zero) = 1
 rows_for (suc (suc height)) = rows_for height + rows_for height + 1
 
--- no tree of this height has more rows
-abbrev pub room_for : ℕ → ℕ
-room_for zero = 0
-room_for (suc height) = room_for height + room_for height + 1
-
--- a side has the rows that its height needs, and no more than it has room for
+-- a side has the rows that its height needs
 pub record IsFilled (side : List Row × ℕ) : Type 0 where
   pub least : rows_for side.1 ≤ length side.0
-  pub most : length side.0 ≤ room_for side.1
 
 -- the rows at and below a node
 abbrev pub rows_in : Node → List Row
@@ -68,6 +62,12 @@ pub record IsSoundNode (node : Node) : Type 0 where
 abbrev pub IsSound : Option (Box Node Global) → Type 0
 IsSound None = Unit {0}
 IsSound (Some node) = IsSoundNode node.value
+
+-- the node is the topmost one of a side
+pub record IsTopOf (node : Node) (side : List Row × ℕ) : Type 0 where
+  pub rows : side.0 ≡ rows_in node
+  pub height : side.1 ≡ node.height
+  pub sound : IsSoundNode node
 
 -- what holds of a whole tree
 pub record IsTree (root : List Row × ℕ) : Type 0 where
@@ -122,3 +122,8 @@ one_if mandated = if mandated then 1 else 0
 abbrev pub row_of : Option (Box Node Global) → Option Row
 row_of None = None
 row_of (Some node) = Some node.value.row
+
+-- the rows of a stretch ask for so much, and their numbers fit those of the code
+pub record IsStretch (side : List Row × ℕ) (sum : ℕ) : Type 0 where
+  pub sum_is : sum ≡ requests side.0
+  pub small : requests side.0 < 2 ^ 31

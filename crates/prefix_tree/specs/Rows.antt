@@ -1,8 +1,6 @@
 -- Words on lists of rows.
-use Rattle.std.specs.Prelude.{◌≡◌, ◌≢◌, ℕ, ◌+◌, ◌<◌, ◌≤◌, Bool, not, if◌then◌else◌, ◌==◌, nat_lt, List, [], ◌∷◌, length, take, map, filter, find, sum_by, All, AllPairs, Option, Some, slice_get}
-use Rattle.std.specs.List.{position_from}
+use Rattle.std.specs.Prelude.{◌≢◌, ℕ, ◌<◌, ◌≤◌, Bool, not, if◌then◌else◌, ◌==◌, nat_lt, List, [], ◌∷◌, map, filter, find, sum_by, All, AllPairs, Option}
 use Rattle.market_types.specs.declared.row.Row.{Row}
-use Rattle.prefix_tree.specs.declared.passing.Passing.{Passing}
 
 -- the stamps descend: each row is newer than every row after it
 abbrev pub IsNewestFirst : List Row → Type 0
@@ -27,22 +25,6 @@ first_mandated rows = find (λ row. row.mandated) rows
 -- the row of a stamp
 abbrev pub row_at : ℕ → List Row → Option Row
 row_at stamp rows = find (λ row. row.stamp == stamp) rows
-
--- the place of the row of a stamp
-abbrev pub place_of : ℕ → List Row → Option ℕ
-place_of stamp rows = position_from (λ row. row.stamp == stamp) 0 rows
-
--- the requests up to a place are at most the sum, and with the row there more than it
-pub record IsPassedAt (sum place : ℕ) (rows : List Row) : Type 0 where
-  pub in_range : place < length rows
-  pub within : requests (take place rows) ≤ sum
-  pub beyond : sum < requests (take (place + 1) rows)
-
--- it is the row there, and the rows before it ask for `before`
-pub record IsPassing (sum : ℕ) (passing : Passing) (rows : List Row) : Type 0 where
-  pub at : IsPassedAt sum passing.place rows
-  pub row : slice_get rows passing.place ≡ Some passing.row
-  pub before : passing.before ≡ requests (take passing.place rows)
 
 -- the rows with one more, before the first that is older
 abbrev pub insert_row : Row → List Row → List Row

@@ -9,14 +9,14 @@ use crate::side::Side;
 use market_types::Row;
 
 impl Side {
-    /// Sets the request and the mandate of the row with that stamp.
+    /// Sets the request and the mandate of the row with that stamp. Opens its node itself, and counts it: the node is lent
+    /// for the change.
     pub(crate) fn set(&mut self, stamp: u32, request: u32, mandated: bool) -> u32
         requires small { IsSmall self.old }
         requires request { request < 2 ^ 31 }
         ensures rows { self.new.0 ≡ set_row stamp request mandated self.old.0 }
         ensures height { self.new.1 ≡ self.old.1 }
         ensures entered { 0 < length self.old.0 → 1 ≤ result }
-        ensures deep { IsAbsent stamp self.old.0 → self.old.1 ≤ result + result }
         ensures visits { result ≤ self.old.1 }
     {
         let Some(node) = &mut self.root else { return 0 };
@@ -43,7 +43,7 @@ impl Side {
     }
 
     /// Sets the request and the mandate of a row that the side has, as it stands there, on one way down: nothing is left
-    /// to do on the way back. Gives `visits` and one more for each node.
+    /// to do on the way back. Opens its node itself, and gives `visits` and one more for each.
     pub(crate) fn update(&mut self, row: &Row, request: u32, mandated: bool, visits: u32) -> u32
         requires small { IsSmall self.old }
         requires request { request < 2 ^ 31 }
@@ -78,77 +78,78 @@ impl Side {
         visits
     }
 
-    /// Puts a node in its place.
-    pub(crate) fn put(self, node: Box<Node>) -> (Side, u32)
+    /// Puts a node in its place. The new node is counted too.
+    pub(crate) fn put(self, node: Box<Node>, visits: &mut u32) -> Side
         requires small { IsSmall self }
         requires request { node.value.row.request < 2 ^ 31 }
         requires absent { IsAbsent node.value.row.stamp self.0 }
         requires filled { IsFilled self }
-        ensures rows { result.0.0 ≡ insert_row node.value.row self.0 }
-        ensures height { IsBetween self.1 (self.1 + 1) result.0.1 }
-        ensures filled { IsFilled result.0 }
-        ensures deep { self.1 + 1 ≤ result.1 + result.1 }
-        ensures visits { IsBetween 1 (self.1 + 1) result.1 }
+        requires few { visits.old + self.1 < 2 ^ 31 }
+        ensures rows { result.0 ≡ insert_row node.value.row self.0 }
+        ensures height { IsBetween self.1 (self.1 + 1) result.1 }
+        ensures filled { IsFilled result }
+        ensures visits { IsBetween (visits.old + 1) (visits.old + self.1 + 1) visits.new }
     {
-        if self.count() == 0 {
-            return (fork(node, Side::new(), Side::new()), visit(0));
+        if self.is_empty() {
+            *visits = visit(*visits);
+            return fork(node, Side::new(), Side::new());
         }
-        let (here, left, right) = self.open();
+        let (here, left, right) = self.take_apart(visits);
         if node.row.stamp < here.row.stamp {
-            let (right, visits) = right.put(node);
-            (balance(here, left, right), visit(visits))
+            let right = right.put(node, visits);
+            balance(here, left, right)
         } else {
-            let (left, visits) = left.put(node);
-            (balance(here, left, right), visit(visits))
+            let left = left.put(node, visits);
+            balance(here, left, right)
         }
     }
 
     /// Takes the node with that stamp out.
-    pub(crate) fn take(self, stamp: u32) -> (Side, Option<Box<Node>>, u32)
+    pub(crate) fn take(self, stamp: u32, visits: &mut u32) -> (Side, Option<Box<Node>>)
         requires small { IsSmall self }
         requires filled { IsFilled self }
+        requires few { visits.old + self.1 < 2 ^ 31 }
         ensures rows { result.0.0 ≡ without stamp self.0 }
         ensures taken { row_of result.1 ≡ row_at stamp self.0 }
         ensures height { IsBetween result.0.1 (result.0.1 + 1) self.1 }
         ensures filled { IsFilled result.0 }
-        ensures entered { 0 < length self.0 → 1 ≤ result.2 }
-        ensures deep { self.1 ≤ result.2 + result.2 }
-        ensures visits { result.2 ≤ self.1 }
+        ensures entered { 0 < length self.0 → visits.old + 1 ≤ visits.new }
+        ensures visits { IsBetween visits.old (visits.old + self.1) visits.new }
     {
-        if self.count() == 0 {
-            return (self, None, 0);
+        if self.is_empty() {
+            return (self, None);
         }
-        let (here, left, right) = self.open();
+        let (here, left, right) = self.take_apart(visits);
         if stamp < here.row.stamp {
-            let (right, taken, visits) = right.take(stamp);
-            (balance(here, left, right), taken, visit(visits))
+            let (right, taken) = right.take(stamp, visits);
+            (balance(here, left, right), taken)
         } else if here.row.stamp < stamp {
-            let (left, taken, visits) = left.take(stamp);
-            (balance(here, left, right), taken, visit(visits))
-        } else if right.count() == 0 {
-            (left, Some(here), visit(0))
+            let (left, taken) = left.take(stamp, visits);
+            (balance(here, left, right), taken)
+        } else if right.is_empty() {
+            (left, Some(here))
         } else {
-            let (first, right, visits) = right.take_first();
-            (balance(first, left, right), Some(here), visit(visits))
+            let (first, right) = right.take_first(visits);
+            (balance(first, left, right), Some(here))
         }
     }
 
     /// Takes the node of the newest row out.
-    fn take_first(self) -> (Box<Node>, Side, u32)
+    fn take_first(self, visits: &mut u32) -> (Box<Node>, Side)
         requires small { IsSmall self }
         requires some { 0 < length self.0 }
         requires filled { IsFilled self }
+        requires few { visits.old + self.1 < 2 ^ 31 }
         ensures rows { self.0 ≡ result.0.value.row ∷ result.1.0 }
         ensures height { IsBetween result.1.1 (result.1.1 + 1) self.1 }
         ensures filled { IsFilled result.1 }
-        ensures deep { self.1 ≤ result.2 + result.2 }
-        ensures visits { result.2 ≤ self.1 }
+        ensures visits { IsBetween (visits.old + 1) (visits.old + self.1) visits.new }
     {
-        let (here, left, right) = self.open();
-        if left.count() == 0 {
-            return (here, right, visit(0));
+        let (here, left, right) = self.take_apart(visits);
+        if left.is_empty() {
+            return (here, right);
         }
-        let (first, left, visits) = left.take_first();
-        (first, balance(here, left, right), visit(visits))
+        let (first, left) = left.take_first(visits);
+        (first, balance(here, left, right))
     }
 }

@@ -22,23 +22,24 @@
 //! leaves to its left, 0: two sums, read on a path of three nodes. The heights of a node's two sides differ by one at
 //! most, so no path is longer than twice the binary digits of the number of rows.
 //!
-//! Each call but `new`, `len`, `is_empty` and `total` says how many nodes of its search path it entered, the new or
-//! replaced node included; nodes that only a rotation touches are not counted. That this number is no more than it may
-//! be is proved, and that it is one at least where there are rows, and half the digits at least where the way goes to an
-//! end of the tree. That no visit between is left out is seen by reading: a node is entered by `node::visit` alone, once
-//! on each turn of a loop and on each call of a recursion.
+//! Each call but `new`, `len` and `total` says how many nodes of its search path it entered, the new or replaced node
+//! included; nodes that only a rotation touches are not counted. Proved of this number are its bounds: no more than twice
+//! the digits, and one at least where there are rows. That it is exact is seen by reading: a search path goes from a side
+//! to its node by `Side::enter`, which counts it, or where it changes the side by `Side::take_apart`, `set` or `update`,
+//! which count each node that they open. What a side's topmost node says of all its rows (`Side::count`, `sum`, `mandates`,
+//! `height`) is read from above without entering it.
 #![tactic(auto)]
 
 mod balance;
 mod change;
 mod node;
-mod passing;
 mod search;
 mod side;
+mod stretch;
 mod taken;
 mod tree;
 
-pub use passing::Passing;
+pub use stretch::{Parts, Stretch};
 pub use taken::Taken;
 pub use tree::Tree;
 

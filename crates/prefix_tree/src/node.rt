@@ -45,7 +45,7 @@ impl Node {
     }
 }
 
-/// Enters one more node of a search path. Nothing else counts a visit, and each node is entered by one call of this.
+/// One more visit. Nothing else counts one: it is called where a link is opened on a search path, and for a new node.
 pub(crate) fn visit(visits: u32) -> u32
     requires { visits < 2 ^ 31 }
     ensures { result ≡ visits + 1 }

@@ -1,7 +1,7 @@
 //! What no clause says: worked rows, bounds at a full tree, and a long random run beside a plain list.
 ghost use Rattle.std.specs.Prelude.{◌≡◌, ◌≤◌, ◌<◌};
 
-use crate::{Passing, Tree};
+use crate::Tree;
 use market_types::{ArenaId, Row};
 use std::alloc::{AllocError, Global};
 use std::process::Abort;
@@ -24,11 +24,12 @@ fn row(stamp: u32, request: u32, mandated: bool) -> Row
 fn insert(tree: &mut Tree, alloc: Global, row: Row) -> Result<bool, AllocError>
     requires { row.request ≤ 65535 }
 {
-    if tree.len() >= Tree::MOST {
+    let (taken, _visits) = tree.take_node(row.stamp);
+    if let Some(taken) = taken {
+        tree.put_node(taken, row.stamp);
         return Ok(false);
     }
-    let (place, _visits) = tree.place_of(row.stamp);
-    if let Some(_) = place {
+    if tree.len() >= Tree::MOST {
         return Ok(false);
     }
     tree.insert(alloc, row)?;
@@ -50,27 +51,19 @@ fn walks_newest_first(rt: HostRuntime) -> Result<(), Fail> {
         assert_eq!(rt; tree.walk(place).0, Some(row(stamp, 5, stamp < 3)));
     }
     assert_eq!(rt; tree.walk(3).0, None);
-    let (rows, visits) = tree.rows(rt.alloc())?;
-    let stamps: [u32; 3] = [3, 2, 1];
-    assert!(rt; rows.iter().map(|row| row.stamp).eq(stamps));
-    assert_eq!(rt; visits, 3);
+    let mut visits = 0;
+    let whole = tree.whole();
+    assert_eq!(rt; whole.requests(), 15);
+    if let Some(parts) = whole.enter(&mut visits) {
+        assert_eq!(rt; parts.newer.requests(), 5);
+        assert_eq!(rt; parts.row.stamp, 2);
+        assert_eq!(rt; parts.older.requests(), 5);
+    }
+    assert_eq!(rt; visits, 1);
     assert_eq!(rt; tree.sum_before(2).0, 5);
     assert_eq!(rt; tree.total(), 15);
     assert_eq!(rt; tree.len(), 3);
     assert_eq!(rt; tree.first_mandated().0, Some(row(2, 5, true)));
-    for (sum, place) in [
-        (0, Some(0)),
-        (4, Some(0)),
-        (5, Some(1)),
-        (14, Some(2)),
-        (15, None),
-    ] {
-        assert_eq!(rt;
-            tree.passing(sum).0.map(|passing| passing.place),
-            place,
-            "at {sum}"
-        );
-    }
     Ok(())
 }
 
@@ -169,7 +162,10 @@ impl Pair {
         if taken.row() != old {
             return Ok(false);
         }
-        if let (None, _) = self.tree.place_of(new) {
+        let (other, _visits) = self.tree.take_node(new);
+        if let Some(other) = other {
+            self.tree.put_node(other, new);
+        } else if self.tree.len() < Tree::MOST {
             self.tree.put_node(taken, new);
             self.list.push(Row { stamp: new, ..old })?;
         }
@@ -195,36 +191,17 @@ impl Pair {
         }
     }
 
-    /// Reads both sides at a stamp and at a sum.
-    fn compare(&self, rt: &impl Abort, stamp: u32, sum: u64) {
+    /// Reads both sides at a stamp.
+    fn compare(&self, rt: &impl Abort, stamp: u32) {
         let (before, newer) = self.above(stamp);
         let (total, rows) = self.above(0);
         assert_eq!(rt; self.tree.sum_before(stamp).0, before);
         assert_eq!(rt; self.tree.total(), total);
         assert_eq!(rt; self.tree.len(), rows);
         assert_eq!(rt; self.tree.first_mandated().0, self.newest_mandated());
-        match self.list.iter().find(|row| row.stamp == stamp) {
-            None => assert_eq!(rt; self.tree.place_of(stamp).0, None),
-            Some(row) => {
-                assert_eq!(rt; self.tree.place_of(stamp).0, Some(newer));
-                assert_eq!(rt; self.tree.walk(newer).0, Some(*row));
-            }
+        if let Some(row) = self.list.iter().find(|row| row.stamp == stamp) {
+            assert_eq!(rt; self.tree.walk(newer).0, Some(*row));
         }
-        match self.tree.passing(sum).0 {
-            None => assert!(rt; total <= sum),
-            Some(passing) => self.compare_passing(rt, passing, sum),
-        }
-    }
-
-    /// Reads both sides at a place where the requests pass a sum.
-    fn compare_passing(&self, rt: &impl Abort, passing: Passing, sum: u64) {
-        let row = passing.row;
-        let (before, newer) = self.above(row.stamp);
-        assert_eq!(rt; self.tree.walk(passing.place).0, Some(row));
-        assert_eq!(rt; newer, passing.place);
-        assert_eq!(rt; before, passing.before);
-        assert_eq!(rt; self.tree.sum_to(passing.place).0, before);
-        assert!(rt; before <= sum && sum < before.wrapping_add(u64::from(row.request)));
     }
 }
 
@@ -243,7 +220,7 @@ fn agrees_with_a_plain_list(rt: HostRuntime) -> Result<(), Fail> {
             4 | 5 => assert!(rt; pair.take_and_put(stamp, 1 + random.below(300))?),
             _ => pair.set(stamp, request, random.below(20) == 0),
         }
-        pair.compare(&rt, 1 + random.below(300), u64::from(random.below(2000)));
+        pair.compare(&rt, 1 + random.below(300));
     }
     assert!(rt; pair.tree.len() > 50);
     Ok(())

@@ -1,12 +1,12 @@
 //! The tree, and its calls.
-ghost use Rattle.std.specs.Prelude.{◌≡◌, ◌+◌, ◌*◌, ◌<◌, ◌≤◌, ◌↔◌, [], length, take, slice_get, is_ok, if◌then◌else◌, Some, IsTrue, IfNone, IfSome, IsOk, IfOk, OnOk};
-ghost use Rattle.prefix_tree.specs.Rows.{IsNewestFirst, IsAbsent, IsPassing, requests, requests_above, first_mandated, row_at, place_of, insert_row, without, set_row};
+ghost use Rattle.std.specs.Prelude.{◌≡◌, ◌+◌, ◌*◌, ◌<◌, ◌≤◌, [], length, slice_get, is_ok, if◌then◌else◌, Some, IfSome, IfOk, OnOk};
+ghost use Rattle.prefix_tree.specs.Rows.{IsNewestFirst, IsAbsent, requests, requests_above, first_mandated, row_at, insert_row, without, set_row};
 ghost use Rattle.prefix_tree.specs.Nodes.{row_of};
 ghost use Rattle.prefix_tree.specs.Bits.{bits};
 
 use crate::node::Node;
-use crate::passing::Passing;
 use crate::side::Side;
+use crate::stretch::Stretch;
 use crate::taken::Taken;
 use market_types::Row;
 use std::alloc::{AllocError, Global};
@@ -17,8 +17,8 @@ use std::mem;
 /// as the list of its rows, newest first.
 ///
 /// A call on `n` rows enters at most twice as many nodes as `n` has binary digits, and one more where it puts a row
-/// in; where its way goes to an end of the tree, at least half as many; `rows` enters all. The last part of its answer is
-/// their number. Only `insert` and `rows` take memory.
+/// in. The last part of its answer is their number. Only `insert` takes memory. A walk in order through all rows goes by
+/// [`Tree::whole`].
 #[derive(Drop)]
 pub struct Tree {
     root: Side,
@@ -59,13 +59,6 @@ impl Tree {
         self.root.count() as usize
     }
 
-    /// Whether there are no rows.
-    pub fn is_empty(&self) -> bool
-        ensures exact { IsTrue result ↔ (length self.now ≡ 0) }
-    {
-        self.len() == 0
-    }
-
     /// The sum of all requests, in workers.
     pub fn total(&self) -> u64
         ensures exact { result ≡ requests self.now }
@@ -78,7 +71,6 @@ impl Tree {
     pub fn sum_before(&self, stamp: u32) -> (u64, u32)
         ensures exact { result.0 ≡ requests_above stamp self.now }
         ensures entered { 0 < length self.now → 1 ≤ result.1 }
-        ensures deep { IsAbsent stamp self.now → bits (length self.now) ≤ 2 * result.1 }
         ensures visits { result.1 ≤ 2 * bits (length self.now) }
     {
         self.root.sum_before(stamp)
@@ -88,7 +80,6 @@ impl Tree {
     pub fn walk(&self, place: usize) -> (Option<Row>, u32)
         ensures exact { result.0 ≡ slice_get self.now place }
         ensures entered { 0 < length self.now → 1 ≤ result.1 }
-        ensures deep { IfNone result.0 (bits (length self.now) ≤ 2 * result.1) }
         ensures visits { result.1 ≤ 2 * bits (length self.now) }
     {
         self.root.walk(place)
@@ -98,62 +89,31 @@ impl Tree {
     pub fn first_mandated(&self) -> (Option<Row>, u32)
         ensures exact { result.0 ≡ first_mandated self.now }
         ensures entered { 0 < length self.now → 1 ≤ result.1 }
-        ensures deep { IfNone result.0 (bits (length self.now) ≤ 2 * result.1) }
         ensures visits { result.1 ≤ 2 * bits (length self.now) }
     {
         self.root.first_mandated()
     }
 
-    /// The first row up to and with which the requests add up to more than `sum`, None where they never do.
-    pub fn passing(&self, sum: u64) -> (Option<Passing>, u32)
-        ensures some { IfSome result.0 (λ passing. IsPassing sum passing self.now) }
-        ensures none { IfNone result.0 (requests self.now ≤ sum) }
-        ensures entered { 0 < length self.now → 1 ≤ result.1 }
-        ensures deep { IfNone result.0 (bits (length self.now) ≤ 2 * result.1) }
-        ensures visits { result.1 ≤ 2 * bits (length self.now) }
+    /// All rows, for a walk in order that may pass over some: see [`Stretch`].
+    pub fn whole(&self) -> Stretch<'_>
+        ensures rows { result.0 ≡ self.now }
+        ensures height { result.1 ≤ 2 * bits (length self.now) }
+        ensures few { length self.now ≤ 1024 }
+        ensures newest_first { IsNewestFirst self.now }
     {
-        self.root.passing(sum)
+        Stretch {
+            side: &self.root,
+            requests: self.root.sum(),
+        }
     }
 
-    /// The sum of the requests of the rows before a place, which may lie beyond the end.
-    pub fn sum_to(&self, place: usize) -> (u64, u32)
-        ensures exact { result.0 ≡ requests (take place self.now) }
-        ensures entered { 0 < length self.now → 1 ≤ result.1 }
-        ensures deep { bits (length self.now) ≤ 2 * result.1 }
-        ensures visits { result.1 ≤ 2 * bits (length self.now) }
-    {
-        self.root.sum_to(place)
-    }
-
-    /// The place of the row with that stamp, None where no row has it.
-    pub fn place_of(&self, stamp: u32) -> (Option<usize>, u32)
-        ensures exact { result.0 ≡ place_of stamp self.now }
-        ensures none { IfNone result.0 (IsAbsent stamp self.now) }
-        ensures entered { 0 < length self.now → 1 ≤ result.1 }
-        ensures deep { IfNone result.0 (bits (length self.now) ≤ 2 * result.1) }
-        ensures visits { result.1 ≤ 2 * bits (length self.now) }
-    {
-        self.root.place_of(stamp)
-    }
-
-    /// All rows, newest first. Enters each node once. No rows take no memory.
-    pub fn rows(&self, alloc: Global) -> Result<(Vec<Row>, u32), AllocError>
-        ensures succeeds { length self.now ≡ 0 → IsOk result }
-        ensures exact { IfOk result (λ listed. listed.0.items ≡ self.now) }
-        ensures visits { IfOk result (λ listed. listed.1 ≡ length self.now) }
-    {
-        let mut rows = Vec::with_capacity(alloc, self.len())?;
-        let visits = self.root.list(&mut rows)?;
-        Ok((rows, visits))
-    }
-
-    /// Sets the request and the mandate of the row with that stamp, and leaves all others; nothing where no row has it.
+    /// Sets the request and the mandate of the row with that stamp, and leaves all others; nothing where no row has it. The
+    /// market calls `update`; this is for a caller that knows the stamp alone.
     pub fn set(&mut self, stamp: u32, request: u32, mandated: bool) -> u32
         requires request { request ≤ 65535 }
         ensures rows { self.new ≡ set_row stamp request mandated self.old }
         ensures newest_first { IsNewestFirst self.new }
         ensures entered { 0 < length self.old → 1 ≤ result }
-        ensures deep { IsAbsent stamp self.old → bits (length self.old) ≤ 2 * result }
         ensures visits { result ≤ 2 * bits (length self.old) }
     {
         self.root.set(stamp, request, mandated)
@@ -172,14 +132,13 @@ impl Tree {
         self.root.update(&row, request, mandated, 0)
     }
 
-    /// Adds a row. An error is want of memory, and leaves the rows as they were.
+    /// Adds a row. An error says that memory ran out, and leaves the rows as they were.
     pub fn insert(&mut self, alloc: Global, row: Row) -> Result<u32, AllocError>
         requires room { length self.old < 1024 }
         requires request { row.request ≤ 65535 }
         requires absent { IsAbsent row.stamp self.old }
         ensures rows { self.new ≡ (if is_ok result then insert_row row self.old else self.old) }
         ensures newest_first { OnOk result (IsNewestFirst self.new) }
-        ensures deep { IfOk result (λ visits. bits (length self.old) + 1 ≤ 2 * visits) }
         ensures visits { IfOk result (λ visits. (1 ≤ visits) × (visits ≤ 2 * bits (length self.old) + 1)) }
     {
         let node = Box::new(alloc, Node::new(row))?;
@@ -193,7 +152,6 @@ impl Tree {
         ensures rows { self.new ≡ insert_row (record taken { stamp = stamp }) self.old }
         ensures newest_first { IsNewestFirst self.new }
         ensures low { 1 ≤ result }
-        ensures deep { bits (length self.old) + 1 ≤ 2 * result }
         ensures visits { result ≤ 2 * bits (length self.old) + 1 }
     {
         let mut node = taken.node;
@@ -209,7 +167,6 @@ impl Tree {
         ensures absent { IsAbsent stamp self.new }
         ensures room { IfSome result.0 (λ _. length self.new < 1024) }
         ensures entered { 0 < length self.old → 1 ≤ result.1 }
-        ensures deep { bits (length self.old) ≤ 2 * result.1 }
         ensures visits { result.1 ≤ 2 * bits (length self.old) }
     {
         let (node, visits) = self.take(stamp);
@@ -228,11 +185,11 @@ impl Tree {
         ensures room { IfSome (row_of result.0) (λ _. length self.new < 1024) }
         ensures low { IfSome (row_of result.0) (λ row. row.request ≤ 65535) }
         ensures entered { 0 < length self.old → 1 ≤ result.1 }
-        ensures deep { bits (length self.old) ≤ 2 * result.1 }
         ensures visits { result.1 ≤ 2 * bits (length self.old) }
     {
         let root = mem::replace(&mut self.root, Side::new());
-        let (root, node, visits) = root.take(stamp);
+        let mut visits = 0;
+        let (root, node) = root.take(stamp, &mut visits);
         self.root = root;
         (node, visits)
     }
@@ -245,12 +202,11 @@ impl Tree {
         ensures rows { self.new ≡ insert_row node.value.row self.old }
         ensures newest_first { IsNewestFirst self.new }
         ensures low { 1 ≤ result }
-        ensures deep { bits (length self.old) + 1 ≤ 2 * result }
         ensures visits { result ≤ 2 * bits (length self.old) + 1 }
     {
         let root = mem::replace(&mut self.root, Side::new());
-        let (root, visits) = root.put(node);
-        self.root = root;
+        let mut visits = 0;
+        self.root = root.put(node, &mut visits);
         visits
     }
 }

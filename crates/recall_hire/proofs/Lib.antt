@@ -1,3 +1,5 @@
 mod Seats
-mod Staffings
 mod Tables
+pub mod Shares
+pub mod Searches
+pub mod Listings

@@ -1,2 +1,3 @@
 pub mod Crowds
 pub mod Staffed
+pub mod Shared

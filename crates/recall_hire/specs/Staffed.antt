@@ -1,12 +1,11 @@
 -- What arenas have of what they are allotted, in the order in which they are served.
-use Rattle.std.specs.Prelude.{◌≡◌, ℕ, ◌+◌, ◌-◌, ◌<◌, ◌≤◌, ◌==◌, nat_lt, if◌then◌else◌, List, [], ◌∷◌, map, Option, Some, slice_get, slice_index}
+use Rattle.std.specs.Prelude.{◌≡◌, ℕ, ◌+◌, ◌-◌, ◌==◌, nat_lt, if◌then◌else◌, List, [], ◌∷◌, map, Option, Some}
 use Rattle.std.specs.List.{filter, find}
 use Rattle.std.specs.Option.{option_map}
 use Rattle.market_types.specs.State.{State, Arena}
 use Rattle.market_types.specs.Counts.{Counts}
-use Rattle.market_types.specs.Allotment.{in_order, alloc, active, hire, need}
+use Rattle.market_types.specs.Allotment.{in_order, allotment_of, active, hire, need}
 use Rattle.recall_hire.specs.declared.rows.Staffing.{Staffing}
-use Rattle.recall_hire.specs.declared.rows.Next.{Next}
 
 -- how many workers a row has too many
 abbrev pub recall_in : Staffing → ℕ
@@ -39,26 +38,11 @@ above_zero_in count rows =
 abbrev pub counts_in : List Staffing → Counts
 counts_in rows = record { recalls = above_zero_in recall_in rows; hires = above_zero_in hire_in rows }
 
--- what the row at a place is allotted, and 0 after the last
-abbrev pub allotted_at : List Staffing → ℕ → ℕ
-allotted_at rows place = slice_index (map (λ (r : Staffing). r.allotted) rows) place
-
--- no row from one place on and before another is allotted a worker
-abbrev pub NoneAllotted : List Staffing → ℕ → ℕ → Type 0
-NoneAllotted rows from to = (place : ℕ) → from ≤ place → place < to → allotted_at rows place ≡ 0
-
--- the next row from a place on that is allotted a worker
-pub record IsNext (from : ℕ) (next : Next) (rows : List Staffing) : Type 0 where
-  pub not_behind : from ≤ next.place
-  pub row : slice_get rows next.place ≡ Some next.row
-  pub allotted : 0 < next.row.allotted
-  pub first : NoneAllotted rows from next.place
-
 -- ---- in a market
 
 -- the row of an arena
 abbrev pub row_of : State → Arena → Staffing
-row_of s a = record { arena = a.number; allotted = alloc s a.number; active = active s a.number }
+row_of s a = record { arena = a.number; allotted = allotment_of s a.number; active = active s a.number }
 
 -- the rows of arenas of a market
 abbrev pub rows_among : State → List Arena → List Staffing

@@ -37,6 +37,14 @@ pub fn size_of(crowds: &[Crowd], arena: ArenaId) -> u32
     }
 }
 
+/// How many seats are placed at any arena.
+pub fn total_of(crowds: &[Crowd]) -> u32
+    requires few { total_size crowds.now ≤ 64 }
+    ensures { result ≡ total_size crowds.now }
+{
+    crowds.iter().map(|crowd| crowd.size).sum()
+}
+
 /// One seat more at an arena.
 pub fn grow(crowds: &mut Vec<Crowd>, arena: ArenaId)
     requires kept { IsTable crowds.old.items }

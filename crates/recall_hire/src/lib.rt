@@ -1,15 +1,20 @@
-//! Who works where, and where workers are too many or too few. A roster says at which arena each seat is placed, and how
-//! many seats each arena has; rows set that beside what each arena is allotted.
+//! Who works where, and where workers are too many or too few. A [`Roster`] says at which arena each seat is placed, and
+//! how many seats each arena has. [`first_in_need`] and [`list`] walk through a level's arenas in order, with a carry that
+//! goes from each to the next, and set what an arena has beside what it is allotted.
 #![tactic(auto)]
 
 mod crowd;
-mod needs;
+mod lists;
 mod roster;
 mod rows;
+mod sharing;
+mod walk;
 
-pub use needs::{first_in_need, lists};
+pub use lists::list;
 pub use roster::Roster;
-pub use rows::{Next, Rows, Staffing, hire, recall};
+pub use rows::{Staffing, hire, recall};
+pub use sharing::Sharing;
+pub use walk::first_in_need;
 
 #[cfg(test)]
 mod tests;

@@ -1,9 +1,9 @@
 //! At which arena each seat is placed.
-ghost use Rattle.std.specs.Prelude.{◌≡◌, ◌≤◌, ◌<◌, None, Some, length, replicate, slice_get, slice_set, IfOk};
+ghost use Rattle.std.specs.Prelude.{◌≡◌, ◌≤◌, ◌<◌, None, Some, length, replicate, is_some, slice_get, slice_set, IfOk};
 ghost use Rattle.std.specs.List.{count_by};
 ghost use Rattle.market_types.specs.Allotment.{is_just};
 
-use crate::crowd::{Crowd, grow, shrink, size_of};
+use crate::crowd::{Crowd, grow, shrink, size_of, total_of};
 use market_types::{ArenaId, SeatNo};
 use std::alloc::{AllocError, Global};
 use std::marker::Model;
@@ -89,5 +89,13 @@ impl Roster {
         ensures few { result ≤ 64 }
     {
         size_of(&self.crowds, arena)
+    }
+
+    /// How many seats are placed. Looks at no more entries than there are seats.
+    pub fn placed(&self) -> u32
+        ensures exact { result ≡ count_by is_some self.now }
+        ensures few { result ≤ 64 }
+    {
+        total_of(&self.crowds)
     }
 }

@@ -1,44 +1,28 @@
 //! Rows worked out by hand.
-ghost use Rattle.std.specs.Prelude.{length};
+ghost use Rattle.std.specs.Prelude.{◌≡◌};
 
-use crate::{Next, Roster, Rows, Staffing, first_in_need, lists};
-use market_types::{ArenaId, SeatNo};
-use std::alloc::AllocError;
+use crate::{Roster, Sharing, first_in_need, list};
+use level_list::LevelList;
+use market_types::{ArenaId, Lists, Row, SeatNo};
+use std::alloc::{AllocError, Global};
 
-/// Rows as they stand.
-#[derive(Clone, Copy)]
-struct Table<'a> {
-    rows: &'a [Staffing],
-}
-
-impl Rows for Table<'_> {
-    ghost rows = { λ t. t.rows.now };
-
-    ghost most = { λ t. length t.rows.now };
-
-    fn len(&self) -> usize {
-        self.rows.len()
-    }
-
-    fn next_allotted(&self, place: usize) -> (Option<Next>, u32) {
-        let mut visits = 0_u32;
-        for next in place..self.rows.len() {
-            let row = self.rows[next];
-            visits = visits.saturating_add(1);
-            if row.allotted > 0 {
-                return (Some(Next { place: next, row }), visits);
-            }
-        }
-        (None, visits)
+/// The row of an arena with the number of its stamp.
+fn row(stamp: u32, request: u32) -> Row
+    ensures stamp { result.stamp ≡ stamp }
+    ensures request { result.request ≡ request }
+{
+    Row {
+        stamp,
+        arena: ArenaId::new(stamp),
+        request,
+        mandated: false,
     }
 }
 
-const fn row(arena: u32, allotted: u32, active: u32) -> Staffing {
-    Staffing {
-        arena: ArenaId::new(arena),
-        allotted,
-        active,
-    }
+/// The first arena in need of a level that is assigned so many workers, or all that it asks for.
+fn need(roster: &Roster, rows: &LevelList, workers: u64) -> (Option<ArenaId>, u32) {
+    let demand = rows.demand();
+    first_in_need(roster, &rows.whole(), workers.min(demand), demand)
 }
 
 #[test]
@@ -52,57 +36,80 @@ fn seats_are_counted_at_their_arenas(rt: HostRuntime) -> Result<(), AllocError> 
     assert_eq!(rt; roster.active(other), 0);
     roster.place(SeatNo::new(1), arena);
     assert_eq!(rt; roster.active(arena), 2);
+    assert_eq!(rt; roster.placed(), 2);
     assert_eq!(rt; roster.at(SeatNo::new(1)), Some(arena));
     assert_eq!(rt; roster.unplace(SeatNo::new(0)), Some(arena));
     assert_eq!(rt; roster.unplace(SeatNo::new(0)), None);
     assert_eq!(rt; roster.active(arena), 1);
+    assert_eq!(rt; roster.placed(), 1);
     roster.place(SeatNo::new(0), other);
     assert_eq!(rt; roster.active(other), 1);
+    assert_eq!(rt; roster.placed(), 2);
     Ok(())
+}
+
+/// Arenas 1, 2 and 3, which ask for 2, 5 and 1 workers.
+fn three_arenas(alloc: Global) -> Result<LevelList, AllocError> {
+    let mut rows = LevelList::new();
+    rows.push(alloc, row(1, 2))?;
+    rows.push(alloc, row(2, 5))?;
+    rows.push(alloc, row(3, 1))?;
+    Ok(rows)
+}
+
+/// Two seats, both at arena 3.
+fn two_placed(alloc: Global) -> Result<Roster, AllocError> {
+    let mut roster = Roster::new(alloc, 2)?;
+    roster.place(SeatNo::new(0), ArenaId::new(3));
+    roster.place(SeatNo::new(1), ArenaId::new(3));
+    Ok(roster)
+}
+
+#[test]
+fn a_worker_goes_to_the_first_arena_in_need(rt: HostRuntime) -> Result<(), AllocError> {
+    let roster = Roster::new(rt.alloc(), 2)?;
+    let rows = three_arenas(rt.alloc())?;
+    assert_eq!(rt; need(&roster, &LevelList::new(), 8), (None, 0));
+    assert_eq!(rt; need(&roster, &rows, 0), (None, 0));
+    assert_eq!(rt; need(&roster, &rows, 8), (Some(ArenaId::new(3)), 2));
+    let roster = two_placed(rt.alloc())?;
+    assert_eq!(rt; need(&roster, &rows, 8), (Some(ArenaId::new(2)), 2));
+    Ok(())
+}
+
+/// What is listed of the three arenas, where each is allotted all that it asks for, or one worker goes to arena 3.
+fn listed(alloc: Global, all: bool) -> Result<Lists, AllocError> {
+    let rows = three_arenas(alloc)?;
+    let roster = two_placed(alloc)?;
+    let mut lists = Lists {
+        recalls: Vec::new(alloc),
+        hires: Vec::new(alloc),
+    };
+    let demand = rows.demand();
+    let sharing = if all {
+        Sharing::Carried {
+            workers: demand,
+            demand,
+        }
+    } else {
+        Sharing::Picked {
+            arena: Some(ArenaId::new(3)),
+            workers: 1,
+        }
+    };
+    list(&roster, &rows.whole(), sharing, &mut lists)?;
+    Ok(lists)
 }
 
 #[test]
 fn counts_are_listed_in_order(rt: HostRuntime) -> Result<(), AllocError> {
-    let one = [row(1, 3, 1)];
-    let listed = lists(rt.alloc(), &one)?;
-    assert!(rt; listed.recalls.is_empty());
-    assert_eq!(rt; listed.hires.as_slice(), [(ArenaId::new(1), 2)].as_slice());
-    let four = [row(4, 0, 0), row(3, 1, 2), row(2, 5, 5), row(1, 2, 0)];
-    let listed = lists(rt.alloc(), &four)?;
-    assert_eq!(rt;
-        listed.recalls.as_slice(),
-        [(ArenaId::new(3), 1)].as_slice()
-    );
-    assert_eq!(rt; listed.hires.as_slice(), [(ArenaId::new(1), 2)].as_slice());
-    Ok(())
-}
-
-#[test]
-fn a_worker_goes_to_the_first_arena_in_need(rt: HostRuntime) {
-    let rows = [row(4, 0, 0), row(3, 1, 2), row(2, 5, 4), row(1, 2, 0)];
-    assert_eq!(rt;
-        first_in_need(&Table { rows: &rows }),
-        (Some(ArenaId::new(2)), 3)
-    );
-    assert_eq!(rt; first_in_need(&Table { rows: &rows[..2] }), (None, 2));
-    assert_eq!(rt; first_in_need(&Table { rows: &[] }), (None, 0));
-}
-
-/// A refused growth changes nothing: what is asked for again is what was due.
-#[test]
-fn refused_growth_changes_nothing(rt: HostRuntime) -> Result<(), AllocError> {
-    let mut roster = match Roster::new(rt.alloc(), 64) {
-        Ok(roster) => roster,
-        Err(_) => Roster::new(rt.alloc(), 64)?,
-    };
-    roster.place(SeatNo::new(63), ArenaId::new(1));
-    assert_eq!(rt; roster.active(ArenaId::new(1)), 1);
-    let rows = [row(1, 1, 2); 40];
-    let listed = match lists(rt.alloc(), &rows) {
-        Ok(listed) => listed,
-        Err(_) => lists(rt.alloc(), &rows)?,
-    };
-    assert_eq!(rt; listed.recalls.len(), 40);
-    assert!(rt; listed.hires.is_empty());
+    let third = [(ArenaId::new(3), 1)];
+    let others = [(ArenaId::new(2), 5), (ArenaId::new(1), 2)];
+    let lists = listed(rt.alloc(), true)?;
+    assert_eq!(rt; lists.recalls.as_slice(), third.as_slice());
+    assert_eq!(rt; lists.hires.as_slice(), others.as_slice());
+    let lists = listed(rt.alloc(), false)?;
+    assert_eq!(rt; lists.recalls.as_slice(), third.as_slice());
+    assert!(rt; lists.hires.is_empty());
     Ok(())
 }

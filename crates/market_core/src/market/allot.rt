@@ -1,20 +1,19 @@
 //! What the market allots.
 ghost use Rattle.std.specs.Prelude.{◌≡◌, ℕ, ◌+◌, ◌-◌, ◌*◌, ◌≤◌, ◌<◌, Some, None, IfSome, length, slice_get, option_map, slice_index, slice_index_or, ◌==◌, if◌then◌else◌};
-ghost use Rattle.market_types.specs.Allotment.{alloc, active, assigned, at_level, demand, is_top, limit_of};
+ghost use Rattle.market_types.specs.Allotment.{allotment_of, active, assigned, at_level, demand, is_top, limit_of};
 ghost use Rattle.market_types.specs.Step.{arena_at, view_of};
 ghost use Rattle.allotment.specs.Levels.{AreDemandsOf, ArePicksOf, IsLeveled, pick_of};
-ghost use Rattle.level_list.specs.Bits.{bits};
+ghost use Rattle.arena_store.specs.Bits.{bits};
 ghost use Rattle.market_core.specs.Divided.{IsDivisionOf};
 ghost use Rattle.market_core.specs.Visits.{extra_visits};
 ghost use Rattle.market_types.specs.State.{State};
 ghost use Rattle.market_types.specs.Claims.{request_of};
-ghost use Rattle.market_core.specs.Allotted.{IsWithin, level_alloc};
-ghost use Rattle.market_core.specs.Store.{IsKept};
+ghost use Rattle.market_core.specs.Allotted.{IsWithin, level_allotment};
 
 use super::Market;
 use crate::division::{Division, sum_of};
-use crate::row::ArenaRow;
 use allotment::{assign, bound_is_given_out, mandatory_pick, no_carry_to_keep, share, top_level};
+use arena_store::StoredArena;
 use market_types::{ArenaId, ArenaView, Level};
 use recall_hire::{hire, recall};
 
@@ -38,7 +37,9 @@ impl Market {
         let mut picks = [None; 8];
         let mut visits = 0;
         for place in 0..self.levels {
-            let (pick, more) = self.arenas.first_mandated(Level::at(place as usize));
+            let (pick, more) = self
+                .arenas
+                .first_mandated(Level::from_index(place as usize));
             picks[place as usize] = pick;
             visits += more;
         }
@@ -55,6 +56,7 @@ impl Market {
         ensures few { result.visits ≤ 176 }
     {
         bound_is_given_out();
+        self.arenas.stand_once();
         let limits = self.limits();
         let demands = self.demands();
         let bound = sum_of(&demands).min(u64::from(limits.effective)) as u32;
@@ -75,49 +77,44 @@ impl Market {
     }
 
     /// How many workers a living arena is allotted.
-    pub(super) fn allot(&self, row: ArenaRow, division: &Division) -> (u32, u32)
-        requires kept { IsKept self.now.arenas }
-        requires there { arena_at row.number self.now.arenas ≡ Some row }
+    pub(super) fn allotment_of(&self, stored: StoredArena, division: &Division) -> (u32, u32)
+        requires there { arena_at stored.number self.now.arenas ≡ Some stored }
         requires divided { IsDivisionOf self.now division.now }
-        ensures exact { result.0 ≡ alloc self.now row.number }
-        ensures entered { 0 < limit_of self.now → 0 < request_of row.claim → 1 ≤ result.1 }
+        ensures exact { result.0 ≡ allotment_of self.now stored.number }
+        ensures entered { 0 < limit_of self.now → 0 < request_of stored.claim → 1 ≤ result.1 }
         ensures visits { result.1 ≤ 2 * bits (length self.now.arenas) }
         ensures few { result.1 ≤ 22 }
-        ensures no_more_than_asked { result.0 ≤ request_of row.claim }
     {
-        let _ = &self.arenas;
         if division.limit == 0 {
-            return (division.picked_workers(row.arena()), 0);
+            return (division.picked_workers(stored.arena()), 0);
         }
         no_carry_to_keep();
-        let request = u64::from(row.claim().request());
+        let request = u64::from(stored.claim().request());
         if request == 0 {
             return (0, 0);
         }
-        let level = row.level().index();
-        let (before, visits) = self.arenas.before(row.level(), row.stamp());
+        let level = stored.level().index();
+        let (before, visits) = self.arenas.before(stored.level(), stored.stamp());
         let (given, asked) = (division.assigned[level], division.demands[level]);
         let workers = share(given, asked, before, request);
         (workers as u32, visits)
     }
 
     /// What is seen of a living arena.
-    pub(super) fn see(&self, row: ArenaRow) -> (ArenaView, u32)
-        requires kept { IsKept self.now.arenas }
-        requires there { arena_at row.number self.now.arenas ≡ Some row }
-        ensures exact { result.0 ≡ view_of self.now row }
-        ensures within { IsWithin self.now row }
-        ensures entered { 0 < request_of row.claim → 1 ≤ result.1 }
+    pub(super) fn view_of(&self, stored: StoredArena) -> (ArenaView, u32)
+        requires there { arena_at stored.number self.now.arenas ≡ Some stored }
+        ensures exact { result.0 ≡ view_of self.now stored }
+        ensures entered { 0 < request_of stored.claim → 1 ≤ result.1 }
         ensures visits { result.1 ≤ 2 * bits (length self.now.arenas) + extra_visits self.now }
     {
         let division = &self.divide();
-        let (allot, more) = self.allot(row, division);
-        let active = self.roster.active(row.arena());
+        let (allot, more) = self.allotment_of(stored, division);
+        let active = self.roster.active(stored.arena());
         let view = ArenaView {
-            arena: row.arena(),
-            request: row.claim().request(),
+            arena: stored.arena(),
+            request: stored.claim().request(),
             allot,
-            top: is_top(row, &division.demands),
+            top: is_top(stored, &division.demands),
             active,
             recall: recall(active, allot),
             hire: hire(active, allot),
@@ -131,19 +128,21 @@ impl Market {
         ensures exact { result ≡ option_map (view_of self.now) (arena_at arena self.now.arenas) }
         ensures within { IfSome (arena_at arena self.now.arenas) (IsWithin self.now) }
     {
-        let row = self.arenas.get(arena)?;
-        let (view, _) = self.see(row);
+        self.arenas_are_within();
+        let stored = self.arenas.get(arena)?;
+        let (view, _) = self.view_of(stored);
         Some(view)
     }
 
-    /// What is seen of the arena at a place, from 0 on, of a level; `None` beyond its last, and where the market has no such
+    /// What is seen of the arena at an index, from 0 on, of a level; `None` beyond its last, and where the market has no such
     /// level. It takes no memory.
-    pub fn row(&self, level: Level, place: usize) -> Option<ArenaView>
-        ensures exact { result ≡ option_map (view_of self.now) (slice_get (at_level level self.now.arenas) place) }
+    pub fn row(&self, level: Level, index: usize) -> Option<ArenaView>
+        ensures exact { result ≡ option_map (view_of self.now) (slice_get (at_level level self.now.arenas) index) }
+        ensures within { IfSome (slice_get (at_level level self.now.arenas) index) (IsWithin self.now) }
     {
-        let _ = self.arenas.len();
-        let row = self.arenas.nth_of(level, place)?;
-        let (view, _) = self.see(row);
+        self.arenas_are_within();
+        let stored = self.arenas.nth_of(level, index)?;
+        let (view, _) = self.view_of(stored);
         Some(view)
     }
 
@@ -157,10 +156,9 @@ impl Market {
     /// How many workers the arenas of a level are allotted together; 0 where the market has no such level. Where some
     /// worker may be active, it is what the level is assigned. It takes no memory.
     pub fn assigned(&self, level: Level) -> u64
-        ensures exact { result ≡ level_alloc self.now level }
+        ensures exact { result ≡ level_allotment self.now level }
         ensures assigned { 0 < limit_of self.now → result ≡ assigned self.now level }
     {
-        let _ = self.arenas.len();
         bound_is_given_out();
         no_carry_to_keep();
         let division = &self.divide();
@@ -171,35 +169,36 @@ impl Market {
             return 0;
         };
         match self.arenas.get(picked) {
-            Some(row) if row.level() == level => u64::from(division.bound),
+            Some(stored) if stored.level() == level => u64::from(division.bound),
             _ => 0,
         }
     }
 
     /// How many workers an arena is allotted; none where no living arena has this number.
-    pub(super) fn allotted(&self, arena: ArenaId) -> (u32, u32)
-        ensures exact { result.0 ≡ alloc self.now arena }
-        ensures entered { 0 < alloc self.now arena → 1 ≤ result.1 }
+    pub(super) fn allotment_by_number(&self, arena: ArenaId) -> (u32, u32)
+        ensures exact { result.0 ≡ allotment_of self.now arena }
+        ensures entered { 0 < allotment_of self.now arena → 1 ≤ result.1 }
         ensures visits { result.1 ≤ 2 * bits (length self.now.arenas) + extra_visits self.now }
     {
-        let Some(row) = self.arenas.get(arena) else {
+        self.arenas_are_within();
+        let Some(stored) = self.arenas.get(arena) else {
             return (0, 0);
         };
         let division = &self.divide();
-        let (allot, more) = self.allot(row, division);
+        let (allot, more) = self.allotment_of(stored, division);
         (allot, division.visits + more)
     }
 }
 
-/// The arena of the row is top priority.
-fn is_top(row: ArenaRow, demands: &[u64; 8]) -> bool
-    ensures { (s : State) → AreDemandsOf s demands.now → result ≡ is_top s row }
+/// The arena is top priority.
+fn is_top(stored: StoredArena, demands: &[u64; 8]) -> bool
+    ensures { (s : State) → AreDemandsOf s demands.now → result ≡ is_top s stored }
 {
-    if row.claim().request() == 0 {
+    if stored.claim().request() == 0 {
         return false;
     }
     match top_level(demands) {
-        Some(level) => level == row.level(),
+        Some(level) => level == stored.level(),
         None => false,
     }
 }

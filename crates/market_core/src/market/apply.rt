@@ -4,36 +4,33 @@ ghost use Rattle.market_types.specs.Step.{open_step, close_step, priority_step, 
 ghost use Rattle.market_types.specs.declared.command.Cmd.TheVariants.{Join};
 ghost use Rattle.market_types.specs.declared.reply.Reply.TheVariants.{Listed};
 ghost use Rattle.market_core.specs.Memory.{is_refusal, takes_memory};
-ghost use Rattle.market_core.specs.Allotted.{IsStaffed};
 ghost use Rattle.market_core.specs.Visits.{most_visits, most_listed, most_joined, least_visits, looks_in_order, lists_all};
 
 use super::Market;
-use crate::change::Change;
-use crate::row::ArenaRow;
-use crate::store::Arenas;
 use arena_record::ArenaRecord;
+use arena_store::{Arenas, Change, StoredArena};
 use market_types::{ArenaId, Cmd, ControlId, Fault, Level, Reply, SeatNo};
 use recall_hire::recall;
 use std::alloc::{AllocError, Global};
 
 /// The last number of an arena, and the last stamp.
-const LAST: u32 = 1_048_576;
+const LAST_NUMBER: u32 = 1_048_576;
 
 impl Market {
     /// Does what a seat asks, or refuses it: the first refusal that applies is the reply, and changes nothing. Only Open,
     /// Control and Lists can give an `Err`, where there is no memory for what no refusal stops, and after one the market is as
-    /// before. The seat is one that the market has. After a worker was placed its arena has no more than it is allotted, and after one was recalled
-    /// no fewer.
+    /// before. The seat is one that the market has.
+    ///
+    /// That an arena has no more workers than it is allotted after one was placed, no fewer after one was recalled, and that
+    /// no command changes the number of seats, are laws of the definitions: `placed_worker_is_allotted`, `seats_stay`.
     #[inline(always)]
     pub fn apply(&mut self, alloc: Global, seat: SeatNo, cmd: Cmd) -> Result<Reply, AllocError>
         requires seat { seat < length self.old.seats }
         ensures reply { IfOk result (λ reply. reply ≡ (step self.old seat cmd).0) }
-        ensures staffed { IfOk result (λ reply. IsStaffed reply self.new) }
         ensures next { OnOk result (self.new ≡ (step self.old seat cmd).1) }
         ensures unchanged { OnErr result (self.new ≡ self.old) }
         ensures no_memory { takes_memory cmd ≡ false → IsOk result }
         ensures memory_last { OnErr result (is_refusal (step self.old seat cmd).0 ≡ false) }
-        ensures same_seats { length self.new.seats ≡ length self.old.seats }
     {
         let (reply, _visits) = self.apply_counted(alloc, seat, cmd)?;
         Ok(reply)
@@ -54,32 +51,10 @@ impl Market {
     ) -> Result<(Reply, u64), AllocError>
         requires seat { seat < length self.old.seats }
         ensures reply { IfOk result (λ answer. answer.0 ≡ (step self.old seat cmd).0) }
-        ensures staffed { IfOk result (λ answer. IsStaffed answer.0 self.new) }
         ensures next { OnOk result (self.new ≡ (step self.old seat cmd).1) }
         ensures unchanged { OnErr result (self.new ≡ self.old) }
         ensures no_memory { takes_memory cmd ≡ false → IsOk result }
         ensures memory_last { OnErr result (is_refusal (step self.old seat cmd).0 ≡ false) }
-        ensures same_seats { length self.new.seats ≡ length self.old.seats }
-        ensures entered { IfOk result (λ answer. least_visits self.old answer.0 ≤ answer.1) }
-        ensures visits { looks_in_order cmd ≡ false → IfOk result (λ answer. answer.1 ≤ most_visits self.old) }
-        ensures listed { lists_all cmd ≡ true → IfOk result (λ answer. answer.1 ≤ most_listed self.old) }
-        ensures joined { cmd ≡ Join → IfOk result (λ answer. answer.1 ≤ most_joined self.old) }
-    {
-        let (reply, visits) = self.serve(alloc, seat, cmd)?;
-        Ok((reply, u64::from(visits)))
-    }
-
-    /// The command's own function. A caller that knows the command keeps its arm alone, since all three are inlined.
-    #[inline(always)]
-    fn serve(&mut self, alloc: Global, seat: SeatNo, cmd: Cmd) -> Result<(Reply, u32), AllocError>
-        requires seat { seat < length self.old.seats }
-        ensures reply { IfOk result (λ answer. answer.0 ≡ (step self.old seat cmd).0) }
-        ensures staffed { IfOk result (λ answer. IsStaffed answer.0 self.new) }
-        ensures next { OnOk result (self.new ≡ (step self.old seat cmd).1) }
-        ensures unchanged { OnErr result (self.new ≡ self.old) }
-        ensures no_memory { takes_memory cmd ≡ false → IsOk result }
-        ensures memory_last { OnErr result (is_refusal (step self.old seat cmd).0 ≡ false) }
-        ensures same_seats { length self.new.seats ≡ length self.old.seats }
         ensures entered { IfOk result (λ answer. least_visits self.old answer.0 ≤ answer.1) }
         ensures visits { looks_in_order cmd ≡ false → IfOk result (λ answer. answer.1 ≤ most_visits self.old) }
         ensures listed { lists_all cmd ≡ true → IfOk result (λ answer. answer.1 ≤ most_listed self.old) }
@@ -109,11 +84,9 @@ impl Market {
         slots: u32,
         reserved: u32,
         level: Level,
-    ) -> Result<(Reply, u32), AllocError>
+    ) -> Result<(Reply, u64), AllocError>
         ensures reply { IfOk result (λ answer. answer.0 ≡ (open_step self.old slots reserved level).0) }
-        ensures staffed { IfOk result (λ answer. IsStaffed answer.0 self.new) }
         ensures next { OnOk result (self.new ≡ (open_step self.old slots reserved level).1) }
-        ensures same_seats { length self.new.seats ≡ length self.old.seats }
         ensures unchanged { OnErr result (self.new ≡ self.old) }
         ensures memory_last { OnErr result (is_refusal (open_step self.old slots reserved level).0 ≡ false) }
         ensures entered { IfOk result (λ answer. least_visits self.old answer.0 ≤ answer.1) }
@@ -126,29 +99,27 @@ impl Market {
         if level.get() > self.levels {
             return Ok((Reply::Refused(Fault::BadLevel), 0));
         }
-        if self.arenas.len() >= Arenas::MOST {
+        if self.arenas.len() >= Arenas::MOST_ARENAS {
             return Ok((Reply::Refused(Fault::TooManyArenas), 0));
         }
-        if self.next_arena > LAST {
+        if self.next_arena > LAST_NUMBER {
             return Ok((Reply::Refused(Fault::OutOfNumbers), 0));
         }
-        if self.next_stamp > LAST {
+        if self.next_stamp > LAST_NUMBER {
             return Ok((Reply::Refused(Fault::OutOfNumbers), 0));
         }
         let arena = ArenaId::new(self.next_arena);
-        let row = ArenaRow::new(arena, self.next_stamp, level, claim);
-        let visits = self.arenas.push(alloc, row)?;
+        let stored = StoredArena::new(arena, self.next_stamp, level, claim);
+        let visits = self.arenas.push(alloc, stored)?;
         self.next_arena += 1;
         self.next_stamp += 1;
-        Ok((Reply::Opened(arena), visits))
+        Ok((Reply::Opened(arena), u64::from(visits)))
     }
 
     /// The arena goes, unless a seat is placed at it.
-    fn close(&mut self, arena: ArenaId) -> (Reply, u32)
+    fn close(&mut self, arena: ArenaId) -> (Reply, u64)
         ensures reply { result.0 ≡ (close_step self.old arena).0 }
-        ensures staffed { IsStaffed result.0 self.new }
         ensures next { self.new ≡ (close_step self.old arena).1 }
-        ensures same_seats { length self.new.seats ≡ length self.old.seats }
         ensures entered { least_visits self.old result.0 ≤ result.1 }
         ensures visits { result.1 ≤ most_visits self.old }
     {
@@ -160,24 +131,22 @@ impl Market {
             };
         }
         match self.arenas.remove(arena) {
-            Some(visits) => (Reply::Closed, visits),
+            Some(visits) => (Reply::Closed, u64::from(visits)),
             None => (Reply::Refused(Fault::NoArena), 0),
         }
     }
 
     /// The arena goes first, at this level.
-    fn priority(&mut self, arena: ArenaId, level: Level) -> (Reply, u32)
+    fn priority(&mut self, arena: ArenaId, level: Level) -> (Reply, u64)
         ensures reply { result.0 ≡ (priority_step self.old arena level).0 }
-        ensures staffed { IsStaffed result.0 self.new }
         ensures next { self.new ≡ (priority_step self.old arena level).1 }
-        ensures same_seats { length self.new.seats ≡ length self.old.seats }
         ensures entered { least_visits self.old result.0 ≤ result.1 }
         ensures visits { result.1 ≤ most_visits self.old }
     {
         if self.levels < level.get() {
             return (Reply::Refused(Fault::BadLevel), 0);
         }
-        if self.next_stamp > LAST {
+        if self.next_stamp > LAST_NUMBER {
             return match self.arenas.get(arena) {
                 Some(_) => (Reply::Refused(Fault::OutOfNumbers), 0),
                 None => (Reply::Refused(Fault::NoArena), 0),
@@ -187,15 +156,13 @@ impl Market {
             return (Reply::Refused(Fault::NoArena), 0);
         };
         self.next_stamp += 1;
-        (Reply::Moved, visits)
+        (Reply::Moved, u64::from(visits))
     }
 
     /// The arena gets other slots, at its place.
-    fn resize(&mut self, arena: ArenaId, slots: u32, reserved: u32) -> (Reply, u32)
+    fn resize(&mut self, arena: ArenaId, slots: u32, reserved: u32) -> (Reply, u64)
         ensures reply { result.0 ≡ (resize_step self.old arena slots reserved).0 }
-        ensures staffed { IsStaffed result.0 self.new }
         ensures next { self.new ≡ (resize_step self.old arena slots reserved).1 }
-        ensures same_seats { length self.new.seats ≡ length self.old.seats }
         ensures entered { least_visits self.old result.0 ≤ result.1 }
         ensures visits { result.1 ≤ most_visits self.old }
     {
@@ -203,22 +170,20 @@ impl Market {
             return (Reply::Refused(fault), 0);
         }
         match self.arenas.change(arena, Change::Resize(slots, reserved)) {
-            Ok((claim, visits)) => (Reply::Resized(claim.request()), visits),
+            Ok((claim, visits)) => (Reply::Resized(claim.request()), u64::from(visits)),
             Err(fault) => (Reply::Refused(fault), 0),
         }
     }
 
     /// Adds to what the arena asks for.
-    fn request(&mut self, arena: ArenaId, workers: i32, mandatory: i32) -> (Reply, u32)
+    fn request(&mut self, arena: ArenaId, workers: i32, mandatory: i32) -> (Reply, u64)
         ensures reply { result.0 ≡ (request_step self.old arena workers mandatory).0 }
-        ensures staffed { IsStaffed result.0 self.new }
         ensures next { self.new ≡ (request_step self.old arena workers mandatory).1 }
-        ensures same_seats { length self.new.seats ≡ length self.old.seats }
         ensures entered { least_visits self.old result.0 ≤ result.1 }
         ensures visits { result.1 ≤ most_visits self.old }
     {
         match self.arenas.change(arena, Change::Add(workers, mandatory)) {
-            Ok((claim, visits)) => (Reply::Requested(claim.request()), visits),
+            Ok((claim, visits)) => (Reply::Requested(claim.request()), u64::from(visits)),
             Err(fault) => (Reply::Refused(fault), 0),
         }
     }
@@ -226,9 +191,7 @@ impl Market {
     /// A new limit on parallelism.
     fn control(&mut self, value: u32) -> Result<Reply, AllocError>
         ensures reply { IfOk result (λ reply. reply ≡ (control_step self.old value).0) }
-        ensures staffed { IfOk result (λ reply. IsStaffed reply self.new) }
         ensures next { OnOk result (self.new ≡ (control_step self.old value).1) }
-        ensures same_seats { length self.new.seats ≡ length self.old.seats }
         ensures unchanged { OnErr result (self.new ≡ self.old) }
         ensures memory_last { OnErr result (is_refusal (control_step self.old value).0 ≡ false) }
     {
@@ -242,9 +205,7 @@ impl Market {
     /// The control goes.
     fn uncontrol(&mut self, control: ControlId) -> Reply
         ensures reply { result ≡ (uncontrol_step self.old control).0 }
-        ensures staffed { IsStaffed result self.new }
         ensures next { self.new ≡ (uncontrol_step self.old control).1 }
-        ensures same_seats { length self.new.seats ≡ length self.old.seats }
     {
         match self.controls.remove(control) {
             Ok(()) => Reply::Uncontrolled,
@@ -253,54 +214,48 @@ impl Market {
     }
 
     /// An unplaced seat goes to the first arena in need of a worker.
-    fn join(&mut self, seat: SeatNo) -> (Reply, u32)
+    fn join(&mut self, seat: SeatNo) -> (Reply, u64)
         requires seat { seat < length self.old.seats }
         ensures reply { result.0 ≡ (join_from self.old seat (place_of self.old seat)).0 }
         ensures entered { least_visits self.old result.0 ≤ result.1 }
         ensures joined { result.1 ≤ most_joined self.old }
-        ensures staffed { IsStaffed result.0 self.new }
         ensures next { self.new ≡ (join_from self.old seat (place_of self.old seat)).1 }
-        ensures same_seats { length self.new.seats ≡ length self.old.seats }
     {
         if let Some(arena) = self.roster.at(seat) {
             return (Reply::Refused(Fault::AlreadyPlaced(arena)), 0);
         }
-        let (arena, visits) = self.in_need();
+        let (arena, visits) = self.first_in_need();
         let Some(arena) = arena else {
-            return (Reply::Idle, visits);
+            return (Reply::Idle, u64::from(visits));
         };
         self.roster.place(seat, arena);
-        (Reply::Placed(arena), visits)
+        (Reply::Placed(arena), u64::from(visits))
     }
 
     /// The seat stays at its arena, unless that has a worker too many.
-    fn stay(&mut self, seat: SeatNo) -> (Reply, u32)
+    fn stay(&mut self, seat: SeatNo) -> (Reply, u64)
         requires seat { seat < length self.old.seats }
         ensures reply { result.0 ≡ (stay_from self.old seat (place_of self.old seat)).0 }
-        ensures staffed { IsStaffed result.0 self.new }
         ensures next { self.new ≡ (stay_from self.old seat (place_of self.old seat)).1 }
-        ensures same_seats { length self.new.seats ≡ length self.old.seats }
         ensures entered { least_visits self.old result.0 ≤ result.1 }
         ensures visits { result.1 ≤ most_visits self.old }
     {
         let Some(arena) = self.roster.at(seat) else {
             return (Reply::Refused(Fault::NotPlaced), 0);
         };
-        let (allotted, visits) = self.allotted(arena);
+        let (allotted, visits) = self.allotment_by_number(arena);
         if recall(self.roster.active(arena), allotted) == 0 {
-            return (Reply::Stays(arena), visits);
+            return (Reply::Stays(arena), u64::from(visits));
         }
         self.roster.unplace(seat);
-        (Reply::Recalled(arena), visits)
+        (Reply::Recalled(arena), u64::from(visits))
     }
 
     /// The seat leaves its arena.
     fn leave(&mut self, seat: SeatNo) -> Reply
         requires seat { seat < length self.old.seats }
         ensures reply { result ≡ (leave_from self.old seat (place_of self.old seat)).0 }
-        ensures staffed { IsStaffed result self.new }
         ensures next { self.new ≡ (leave_from self.old seat (place_of self.old seat)).1 }
-        ensures same_seats { length self.new.seats ≡ length self.old.seats }
     {
         let Some(arena) = self.roster.at(seat) else {
             return Reply::Refused(Fault::NotPlaced);
@@ -310,27 +265,25 @@ impl Market {
     }
 
     /// What is seen of an arena, or that there is none.
-    fn show(&self, arena: ArenaId) -> (Reply, u32)
+    fn show(&self, arena: ArenaId) -> (Reply, u64)
         ensures reply { result.0 ≡ (show_step self.now arena).0 }
-        ensures staffed { IsStaffed result.0 self.now }
         ensures entered { least_visits self.now result.0 ≤ result.1 }
         ensures visits { result.1 ≤ most_visits self.now }
     {
-        let Some(row) = self.arenas.get(arena) else {
+        let Some(stored) = self.arenas.get(arena) else {
             return (Reply::Refused(Fault::NoArena), 0);
         };
-        let (view, visits) = self.see(row);
-        (Reply::Shown(view), visits)
+        let (view, visits) = self.view_of(stored);
+        (Reply::Shown(view), u64::from(visits))
     }
 
     /// The arenas with workers too many, and those with too few.
-    fn list(&self, alloc: Global) -> Result<(Reply, u32), AllocError>
+    fn list(&self, alloc: Global) -> Result<(Reply, u64), AllocError>
         ensures reply { IfOk result (λ answer. answer.0 ≡ Listed (counts_of self.now)) }
-        ensures staffed { IfOk result (λ answer. IsStaffed answer.0 self.now) }
         ensures entered { IfOk result (λ answer. least_visits self.now answer.0 ≤ answer.1) }
         ensures listed { IfOk result (λ answer. answer.1 ≤ most_listed self.now) }
     {
         let (lists, visits) = self.lists(alloc)?;
-        Ok((Reply::Listed(lists), visits))
+        Ok((Reply::Listed(lists), u64::from(visits)))
     }
 }

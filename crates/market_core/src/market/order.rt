@@ -1,89 +1,21 @@
 //! The arenas in the order in which they are served, beside what they are allotted and have.
-ghost use Rattle.std.specs.Prelude.{◌≡◌, ◌<◌, ◌≤◌, ◌++◌, length, IfOk, OnOk, IfSome, IfNone};
-ghost use Rattle.market_types.specs.Allotment.{alloc, at_level, in_order, limit_of};
+ghost use Rattle.std.specs.Prelude.{◌≡◌, ◌*◌, ◌≤◌, length, IfOk, OnOk, IfSome};
+ghost use Rattle.market_types.specs.Allotment.{at_level, in_order, limit_of};
 ghost use Rattle.market_types.specs.Step.{counts_of};
-ghost use Rattle.recall_hire.specs.Staffed.{IsNext, NoneAllotted, need_of};
+ghost use Rattle.recall_hire.specs.Staffed.{need_among, need_of, searches};
+ghost use Rattle.recall_hire.specs.Shared.{IsListed};
+ghost use Rattle.arena_store.specs.Bits.{bits};
 ghost use Rattle.market_core.specs.Divided.{IsDivisionOf, IsSharedAt, rows_at};
-ghost use Rattle.market_core.specs.Store.{IsEntry};
 ghost use Rattle.market_core.specs.Visits.{most_joined, most_listed, searched};
 
 use super::Market;
 use crate::division::Division;
-use allotment::{no_carry_to_keep, share, sum_before_next};
-use market_types::{ArenaId, Level, Lists, Row};
-use recall_hire::{Next, Rows, Staffing, first_in_need, hire, lists};
+use allotment::no_carry_to_keep;
+use market_types::{ArenaId, Level, Lists};
+use recall_hire::{first_in_need, hire, list};
 use std::alloc::{AllocError, Global};
 
-/// A level's arenas in order where some worker may be active, and how the market's workers are divided.
-#[derive(Drop)]
-struct LevelOrder<'a> {
-    market: &'a Market,
-    division: &'a Division,
-    level: Level,
-    ghost shared: { IsSharedAt level market.now division.now },
-}
-
-impl Rows for LevelOrder<'_> {
-    ghost rows = { λ o. rows_at o.market.now o.level };
-
-    ghost most = { λ _. 44 };
-
-    fn len(&self) -> usize {
-        self.market.count_at(self.level)
-    }
-
-    fn next_allotted(&self, place: usize) -> (Option<Next>, u32) {
-        self.market.next_at(self.division, self.level, place)
-    }
-}
-
 impl Market {
-    /// How many arenas a level has.
-    fn count_at(&self, level: Level) -> usize
-        ensures { result ≡ length (rows_at self.now level) }
-    {
-        self.arenas.count(level)
-    }
-
-    /// The first arena from a place of a level on that is allotted a worker. Goes down the level's tree twice, and walks over
-    /// no arena on the way.
-    fn next_at(&self, division: &Division, level: Level, place: usize) -> (Option<Next>, u32)
-        requires shared { IsSharedAt level self.now division.now }
-        ensures found { IfSome result.0 (λ next. IsNext place next (rows_at self.now level)) }
-        ensures none { IfNone result.0 (NoneAllotted (rows_at self.now level) place (length (rows_at self.now level))) }
-        ensures entered { IfSome result.0 (λ _. 2 ≤ result.1) }
-        ensures few { result.1 ≤ 44 }
-    {
-        no_carry_to_keep();
-        let _ = self.arenas.len();
-        let _ = self.levels;
-        let at = level.index();
-        let (given, asked) = (division.assigned[at], division.demands[at]);
-        if given == 0 {
-            return (None, 0);
-        }
-        let (before, first) = self.arenas.sum_to(level, place);
-        let sum = sum_before_next(given, asked, before);
-        let (passing, more) = self.arenas.passing(level, sum);
-        let visits = first + more;
-        let Some(passing) = passing else {
-            return (None, visits);
-        };
-        let asking = passing.row;
-        let workers = share(given, asked, passing.before, u64::from(asking.request));
-        let active = self.roster.active(asking.arena);
-        let row = Staffing {
-            arena: asking.arena,
-            allotted: workers as u32,
-            active,
-        };
-        let next = Next {
-            place: passing.place,
-            row,
-        };
-        (Some(next), visits)
-    }
-
     /// The arena whose enqueued work is served, where it is allotted more workers than it has.
     fn picked_in_need(&self, division: &Division) -> Option<ArenaId>
         requires divided { IsDivisionOf self.now division.now }
@@ -99,7 +31,7 @@ impl Market {
     }
 
     /// The first arena in order that is allotted more workers than it has.
-    pub(super) fn in_need(&self) -> (Option<ArenaId>, u32)
+    pub(super) fn first_in_need(&self) -> (Option<ArenaId>, u32)
         ensures exact { result.0 ≡ need_of self.now }
         ensures entered { IfSome result.0 (λ _. 1 ≤ result.1) }
         ensures every_search { searched self.now ≤ result.1 }
@@ -112,12 +44,8 @@ impl Market {
             return (self.picked_in_need(division), visits);
         }
         for level in 0..levels {
-            let (found, more) = first_in_need(&LevelOrder {
-                market: self,
-                division,
-                level: Level::at(level as usize),
-            });
-            visits = visits.saturating_add(more);
+            let (found, more) = self.in_need_at(division, Level::from_index(level as usize));
+            visits += more;
             if found.is_some() {
                 return (found, visits);
             }
@@ -125,54 +53,41 @@ impl Market {
         (None, visits)
     }
 
-    /// How many workers the arena of an entry of a level is allotted, where the arenas before it there ask for `before`.
-    fn allot_entry(&self, division: &Division, level: Level, entry: Row, before: u64) -> u32
-        requires divided { IsDivisionOf self.now division.now }
-        requires high { level ≤ self.now.levels }
-        requires there { IsEntry before entry (at_level level self.now.arenas) }
-        ensures { result ≡ alloc self.now entry.arena }
+    /// The first arena of a level that is allotted more workers than it has, where some worker may be active.
+    fn in_need_at(&self, division: &Division, level: Level) -> (Option<ArenaId>, u32)
+        requires shared { IsSharedAt level self.now division.now }
+        ensures exact { result.0 ≡ need_among self.now (at_level level self.now.arenas) }
+        ensures looked { searches (rows_at self.now level) ≤ result.1 }
+        ensures once { result.1 ≤ length (rows_at self.now level) }
+        ensures most { result.1 ≤ searches (rows_at self.now level) * (2 * bits (length self.now.arenas)) }
+        ensures few { length self.now.arenas ≤ 1024 }
     {
-        let _ = self.arenas.len();
-        if division.limit == 0 {
-            return division.picked_workers(entry.arena);
-        }
         no_carry_to_keep();
-        if entry.request == 0 {
-            return 0;
-        }
         let at = level.index();
         let (given, asked) = (division.assigned[at], division.demands[at]);
-        share(given, asked, before, u64::from(entry.request)) as u32
+        first_in_need(&self.roster, &self.arenas.whole(level), given, asked)
     }
 
-    /// Puts the rows of a level at the end of others, in one pass over its arenas.
-    fn add_rows(
+    /// Puts a level's arenas at the end of lists, each with how many workers it has too many or too few.
+    fn list_level(
         &self,
-        alloc: Global,
         division: &Division,
         level: Level,
-        rows: &mut Vec<Staffing>,
+        lists: &mut Lists,
     ) -> Result<u32, AllocError>
         requires divided { IsDivisionOf self.now division.now }
         requires high { level ≤ self.now.levels }
-        ensures rows { OnOk result (rows.new.items ≡ rows.old.items ++ rows_at self.now level) }
+        ensures listed { OnOk result (IsListed (rows_at self.now level) lists.old lists.new) }
         ensures visits { IfOk result (λ visits. visits ≡ length (rows_at self.now level)) }
+        ensures few { length self.now.arenas ≤ 1024 }
     {
-        let _ = self.levels;
-        let (entries, visits) = self.arenas.entries(alloc, level)?;
-        let mut before = 0;
-        for place in 0..entries.len() {
-            let entry = entries[place];
-            let (arena, request) = (entry.arena, entry.request);
-            let row = Staffing {
-                arena,
-                allotted: self.allot_entry(division, level, entry, before),
-                active: self.roster.active(arena),
-            };
-            rows.push(row)?;
-            before += u64::from(request);
-        }
-        Ok(visits)
+        no_carry_to_keep();
+        list(
+            &self.roster,
+            &self.arenas.whole(level),
+            division.sharing(level),
+            lists,
+        )
     }
 
     /// The arenas with workers too many, and those with too few.
@@ -183,11 +98,13 @@ impl Market {
     {
         let division = &self.divide();
         let mut visits = division.visits;
-        let mut rows = Vec::with_capacity(alloc, self.arenas.len())?;
+        let mut lists = Lists {
+            recalls: Vec::new(alloc),
+            hires: Vec::new(alloc),
+        };
         for level in 0..self.levels {
-            let more = self.add_rows(alloc, division, Level::at(level as usize), &mut rows)?;
-            visits = visits.saturating_add(more);
+            visits += self.list_level(division, Level::from_index(level as usize), &mut lists)?;
         }
-        Ok((lists(alloc, &rows)?, visits))
+        Ok((lists, visits))
     }
 }

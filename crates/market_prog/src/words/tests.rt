@@ -37,7 +37,7 @@ fn options_are_read_or_default(rt: HostRuntime) {
 
 #[test]
 fn help_is_no_mistake(rt: HostRuntime) {
-    let lines: [(&[&str], i32, &str); 5] = [
+    let lines: [(&[&str], i32, &str); 6] = [
         (&["market"], 2, "Usage: market <COMMAND>"),
         (
             &["market", "fly"],
@@ -46,6 +46,7 @@ fn help_is_no_mistake(rt: HostRuntime) {
         ),
         (&["market", "run", "--seats=65"], 2, "65 is not in 1..=64"),
         (&["market", "--help"], 0, "Exit status:"),
+        (&["market", "--version"], 0, "market 0.1.0"),
         (
             &["market", "run", "--help"],
             0,

@@ -6,7 +6,7 @@ use Rattle.allotment.proofs.level.top_level.Goals as goal
 
 pub returns-then-demands-i-gt0-clause-in_market : goal.returns-then-demands-i-gt0-clause-in_market
 returns-then-demands-i-gt0-clause-in_market c = λ s padded.
-    let first : Some c.at.result ≡ first_demand c.args.demands.now = grind (arith, common_steps) in
+    let first : Some c.from_index.result ≡ first_demand c.args.demands.now = grind (arith, common_steps) in
     first ∙ top_level-padded s c.args.demands.now padded
 
 pub returns-clause-in_market : goal.returns-clause-in_market

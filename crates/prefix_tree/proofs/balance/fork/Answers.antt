@@ -1,5 +1,5 @@
 use Rattle.std.proofs.Common.{arith, ◌≡◌, max}
-use Rattle.prefix_tree.proofs.Heights.{filled_node, room_node}
+use Rattle.prefix_tree.proofs.Heights.{filled_node}
 use Rattle.prefix_tree.proofs.Readings.{mandates-le, length-node, requests-node, mandates-node}
 use Rattle.prefix_tree.proofs.balance.fork.Goals as goal
 
@@ -36,6 +36,4 @@ returns-clause-filled c =
     record {
       least = rw (e, length-node c.args.left.0 c.args.node.value.row c.args.right.0, m)
           (filled_node c.args.left.1 c.args.right.1 _ _ c.requires.near.left c.requires.near.right c.requires.joins.filled_left.least c.requires.joins.filled_right.least);
-      most = rw (e, length-node c.args.left.0 c.args.node.value.row c.args.right.0, m)
-          (room_node c.args.left.1 c.args.right.1 _ _ c.requires.joins.filled_left.most c.requires.joins.filled_right.most);
     }

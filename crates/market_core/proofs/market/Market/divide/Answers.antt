@@ -1,6 +1,8 @@
-use Rattle.std.proofs.Common.{ap, min, ◌≡◌, ◌∙◌, Option, ℕ}
+use Rattle.std.proofs.Common.{ap, subst, min, ◌≡◌, ◌∙◌, Option, ℕ}
+use Rattle.market_types.specs.State.{State}
 use Rattle.market_types.specs.Allotment.{bound_of, limit_of, effective_limit_of, total_request}
 use Rattle.market_types.specs.declared.reply.LimitView.{LimitView}
+use Rattle.arena_store.specs.Arenas.{StandOnce}
 use Rattle.market_core.proofs.market.Market.divide.Goals as goal
 use Rattle.market_core.proofs.market.Market.divide.Goals.{then-limits-eq0, else-limits-eq0}
 
@@ -12,6 +14,8 @@ returns-clause-exact c =
     let total : c.sum_of.result ≡ total_request s.arenas = c.sum_of.ensures.exact ∙ c.bound_is_given_out.ensures.asked s c.demands-demands.result c.demands-demands.ensures.leveled c.demands-demands.ensures.exact in
     let bound : c.min-bound.result ≡ bound_of s = c.min-bound.ensures ∙ ap (λ n. min n c.from.result) total ∙ ap (λ n. min (total_request s.arenas) n) (c.from.ensures ∙ effective) in
     record {
+      once = subst (λ (t : State). StandOnce t.arenas) c.self.view_is c.stand_once.ensures;
+      leveled = c.demands-demands.ensures.leveled;
       limit = limit;
       bound = bound;
       demands = c.demands-demands.ensures.exact;

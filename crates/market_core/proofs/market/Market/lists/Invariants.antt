@@ -1,14 +1,19 @@
-use Rattle.std.proofs.Common.{◌≡◌, ◌+◌, ◌-◌, ◌≤◌, ◌++◌, length, min}
-use Rattle.recall_hire.specs.Staffed.{rows_among, rows_of}
+use Rattle.std.proofs.Common.{◌+◌, ◌-◌, ◌≤◌, length}
+use Rattle.market_types.specs.Allotment.{in_order}
+use Rattle.market_types.specs.Step.{counts_of}
+use Rattle.recall_hire.specs.Shared.{IsListed}
+use Rattle.recall_hire.specs.Staffed.{rows_among}
 use Rattle.market_core.specs.Visits.{extra_visits}
 use Rattle.market_core.proofs.Order.{levels_from}
 use Rattle.market_core.proofs.market.Market.lists.Given as goal
 
--- the rows so far, each of which was entered, and those of the levels to come
+-- the lists so far lack the rows of the levels to come, and each row so far was entered
 abbrev pub invariant-loop-level : goal.invariant-loop-level
 invariant-loop-level l =
+    let coming = levels_from (l.level + 1) (l.self.levels - l.level) l.self.arenas in
     record {
-      rows : l.rows.items ++ rows_among l.self (levels_from (l.level + 1) (l.self.levels - l.level) l.self.arenas) ≡ rows_of l.self;
-      entered : min (length l.rows.items) 4294967295 ≤ l.visits;
-      visits : l.visits ≤ length l.rows.items + extra_visits l.self;
+      listed : IsListed (rows_among l.self coming) l.lists (counts_of l.self);
+      entered : length (in_order l.self) ≤ l.visits + length coming;
+      visits : l.visits + length coming ≤ length l.self.arenas + extra_visits l.self;
+      few : l.visits + length coming ≤ length l.self.arenas + 176;
     }

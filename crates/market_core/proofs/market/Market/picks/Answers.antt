@@ -1,7 +1,7 @@
 use Rattle.std.proofs.Common.{arith, ap, ◌≡◌}
 use Rattle.market_types.specs.State.{State}
 use Rattle.market_core.specs.Sound.{IsSound}
-use Rattle.market_core.proofs.Found.{some-level}
+use Rattle.market_core.proofs.Numbers.{some-level}
 use Rattle.market_core.proofs.market.Market.picks.Goals as goal
 
 pub returns-clause-entered : goal.returns-clause-entered

@@ -4,7 +4,7 @@ use Rattle.market_types.specs.State.{Arena}
 use Rattle.market_types.specs.Claims.{is_mandated}
 use Rattle.market_types.specs.Allotment.{at_level}
 use Rattle.allotment.specs.Levels.{number_of}
-use Rattle.level_list.specs.Bits.{bits}
+use Rattle.arena_store.specs.Bits.{bits}
 use Rattle.market_core.proofs.market.Market.picks.Given as goal
 
 -- the levels so far have their picks, and there is none above them

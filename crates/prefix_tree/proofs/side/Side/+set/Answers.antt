@@ -1,5 +1,5 @@
 use Rattle.std.proofs.Common.{arith, refl, ◌≡◌}
-use Rattle.prefix_tree.proofs.AtNode.{at_node, left_absent, right_absent, here_absent}
+use Rattle.prefix_tree.proofs.AtNode.{at_node}
 use Rattle.prefix_tree.proofs.Sets.{sound_right, sound_left, sound_here, rows_right, rows_left, rows_here, fits_right, fits_left}
 use Rattle.prefix_tree.proofs.side.Side.+set.Goals as goal
 
@@ -47,19 +47,3 @@ returns-clause-rows t c =
     let n = at_node c.self.view_is c.self.invariant c.in-Some.is refl in
     let same : c.in-Some.node.value.row.stamp ≡ c.args.stamp = rw (← c.deref.ensures) (omega (arith, c.if-stamp-deref.false, rw (c.deref-2.ensures, ← c.deref.ensures) at c.if-deref-stamp.false)) in
     rw (c.deref_mut-5.ensures.value, c.deref_mut-4.ensures.value, c.deref_mut-3.ensures.value, c.deref_mut-2.ensures.value) (rows_here c.args.stamp c.args.request c.args.mandated n same)
-
-pub returns-then-stamp-deref-clause-deep : goal.returns-then-stamp-deref-clause-deep
-returns-then-stamp-deref-clause-deep t c =
-    let n = at_node c.self.view_is c.self.invariant c.in-Some.is refl in
-    λ h. omega (arith, (rw c.deref_mut.ensures.value at c.set-visits.ensures.deep) (right_absent n c.args.stamp h), n.deep_right)
-
-pub returns-then-deref-stamp-clause-deep : goal.returns-then-deref-stamp-clause-deep
-returns-then-deref-stamp-clause-deep t c =
-    let n = at_node c.self.view_is c.self.invariant c.in-Some.is refl in
-    λ h. omega (arith, (rw c.deref_mut-then-deref-stamp.ensures.value at c.set-visits-then-deref-stamp.ensures.deep) (left_absent n c.args.stamp h), n.deep_left)
-
-pub returns-clause-deep : goal.returns-clause-deep
-returns-clause-deep t c =
-    let n = at_node c.self.view_is c.self.invariant c.in-Some.is refl in
-    let same : c.in-Some.node.value.row.stamp ≡ c.args.stamp = rw (← c.deref.ensures) (omega (arith, c.if-stamp-deref.false, rw (c.deref-2.ensures, ← c.deref.ensures) at c.if-deref-stamp.false)) in
-    λ h. absurd (here_absent n c.args.stamp h same)

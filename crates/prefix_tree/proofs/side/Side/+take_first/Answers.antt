@@ -5,9 +5,9 @@ use Rattle.prefix_tree.proofs.side.Side.+take_first.Goals as goal
 
 pub take_first-first-requires : goal.take_first-first-requires
 take_first-first-requires t c =
-    let o = c.open-here.ensures in
+    let o = c.take_apart-here.ensures.opens in
     let g = sums o in
-    (omega arith, (small_left c.requires.small o, (omega arith, o.filled_left)))
+    (omega arith, (small_left c.requires.small o, (c.if-is_empty.ensures.some, (o.filled_left, omega arith))))
 
 pub balance-requires-clause-joins : goal.balance-requires-clause-joins
-balance-requires-clause-joins t c = take_first c.open-here.ensures c.requires.small c.take_first-first.ensures.rows c.take_first-first.ensures.filled
+balance-requires-clause-joins t c = take_first c.take_apart-here.ensures.opens c.requires.small c.take_first-first.ensures.rows c.take_first-first.ensures.filled

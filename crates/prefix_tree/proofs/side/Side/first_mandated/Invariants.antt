@@ -2,8 +2,8 @@ use Rattle.std.proofs.Common.{◌≡◌, ◌+◌, ◌≤◌, length, ◌<◌}
 use Rattle.prefix_tree.specs.Rows.{first_mandated}
 use Rattle.prefix_tree.proofs.side.Side.first_mandated.Given as goal
 
-abbrev pub invariant-loop-side : goal.invariant-loop-side
-invariant-loop-side l = record { same : first_mandated l.side.0 ≡ first_mandated l.self.0; entered : 0 < length l.self.0 → 0 < l.visits + length l.side.0; visits : l.visits + l.side.1 ≤ l.self.1; deep : l.self.1 ≤ l.visits + l.visits + l.side.1 }
+abbrev pub invariant-loop-node : goal.invariant-loop-node
+invariant-loop-node l = record { same : first_mandated l.side.0 ≡ first_mandated l.self.0; entered : 0 < length l.self.0 → 0 < l.visits + length l.side.0; visits : l.visits + l.side.1 ≤ l.self.1 }
 
-abbrev pub decreases-loop-side : goal.decreases-loop-side
-decreases-loop-side l = l.side.1
+abbrev pub decreases-loop-node : goal.decreases-loop-node
+decreases-loop-node l = l.side.1

@@ -1,23 +1,18 @@
 use Rattle.std.proofs.Common.{arith}
-use Rattle.prefix_tree.proofs.Whole.{small_tree, tree_height, tree_deep, inserted}
+use Rattle.prefix_tree.proofs.Whole.{small_tree, tree_height, inserted}
 use Rattle.prefix_tree.proofs.tree.Tree.put.Goals as goal
 
-pub put-root-requires-clause-small : goal.put-root-requires-clause-small
-put-root-requires-clause-small c = rw c.replace-root.ensures.value (small_tree c.self.invariant)
+pub put-requires-clause-small : goal.put-requires-clause-small
+put-requires-clause-small c = rw c.replace-root.ensures.value (small_tree c.self.invariant)
 
 pub invariant_of-self : goal.invariant_of-self
 invariant_of-self c =
-    let rows = rw c.replace-root.ensures.value at c.put-root.ensures.rows in
+    let rows = rw c.replace-root.ensures.value at c.put.ensures.rows in
     let room = rw (← c.self.view_is) at c.requires.room in
     let absent = rw (← c.self.view_is) at c.requires.absent in
-    inserted c.args.node.value.row c.self.invariant room c.requires.request absent rows c.put-root.ensures.filled
+    inserted c.args.node.value.row c.self.invariant room c.requires.request absent rows c.put.ensures.filled
 
 pub returns-clause-visits : goal.returns-clause-visits
 returns-clause-visits c =
-    let visits = rw c.replace-root.ensures.value at c.put-root.ensures.visits in
+    let visits = rw c.replace-root.ensures.value at c.put.ensures.visits in
     rw (← c.self.view_is) (omega (arith, tree_height c.self.invariant))
-
-pub returns-clause-deep : goal.returns-clause-deep
-returns-clause-deep c =
-    let deep = rw c.replace-root.ensures.value at c.put-root.ensures.deep in
-    rw (← c.self.view_is) (omega (arith, tree_deep c.self.invariant))

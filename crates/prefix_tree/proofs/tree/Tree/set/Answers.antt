@@ -1,5 +1,5 @@
 use Rattle.std.proofs.Common.{arith}
-use Rattle.prefix_tree.proofs.Whole.{small_tree, tree_height, tree_deep, reset}
+use Rattle.prefix_tree.proofs.Whole.{small_tree, tree_height, reset}
 use Rattle.prefix_tree.proofs.tree.Tree.set.Goals as goal
 
 pub set-requires-clause-small : goal.set-requires-clause-small
@@ -13,6 +13,3 @@ returns-clause-visits c = rw (← c.self.view_is) (omega (arith, tree_height c.s
 
 pub returns-clause-newest_first : goal.returns-clause-newest_first
 returns-clause-newest_first c = (reset c.args.stamp c.args.request c.args.mandated c.self.invariant c.requires.request c.set.ensures.rows c.set.ensures.height).ordered
-
-pub returns-clause-deep : goal.returns-clause-deep
-returns-clause-deep c = rw (← c.self.view_is) (λ h. omega (arith, c.set.ensures.deep h, tree_deep c.self.invariant))

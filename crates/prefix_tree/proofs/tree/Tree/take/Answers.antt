@@ -1,6 +1,6 @@
 use Rattle.std.proofs.Common.{arith, ◌≤◌}
 use Rattle.prefix_tree.proofs.Changes.{absent_without, row-all}
-use Rattle.prefix_tree.proofs.Whole.{small_tree, tree_height, tree_deep, removed, room_again}
+use Rattle.prefix_tree.proofs.Whole.{small_tree, tree_height, removed, room_again}
 use Rattle.prefix_tree.proofs.tree.Tree.take.Goals as goal
 
 pub take-root-requires-clause-small : goal.take-root-requires-clause-small
@@ -36,8 +36,3 @@ pub returns-clause-visits : goal.returns-clause-visits
 returns-clause-visits c =
     let visits = rw c.replace-root.ensures.value at c.take-root.ensures.visits in
     rw (← c.self.view_is) (omega (arith, tree_height c.self.invariant))
-
-pub returns-clause-deep : goal.returns-clause-deep
-returns-clause-deep c =
-    let deep = rw c.replace-root.ensures.value at c.take-root.ensures.deep in
-    rw (← c.self.view_is) (omega (arith, tree_deep c.self.invariant))

@@ -1,5 +1,5 @@
 use Rattle.std.proofs.Common.{arith}
-use Rattle.prefix_tree.proofs.Whole.{small_tree, tree_height, deep_none}
+use Rattle.prefix_tree.proofs.Whole.{small_tree, tree_height}
 use Rattle.prefix_tree.proofs.tree.Tree.walk.Goals as goal
 
 pub walk-requires : goal.walk-requires
@@ -7,6 +7,3 @@ walk-requires c = small_tree c.self.invariant
 
 pub returns-clause-visits : goal.returns-clause-visits
 returns-clause-visits c = rw (← c.self.view_is) (omega (arith, tree_height c.self.invariant))
-
-pub returns-clause-deep : goal.returns-clause-deep
-returns-clause-deep c = rw (← c.self.view_is) (deep_none c.walk.result.0 c.walk.result.1 c.self.invariant c.walk.ensures.deep)

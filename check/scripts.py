@@ -1,0 +1,68 @@
+#!/usr/bin/env python3
+"""Random scripts, through `market run` and through the model beside this file: the first difference ends it, with status 1
+and the script on standard error.
+
+    check/scripts.py PROGRAM [COUNT [SEED]]        as check/scripts.py crates/market/out/market 1000
+"""
+import random
+import subprocess
+import sys
+
+from model import Market, answers
+
+
+def a_number(rng, most):
+    """Mostly a number in range, now and then one beside it or badly spelled."""
+    kind = rng.random()
+    if kind < 0.94:
+        return str(rng.randint(0, most))
+    return rng.choice(["0", "00", "01", "-1", "-0", "", "x", "4294967295", "4294967296", "65535", "65536", "65537", "1048576", "2147483647", "-2147483648"])
+
+
+def a_line(rng, seats, levels, arenas):
+    seat = a_number(rng, seats - 1) if rng.random() < 0.99 else str(seats)
+    arena = a_number(rng, arenas)
+    level = rng.choice(["high", "normal", "low"]) if rng.random() < 0.2 else a_number(rng, levels)
+    slots, reserved = a_number(rng, rng.choice([3, 20, 70000])), a_number(rng, 2)
+    wanted, mandatory = a_number(rng, 9), a_number(rng, 2)
+    if rng.random() < 0.4:
+        wanted = "-" + wanted
+    if rng.random() < 0.4:
+        mandatory = "-" + mandatory
+    command = rng.choices(
+        [f"open {slots}", f"open {slots} {reserved}", f"open {slots} {reserved} {level}", f"close {arena}", f"priority {arena} {level}",
+         f"resize {arena} {slots} {reserved}", f"request {arena} {wanted}", f"request {arena} {wanted} {mandatory}", f"control {a_number(rng, 12)}",
+         f"uncontrol {a_number(rng, 12)}", "join", "stay", "leave", f"show {arena}", "lists", "limit", "fly", "join 1", " join", "#", "# a remark", ""],
+        [4, 4, 9, 3, 6, 6, 12, 12, 3, 4, 14, 8, 6, 12, 6, 4, 0.3, 0.3, 0.3, 0.3, 0.3, 0.3])[0]
+    if command.startswith("#") or command == "":
+        return command
+    return f"{seat} {command}" + ("\r" if rng.random() < 0.003 else "") + (" " * 260 if rng.random() < 0.002 else "")
+
+
+def main():
+    program, count, seed = sys.argv[1], int((sys.argv + [100])[2]), int((sys.argv + [0, 0])[3])
+    lines = 0
+    for k in range(count):
+        rng = random.Random(f"{seed}/{k}")
+        base, hard = rng.choice([1, 2, 3, 8, 40]), rng.choice([1, 5, 64, 65535])
+        seats, levels = rng.choice([1, 4, 16, 64]), rng.choice([1, 2, 3, 3, 5, 8])
+        arenas = rng.choice([2, 6, 30])
+        script = "\n".join(a_line(rng, seats, levels, arenas) for _ in range(rng.choice([20, 200, 600])))
+        if rng.random() < 0.8:
+            script += "\n"
+        text = script.encode("latin-1")
+        words = ["run", "--base", base, "--hard", hard, "--seats", seats, "--levels", levels]
+        ran = subprocess.run([program, *map(str, words)], input=text, capture_output=True)
+        due = "".join(f"{reply}\n" for reply in answers(Market(base, hard, seats, levels), text)).encode("latin-1")
+        status = 1 if b"unread\n" in due else 0
+        if ran.stdout != due or ran.returncode != status:
+            sys.stderr.buffer.write(text)
+            print(f"\nscript {k} of seed {seed} ({words}) differs; status {ran.returncode}, due {status}", file=sys.stderr)
+            return 1
+        lines += text.count(b"\n")
+    print(f"{count} scripts, {lines} lines, no difference")
+    return 0
+
+
+if __name__ == "__main__":
+    sys.exit(main())

@@ -1,0 +1,340 @@
+-- What the store keeps, through each change.
+use Rattle.std.proofs.Common.{◌≡◌, ◌≢◌, ℕ, suc, ◌+◌, ◌-◌, ◌*◌, ◌<◌, ◌≤◌, true, false, cond, eqb, ltb, not, List, [], ◌∷◌, ◌++◌, length, get_or, set, take, drop, map, Option, Some, None, refl, sym, ap, ◌∙◌, arith, inl, inr, length-append, Bool}
+use Rattle.std.specs.List.{All, filter, find, remove, sum_by, count_by, list_any}
+use Rattle.std.specs.Option.{option_map}
+use Rattle.std.proofs.lemmas.Bool.{cases_eq, cases_Bool, eq-eqb, ne_eqb, lt-ltb}
+use Rattle.std.proofs.lemmas.List.Elements.{All-weaker, All-append, All-push, All-set, All-take, All-drop, All-filter, All-get_or}
+use Rattle.std.proofs.lemmas.List.{get_or-set_same, get_or-set_other, length-set, length-map}
+use Rattle.std.proofs.lemmas.List.Edits.{length-remove}
+use Rattle.std.proofs.lemmas.List.Quantifiers.{all_pairs_push, all_pairs_remove}
+use Rattle.std.proofs.lemmas.List.Sums.{sum_by-cons, sum_by_push, sum_by-set, sum_by-remove, get_or-le-sum_by}
+use Rattle.market_types.specs.declared.row.Row.{Row}
+use Rattle.market_types.specs.State.{Claim, Arena}
+use Rattle.market_types.specs.Claims.{request_of, is_mandated}
+use Rattle.market_types.specs.Allotment.{at_level, has_mandatory}
+use Rattle.market_types.specs.Step.{arena_at, without, with_claim}
+use Rattle.arena_store.specs.Arenas.{has_number, IsMissing, level_row, level_rows}
+use Rattle.arena_store.specs.Store.{by_stamp, IsByNumber, IsListed, IsStored, has_work, IsKept}
+use Rattle.arena_store.proofs.ByStamp.{IsOlder, All-by_stamp, by_stamp-All, sum_by-by_stamp, length-by_stamp, arena_at-by_stamp_none, without-missing}
+use Rattle.arena_store.proofs.LevelRows.{level_rows-with_claim, level_rows-with_claim_other, level_rows-without, level_rows-without_other, level_row-at, level_rows-older, level_rows-mandated, length-level_rows}
+use Rattle.arena_store.proofs.Found.{Found, found-at, found-matches, found-levels}
+use Rattle.level_list.specs.Bits.{bits}
+use Rattle.arena_store.proofs.Digits.{bits-more, bits-few}
+use Rattle.arena_store.proofs.Table.{table-found, table-claimed, table-removed, table-promoted, table-pushed, rising-set, apart-by_stamp, newest-with_claim, newest-without, newest-cons}
+
+abbrev IsLevel : Arena → Type 0
+IsLevel a = (1 ≤ a.level) × (a.level ≤ 8)
+
+-- ---- what callers learn
+
+pub kept : (xs : List Arena) (lists : List (List Row)) (n : ℕ) → IsStored xs lists n → IsKept (by_stamp xs)
+kept xs lists n h =
+    record {
+      few = omega (arith, length-by_stamp xs, h.few);
+      apart = apart-by_stamp xs h.by_number;
+      newest_first = h.newest_first;
+    }
+
+missing : (n : ℕ) (xs : List Arena) → All (λ (a : Arena). a.number ≢ n) xs → IsMissing n (by_stamp xs)
+missing n xs h =
+    All-by_stamp (λ (a : Arena). has_number n a ≡ false) xs (All-weaker (λ (a : Arena). a.number ≢ n) (λ (a : Arena). has_number n a ≡ false) (λ a apart. ne_eqb a.number n apart) xs h)
+
+-- no arena is found where no number is as wanted
+pub missing-by_stamp : (n : ℕ) (xs : List Arena) → All (λ (a : Arena). a.number ≢ n) xs → arena_at n (by_stamp xs) ≡ None
+missing-by_stamp n xs h =
+    arena_at-by_stamp_none n xs (All-weaker (λ (a : Arena). a.number ≢ n) (λ (a : Arena). has_number n a ≡ false) (λ a apart. ne_eqb a.number n apart) xs h)
+
+-- the arena at an index is found by its number
+pub found-by_stamp : (n i : ℕ) (xs : List Arena) (x : Arena) → IsByNumber xs → i < length xs → x ≡ get_or xs i x → ((d : Arena) → (get_or xs i d).number ≡ n) → arena_at n (by_stamp xs) ≡ Some x
+found-by_stamp n i xs x rising within e number =
+    let same : x.number ≡ n = ap (λ (a : Arena). a.number) e ∙ number x in
+    rw (← same) (table-found xs i x rising within e)
+
+-- the arena of the store is the one at its index
+pub index-found : (n i : ℕ) (xs : List Arena) (x y : Arena) → IsByNumber xs → i < length xs → y ≡ get_or xs i y → ((d : Arena) → (get_or xs i d).number ≡ n) → arena_at n (by_stamp xs) ≡ Some x → y ≡ x
+index-found n i xs x y rising within e number found =
+    let there : arena_at n (by_stamp xs) ≡ Some y = found-by_stamp n i xs y rising within e number in
+    same-some y x (sym there ∙ found)
+  where
+    same-some : (a b : Arena) → Some a ≡ Some b → a ≡ b
+    same-some a b h = cc
+
+-- ---- enqueued work
+
+has-some : (xs : List Arena) → list_any has_work xs ≡ ltb 0 (count_by has_work xs)
+has-some [] = refl
+has-some (x ∷ xs) =
+    let sum = sum_by-cons (λ (a : Arena). cond (has_work a) 1 0) x xs in
+    elim (cases_Bool (has_work x)) [
+      | inl t ↦
+          let more : count_by has_work (x ∷ xs) ≡ 1 + count_by has_work xs = sum ∙ rw t refl in
+          let some : 0 < count_by has_work (x ∷ xs) = omega arith in
+          let any : list_any has_work (x ∷ xs) ≡ true = rw t refl in
+          any ∙ sym (lt-ltb 0 (count_by has_work (x ∷ xs)) some)
+      | inr f ↦
+          let same : count_by has_work (x ∷ xs) ≡ count_by has_work xs = sum ∙ rw f (omega arith) in
+          let any : list_any has_work (x ∷ xs) ≡ list_any has_work xs = rw f refl in
+          any ∙ has-some xs ∙ ap (ltb 0) (sym same)
+    ]
+
+-- some arena has enqueued work where the count says so
+pub has-work : (xs : List Arena) (lists : List (List Row)) (n : ℕ) → IsStored xs lists n → has_mandatory (by_stamp xs) ≡ ltb 0 n
+has-work xs lists n h =
+    has-some (by_stamp xs) ∙ ap (ltb 0) (sum_by-by_stamp (λ (a : Arena). cond (has_work a) 1 0) xs ∙ sym h.enqueued)
+
+-- ---- the lists
+
+-- a list is written that is right, and those of other levels stay
+pub listed-set : (lists : List (List Row)) (old new : List Arena) (level : ℕ) (rows : List Row) → IsListed lists old → 1 ≤ level → level ≤ 8 → rows ≡ level_rows level new
+    → ((k : ℕ) → level ≢ k → level_rows k new ≡ level_rows k old) → IsListed (set lists (level - 1) rows) new
+listed-set lists old new level rows h low high right others =
+    record {
+      width = length-set lists (level - 1) rows ∙ h.width;
+      rows = λ k d klow khigh.
+          elim (cases_eq level k) [
+            | inl e ↦
+                let index : k - 1 ≡ level - 1 = omega arith in
+                ap (λ n. get_or (set lists (level - 1) rows) n d) index
+                ∙ get_or-set_same lists (level - 1) rows d (let w = h.width in omega arith) ∙ right ∙ ap (λ n. level_rows n new) e
+            | inr m ↦
+                let other : k - 1 ≢ level - 1 = λ f. m (omega arith) in
+                get_or-set_other lists (level - 1) (k - 1) rows d other ∙ h.rows k d klow khigh ∙ sym (others k m)
+          ];
+    }
+
+-- ---- a new arena
+
+level_rows-own : (x : Arena) (xs : List Arena) → level_rows x.level (x ∷ xs) ≡ level_row x ∷ level_rows x.level xs
+level_rows-own x xs = rw (eq-eqb x.level x.level refl) refl
+
+level_rows-others : (x : Arena) (xs : List Arena) (k : ℕ) → x.level ≢ k → level_rows k (x ∷ xs) ≡ level_rows k xs
+level_rows-others x xs k m = rw (ne_eqb x.level k m) refl
+
+pub listed-cons : (lists : List (List Row)) (arenas : List Arena) (x : Arena) (index : ℕ) (d rows : List Row) → IsListed lists arenas → (1 ≤ x.level) × (x.level ≤ 8)
+    → index ≡ x.level - 1 → rows ≡ level_row x ∷ get_or lists index d → IsListed (set lists index rows) (x ∷ arenas)
+listed-cons lists arenas x index d rows h level p e =
+    let right : rows ≡ level_row x ∷ get_or lists (x.level - 1) d = e ∙ ap (λ n. level_row x ∷ get_or lists n d) p in
+    rw p (listed-set lists arenas (x ∷ arenas) x.level rows h level.0 level.1
+    (right ∙ ap (λ rs. level_row x ∷ rs) (h.rows x.level d level.0 level.1) ∙ sym (level_rows-own x arenas))
+    (λ k m. level_rows-others x arenas k m))
+
+pub stored-pushed : (xs : List Arena) (lists : List (List Row)) (n : ℕ) (x : Arena) (index : ℕ) (d rows : List Row) (m : ℕ) → IsStored xs lists n → length xs < 1024
+    → All (IsOlder x.stamp) (by_stamp xs) → All (λ (b : Arena). b.number < x.number) (by_stamp xs) → (1 ≤ x.level) × (x.level ≤ 8)
+    → index ≡ x.level - 1 → rows ≡ level_row x ∷ get_or lists index d → m ≡ n + cond (has_work x) 1 0
+    → IsStored (xs ++ x ∷ []) (set lists index rows) m
+stored-pushed xs lists n x index d rows m h room older last level p e f =
+    let sorted = table-pushed xs x (by_stamp-All (IsOlder x.stamp) xs older) in
+    let before : All (λ (b : Arena). b.number < x.number) xs = by_stamp-All (λ (b : Arena). b.number < x.number) xs last in
+    record {
+      few = omega (arith, length-append xs (x ∷ []));
+      by_number = all_pairs_push (λ (a b : Arena). a.number < b.number) xs x h.by_number (λ k d within. before k d within);
+      newest_first = rw sorted (newest-cons x (by_stamp xs) older h.newest_first);
+      leveled = All-push IsLevel xs x h.leveled level;
+      listed = rw sorted (listed-cons lists (by_stamp xs) x index d rows h.listed level p e);
+      enqueued = f ∙ ap (λ k. k + cond (has_work x) 1 0) h.enqueued ∙ sym (sum_by_push (λ (a : Arena). cond (has_work a) 1 0) xs x);
+    }
+
+-- the store has what it had and the new arena
+pub view-pushed : (xs : List Arena) (x : Arena) → All (IsOlder x.stamp) (by_stamp xs) → by_stamp (xs ++ x ∷ []) ≡ x ∷ by_stamp xs
+view-pushed xs x older = table-pushed xs x (by_stamp-All (IsOlder x.stamp) xs older)
+
+-- a list in which something is found is not empty
+found-some : {X : Type 0} (p : X → Bool) (xs : List X) (x : X) → find p xs ≡ Some x → 0 < length xs
+found-some {X} p [] x e = absurd (cc)
+found-some {X} p (y ∷ xs) x e = omega arith
+
+-- ---- an arena at an index
+
+module _ (xs : List Arena) (lists : List (List Row)) (n i : ℕ) (x : Arena) (h : IsStored xs lists n) (within : i < length xs) (e : x ≡ get_or xs i x) where
+  found-here : Found x.number x (by_stamp xs)
+  found-here = found-at x.number (by_stamp xs) x (apart-by_stamp xs h.by_number) h.newest_first (table-found xs i x h.by_number within e)
+
+  pub level-here : (1 ≤ x.level) × (x.level ≤ 8)
+  level-here = rw e (All-get_or IsLevel xs i x within h.leveled)
+
+  -- its row stands in the list of its level
+  pub row-here : (index : ℕ) (d : List Row) → index ≡ x.level - 1 → find (λ (r : Row). eqb r.stamp x.stamp) (get_or lists index d) ≡ Some (level_row x)
+  row-here index d p =
+      let level = level-here in
+      ap (λ k. find (λ (r : Row). eqb r.stamp x.stamp) (get_or lists k d)) p
+      ∙ ap (find (λ (r : Row). eqb r.stamp x.stamp)) (h.listed.rows x.level d level.0 level.1)
+      ∙ level_row-at x.number x.stamp (by_stamp xs) x (found-matches x.number x (by_stamp xs) found-here) (table-found xs i x h.by_number within e)
+
+  -- so that list is not empty
+  pub some-here : (index : ℕ) (d : List Row) → index ≡ x.level - 1 → 0 < length (get_or lists index d)
+  some-here index d p = found-some (λ (r : Row). eqb r.stamp x.stamp) (get_or lists index d) (level_row x) (row-here index d p)
+
+  -- it is counted if it has enqueued work
+  pub counted-within : cond (has_work x) 1 0 ≤ n
+  counted-within =
+      let w : Arena → ℕ = λ (a : Arena). cond (has_work a) 1 0 in
+      let here : w (get_or xs i x) ≡ w x = ap w (sym e) in
+      let part : w (get_or xs i x) ≤ sum_by w xs = get_or-le-sum_by w xs i x within in
+      omega (arith, here, part, h.enqueued)
+
+  -- ---- its claim changes
+
+  pub view-claimed : (c : Claim) → by_stamp (set xs i (record x { claim = c })) ≡ with_claim x.number c (by_stamp xs)
+  view-claimed c = table-claimed xs i x c h.by_number within e
+
+  pub stored-claimed : (c : Claim) (index : ℕ) (d rows : List Row) (m : ℕ) → index ≡ x.level - 1
+      → rows ≡ map (λ (r : Row). cond (eqb r.stamp x.stamp) (record r { request = request_of c; mandated = is_mandated c }) r) (get_or lists index d)
+      → m + cond (has_work x) 1 0 ≡ n + cond (ltb 0 c.mandatory) 1 0
+      → IsStored (set xs i (record x { claim = c })) (set lists index rows) m
+  stored-claimed c index d rows m p f g =
+      let change : List Row → List Row = map (λ (r : Row). cond (eqb r.stamp x.stamp) (record r { request = request_of c; mandated = is_mandated c }) r) in
+      let right : rows ≡ change (get_or lists (x.level - 1) d) = f ∙ ap (λ k. change (get_or lists k d)) p in
+      let y : Arena = record x { claim = c } in
+      let sorted = view-claimed c in
+      let level = level-here in
+      let matches = found-matches x.number x (by_stamp xs) found-here in
+      let levels = found-levels x.number x (by_stamp xs) found-here in
+      let w : Arena → ℕ = λ (a : Arena). cond (has_work a) 1 0 in
+      record {
+        few = omega (arith, length-set xs i y, h.few);
+        by_number = rising-set xs i x y e refl h.by_number;
+        newest_first = rw sorted (newest-with_claim x.number c (by_stamp xs) h.newest_first);
+        leveled = All-set IsLevel xs i y level h.leveled;
+        listed = rw (sorted, p) (listed-set lists (by_stamp xs) (with_claim x.number c (by_stamp xs)) x.level rows h.listed level.0 level.1
+            (right ∙ ap change (h.listed.rows x.level d level.0 level.1)
+            ∙ sym (level_rows-with_claim x.level x.number x.stamp c (by_stamp xs) matches))
+            (λ k apart. level_rows-with_claim_other k x.number x.level c (by_stamp xs) levels apart));
+        enqueued =
+            let sums : sum_by w (set xs i y) + w (get_or xs i x) ≡ sum_by w xs + w y = sum_by-set w xs i y x within in
+            let here : w (get_or xs i x) ≡ w x = ap w (sym e) in
+            omega (arith, sums, here, h.enqueued, g);
+      }
+
+  -- ---- it goes
+
+  pub view-removed : by_stamp (remove xs i) ≡ without x.number (by_stamp xs)
+  view-removed = let same : suc i ≡ i + 1 = omega arith in ap (λ k. by_stamp (take i xs ++ drop k xs)) same ∙ table-removed xs i x h.by_number within e
+
+  pub listed-removed : (index : ℕ) (d rows : List Row) → index ≡ x.level - 1 → rows ≡ filter (λ (r : Row). not (eqb r.stamp x.stamp)) (get_or lists index d)
+      → IsListed (set lists index rows) (without x.number (by_stamp xs))
+  listed-removed index d rows p f =
+      let change : List Row → List Row = filter (λ (r : Row). not (eqb r.stamp x.stamp)) in
+      let right : rows ≡ change (get_or lists (x.level - 1) d) = f ∙ ap (λ k. change (get_or lists k d)) p in
+      let level = level-here in
+      let matches = found-matches x.number x (by_stamp xs) found-here in
+      let levels = found-levels x.number x (by_stamp xs) found-here in
+      rw p (listed-set lists (by_stamp xs) (without x.number (by_stamp xs)) x.level rows h.listed level.0 level.1
+      (right ∙ ap change (h.listed.rows x.level d level.0 level.1) ∙ sym (level_rows-without x.level x.number x.stamp (by_stamp xs) matches))
+      (λ k apart. level_rows-without_other k x.number x.level (by_stamp xs) levels apart))
+
+  pub stored-removed : (index : ℕ) (d rows : List Row) (m : ℕ) → index ≡ x.level - 1 → rows ≡ filter (λ (r : Row). not (eqb r.stamp x.stamp)) (get_or lists index d)
+      → m + cond (has_work x) 1 0 ≡ n → IsStored (remove xs i) (set lists index rows) m
+  stored-removed index d rows m p f g =
+      let sorted = view-removed in
+      let w : Arena → ℕ = λ (a : Arena). cond (has_work a) 1 0 in
+      record {
+        few = omega (arith, length-remove xs i within, h.few);
+        by_number = all_pairs_remove (λ (a b : Arena). a.number < b.number) xs i within h.by_number;
+        newest_first = rw sorted (newest-without x.number (by_stamp xs) h.newest_first);
+        leveled = All-append IsLevel (take i xs) (drop (suc i) xs) (All-take IsLevel i xs h.leveled) (All-drop IsLevel (suc i) xs h.leveled);
+        listed = rw sorted (listed-removed index d rows p f);
+        enqueued =
+            let sums : sum_by w (remove xs i) + w (get_or xs i x) ≡ sum_by w xs = sum_by-remove w xs i x within in
+            let here : w (get_or xs i x) ≡ w x = ap w (sym e) in
+            omega (arith, sums, here, h.enqueued, g);
+      }
+
+  -- ---- it goes first
+
+  pub view-promoted : (y : Arena) → All (IsOlder y.stamp) (by_stamp xs) → by_stamp (set xs i y) ≡ y ∷ without x.number (by_stamp xs)
+  view-promoted y older = table-promoted xs i x y h.by_number within e (by_stamp-All (IsOlder y.stamp) xs older)
+
+  -- an arena fewer
+  pub room-removed : length (without x.number (by_stamp xs)) < 1024
+  room-removed =
+      omega (arith, ap length view-removed, length-by_stamp (remove xs i), length-remove xs i within, h.few)
+
+  -- the lists with the arena taken out of one and put first into another
+  module _ (y : Arena) (older : All (IsOlder y.stamp) (by_stamp xs)) (level : (1 ≤ y.level) × (y.level ≤ 8))
+      (from to : ℕ) (d e' : List Row) (mid : List (List Row)) (rows : List Row)
+      (p : from ≡ x.level - 1) (q : to ≡ y.level - 1) (e1 : mid ≡ set lists from rows)
+      (e2 : rows ≡ filter (λ (r : Row). not (eqb r.stamp x.stamp)) (get_or lists from d)) where
+    listed-mid : IsListed mid (without x.number (by_stamp xs))
+    listed-mid = rw e1 (listed-removed from d rows p e2)
+
+    older-mid : All (IsOlder y.stamp) (without x.number (by_stamp xs))
+    older-mid = All-filter (λ (b : Arena). not (has_number x.number b)) (IsOlder y.stamp) (by_stamp xs) older
+
+    there : get_or mid to e' ≡ level_rows y.level (without x.number (by_stamp xs))
+    there = ap (λ k. get_or mid k e') q ∙ listed-mid.rows y.level e' level.0 level.1
+
+    pub promoted-room : length (get_or mid to e') < 1024
+    promoted-room = omega (arith, ap length there, length-level_rows y.level (without x.number (by_stamp xs)), room-removed)
+
+    pub promoted-newest : All (λ (r : Row). r.stamp < y.stamp) (get_or mid to e')
+    promoted-newest = rw there (level_rows-older y.level y.stamp (without x.number (by_stamp xs)) older-mid)
+
+    -- a visit to a list is within the bound for all arenas
+    pub promoted-visits : (v : ℕ) → v ≤ 2 * bits (length (get_or mid to e')) + 1 → v ≤ 2 * bits (length (by_stamp xs)) + 1
+    promoted-visits v k =
+        let size : length (without x.number (by_stamp xs)) ≤ length (by_stamp xs) = omega (arith, ap length view-removed, length-by_stamp (remove xs i), length-by_stamp xs, length-remove xs i within) in
+        let less : length (get_or mid to e') ≤ length (by_stamp xs) = omega (arith, ap length there, length-level_rows y.level (without x.number (by_stamp xs)), size) in
+        omega (arith, bits-more (length (get_or mid to e')) (length (by_stamp xs)) less)
+
+    pub stored-promoted : (after : List Row) → y.number ≡ x.number → y.claim ≡ x.claim → after ≡ level_row y ∷ get_or mid to e'
+        → IsStored (set xs i y) (set mid to after) n
+    stored-promoted after number claim e3 =
+        let sorted = view-promoted y older in
+        let w : Arena → ℕ = λ (a : Arena). cond (has_work a) 1 0 in
+        record {
+          few = omega (arith, length-set xs i y, h.few);
+          by_number = rising-set xs i x y e number h.by_number;
+          newest_first = rw sorted (newest-cons y (without x.number (by_stamp xs)) older-mid (newest-without x.number (by_stamp xs) h.newest_first));
+          leveled = All-set IsLevel xs i y level h.leveled;
+          listed = rw sorted (listed-cons mid (without x.number (by_stamp xs)) y to e' after listed-mid level q e3);
+          enqueued =
+              let sums : sum_by w (set xs i y) + w (get_or xs i x) ≡ sum_by w xs + w y = sum_by-set w xs i y x within in
+              let here : w (get_or xs i x) ≡ w x = ap w (sym e) in
+              let same : w y ≡ w x = ap (λ (c : Claim). cond (ltb 0 c.mandatory) 1 0) claim in
+              omega (arith, sums, here, same, h.enqueued);
+        }
+
+-- ---- a list
+
+arena-of : (o : Option Arena) → option_map (λ (r : Row). r.arena) (option_map level_row o) ≡ option_map (λ (a : Arena). a.number) o
+arena-of None = refl
+arena-of (Some a) = refl
+
+module _ (xs : List Arena) (lists : List (List Row)) (n : ℕ) (h : IsStored xs lists n) (level index : ℕ) (d : List Row) (low : 1 ≤ level) (high : level ≤ 8) (p : index ≡ level - 1) where
+  pub list-at : get_or lists index d ≡ level_rows level (by_stamp xs)
+  list-at = ap (λ k. get_or lists k d) p ∙ h.listed.rows level d low high
+
+  pub list-few : length (get_or lists index d) ≤ length xs
+  list-few = omega (arith, ap length list-at, length-level_rows level (by_stamp xs), length-by_stamp xs)
+
+  -- where the level has arenas its list is entered
+  pub list-entered : (v : ℕ) → (0 < length (get_or lists index d) → 1 ≤ v) → 0 < length (at_level level (by_stamp xs)) → 1 ≤ v
+  list-entered v e some = e (rw list-at (omega (arith, length-map (at_level level (by_stamp xs)) level_row)))
+
+  pub list-newest : (t : ℕ) → All (IsOlder t) (by_stamp xs) → All (λ (r : Row). r.stamp < t) (get_or lists index d)
+  list-newest t older = rw list-at (level_rows-older level t (by_stamp xs) older)
+
+  -- a visit to a list is within the bound for all arenas
+  pub list-visits : (v : ℕ) → v ≤ 2 * bits (length (get_or lists index d)) → v ≤ 2 * bits (length (by_stamp xs))
+  list-visits v e = omega (arith, bits-more (length (get_or lists index d)) (length (by_stamp xs)) (omega (arith, list-few, length-by_stamp xs)))
+
+  pub list-visits_one : (v : ℕ) → v ≤ 2 * bits (length (get_or lists index d)) + 1 → v ≤ 2 * bits (length (by_stamp xs)) + 1
+  list-visits_one v e = omega (arith, bits-more (length (get_or lists index d)) (length (by_stamp xs)) (omega (arith, list-few, length-by_stamp xs)))
+
+  -- the first mandated row is that of the first mandated arena
+  pub list-mandated : (o : Option Row) → o ≡ find (λ (r : Row). r.mandated) (get_or lists index d)
+      → option_map (λ (r : Row). r.arena) o ≡ option_map (λ (a : Arena). a.number) (find (λ (a : Arena). is_mandated a.claim) (at_level level (by_stamp xs)))
+  list-mandated o e =
+      ap (option_map (λ (r : Row). r.arena)) (e ∙ ap (find (λ (r : Row). r.mandated)) list-at ∙ level_rows-mandated level (by_stamp xs))
+      ∙ arena-of (find (λ (a : Arena). is_mandated a.claim) (at_level level (by_stamp xs)))
+
+pub all-few : (xs : List Arena) (lists : List (List Row)) (n : ℕ) → IsStored xs lists n → length (by_stamp xs) ≤ 1024
+all-few xs lists n h = omega (arith, length-by_stamp xs, h.few)
+
+pub all-visits : (xs : List Arena) (lists : List (List Row)) (n : ℕ) → IsStored xs lists n → 2 * bits (length (by_stamp xs)) ≤ 22
+all-visits xs lists n h = omega (arith, bits-few (length (by_stamp xs)) (omega (arith, length-by_stamp xs, h.few)))
+
+-- ---- no arena has the number
+
+pub removed-missing : (n : ℕ) (xs : List Arena) → All (λ (a : Arena). a.number ≢ n) xs → without n (by_stamp xs) ≡ by_stamp xs
+removed-missing n xs h = without-missing n (by_stamp xs) (missing n xs h)

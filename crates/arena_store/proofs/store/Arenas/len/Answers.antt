@@ -1,0 +1,9 @@
+use Rattle.std.proofs.Common.{arith}
+use Rattle.arena_store.proofs.ByStamp.{length-by_stamp}
+use Rattle.arena_store.proofs.store.Arenas.len.Goals as goal
+
+pub returns-clause-exact : goal.returns-clause-exact
+returns-clause-exact c = rw (← c.self.view_is) (omega (arith, length-by_stamp c.self.inside.table.items, c.len.ensures, c.self.inside.table.ok.0))
+
+pub returns-clause-few : goal.returns-clause-few
+returns-clause-few c = omega (arith, c.self.invariant.few, c.len.ensures, c.self.inside.table.ok.0)

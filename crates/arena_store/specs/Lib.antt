@@ -1,0 +1,4 @@
+pub use Rattle.level_list.specs.Bits
+pub mod Arenas
+pub mod Changed
+pub mod Store

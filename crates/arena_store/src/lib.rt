@@ -1,0 +1,22 @@
+//! The arenas of a market: found by number, and standing at their levels, the newest first.
+//!
+//! An [`Arenas`] holds them as [`StoredArena`]s: number, stamp, level and claim. Contracts see it as one list, the greatest
+//! stamp first. It tells what a level's arenas ask for, all of them or those before one, without a walk over them, and
+//! shows a level as a [`Stretch`] to whoever walks. A claim is changed by a [`Change`]; a new arena, or one that gets a new
+//! stamp, goes first. Only `push` takes memory.
+//!
+//! Each call that goes into a level's tree says how many of its nodes it entered. To find an arena by its number enters none.
+#![tactic(auto)]
+
+mod change;
+mod lookup;
+mod store;
+mod stored_arena;
+
+pub use change::Change;
+pub use level_list::Stretch;
+pub use store::Arenas;
+pub use stored_arena::StoredArena;
+
+#[cfg(test)]
+mod tests;

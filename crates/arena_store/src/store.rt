@@ -1,0 +1,267 @@
+//! The living arenas: a table by number, and for each level a list by stamp.
+ghost use Rattle.std.specs.Prelude.{◌≡◌, ℕ, ◌-◌, slice_index, ◌+◌, ◌*◌, ◌<◌, ◌≤◌, ◌∷◌, [], None, Some, Ok, Err, length, take, slice_get, nat_lt, if◌then◌else◌, option_map, IsSome, OnSome, IfNone, IfSome, IfOk, IfErr, OnOk, OnErr};
+ghost use Rattle.std.specs.List.{All, find};
+ghost use Rattle.market_types.specs.State.{Arena};
+ghost use Rattle.market_types.specs.Claims.{is_mandated};
+ghost use Rattle.market_types.specs.Allotment.{total_request, at_level, has_mandatory};
+ghost use Rattle.market_types.specs.Step.{arena_at, with_claim, without};
+ghost use Rattle.arena_store.specs.Arenas.{StandOnce, newer, level_rows};
+ghost use Rattle.arena_store.specs.Changed.{changed_at};
+ghost use Rattle.level_list.specs.Bits.{bits};
+ghost use Rattle.level_list.specs.Rows.{requests};
+
+use crate::change::Change;
+use crate::lookup::index_of;
+use crate::stored_arena::StoredArena;
+use arena_record::ArenaRecord;
+use level_list::{LevelList, Stretch};
+use market_types::{ArenaId, Fault, Level};
+use std::alloc::{AllocError, Global};
+use std::marker::Model;
+
+/// The living arenas, at most 1,024. Contracts see them as a list, the greatest stamp first.
+#[derive(Drop)]
+pub struct Arenas {
+    /// By rising number, so that a new arena goes to the end.
+    table: Vec<StoredArena>,
+    /// One for each level, level 1 first.
+    lists: [LevelList; 8],
+    /// How many arenas have enqueued work.
+    enqueued: u32,
+}
+
+impl Model for Arenas {
+    ghost use Rattle.std.specs.Prelude.{List};
+    ghost use Rattle.market_types.specs.State.{Arena};
+    ghost use Rattle.arena_store.specs.Store.{by_stamp, IsStored};
+
+    ghost Value = { List Arena };
+
+    ghost view = { λ a. by_stamp a.table.items };
+
+    ghost invariant = { λ a. IsStored a.table.items a.lists a.enqueued };
+}
+
+impl Arenas {
+    /// The most arenas that live at a time.
+    pub const MOST_ARENAS: usize = 1024;
+
+    /// No arena lives.
+    pub fn new(alloc: Global) -> Self
+        ensures { result ≡ [] }
+    {
+        Arenas {
+            table: Vec::new(alloc),
+            lists: [
+                LevelList::new(),
+                LevelList::new(),
+                LevelList::new(),
+                LevelList::new(),
+                LevelList::new(),
+                LevelList::new(),
+                LevelList::new(),
+                LevelList::new(),
+            ],
+            enqueued: 0,
+        }
+    }
+
+    /// Each living arena stands in the list once: behind all that are newer, at its index of its level. This does nothing:
+    /// what it ensures holds wherever it is called.
+    #[inline(always)]
+    pub fn stand_once(&self)
+        ensures { StandOnce self.now }
+    {
+        // The fact is the store's invariant, which a look at a field opens.
+        let _ = &self.table;
+    }
+
+    /// How many arenas live.
+    pub fn len(&self) -> usize
+        ensures exact { result ≡ length self.now }
+        ensures few { result ≤ 1024 }
+    {
+        self.table.len()
+    }
+
+    /// The arena of this number.
+    pub fn get(&self, arena: ArenaId) -> Option<StoredArena>
+        ensures exact { result ≡ arena_at arena self.now }
+        ensures number { IfSome result (λ found. found.number ≡ arena) }
+    {
+        let index = index_of(&self.table, arena)?;
+        Some(self.table[index])
+    }
+
+    /// Some arena has enqueued work.
+    pub fn has_mandatory(&self) -> bool
+        ensures exact { result ≡ has_mandatory self.now }
+    {
+        self.enqueued > 0
+    }
+
+    /// What the arenas of a level ask for.
+    pub fn demand(&self, level: Level) -> u64
+        ensures exact { result ≡ total_request (at_level level self.now) }
+        ensures small { result ≤ 1024 * 65535 }
+    {
+        self.lists[level.index()].demand()
+    }
+
+    /// What the arenas of a level ask for that are newer than this stamp.
+    pub fn before(&self, level: Level, stamp: u32) -> (u64, u32)
+        ensures exact { result.0 ≡ total_request (at_level level (newer stamp self.now)) }
+        ensures entered { 0 < length (at_level level self.now) → 1 ≤ result.1 }
+        ensures visits { result.1 ≤ 2 * bits (length self.now) }
+        ensures few { result.1 ≤ 22 }
+    {
+        self.lists[level.index()].before(stamp)
+    }
+
+    /// What each level asks for, level 1 first.
+    pub fn demands(&self) -> [u64; 8]
+        ensures exact { (level : ℕ) → 1 ≤ level → level ≤ 8
+            → slice_index result (level - 1) ≡ total_request (at_level level self.now) }
+        ensures small { (index : ℕ) → slice_index result index ≤ 1024 * 65535 }
+        ensures size { length result ≡ 8 }
+    {
+        let mut demands = [0; 8];
+        for index in 0..8 {
+            demands[index] = self.demand(Level::from_index(index));
+        }
+        demands
+    }
+
+    /// The first arena of a level that has enqueued work and asks for workers.
+    pub fn first_mandated(&self, level: Level) -> (Option<ArenaId>, u32)
+        ensures exact { result.0
+            ≡ option_map (λ (a : Arena). a.number) (find (λ (a : Arena). is_mandated a.claim) (at_level level self.now)) }
+        ensures entered { 0 < length (at_level level self.now) → 1 ≤ result.1 }
+        ensures visits { result.1 ≤ 2 * bits (length self.now) }
+        ensures few { result.1 ≤ 22 }
+    {
+        let (row, visits) = self.lists[level.index()].first_mandated();
+        match row {
+            Some(row) => (Some(row.arena), visits),
+            None => (None, visits),
+        }
+    }
+
+    /// How many arenas a level has.
+    pub fn count(&self, level: Level) -> usize
+        ensures exact { result ≡ length (at_level level self.now) }
+    {
+        self.lists[level.index()].len()
+    }
+
+    /// The arena at an index, from 0 on, of a level; `None` beyond its last.
+    pub fn nth_of(&self, level: Level, index: usize) -> Option<StoredArena>
+        ensures exact { result ≡ slice_get (at_level level self.now) index }
+        ensures there { IfSome result (λ found. arena_at found.number self.now ≡ Some found) }
+    {
+        let (row, _visits) = self.lists[level.index()].walk(index);
+        let row = row?;
+        self.get(row.arena)
+    }
+
+    /// What the list of a level keeps of its arenas, for a walk in order that may pass over some.
+    pub fn whole(&self, level: Level) -> Stretch<'_>
+        ensures rows { result.0 ≡ level_rows level self.now }
+        ensures asked { requests result.0 ≡ total_request (at_level level self.now) }
+        ensures height { result.1 ≤ 2 * bits (length self.now) }
+        ensures short { length result.0 ≤ 1024 }
+        ensures few { length self.now ≤ 1024 }
+    {
+        self.lists[level.index()].whole()
+    }
+
+    /// A new arena, newer than all others.
+    pub fn push(&mut self, alloc: Global, arena: StoredArena) -> Result<u32, AllocError>
+        requires room { length self.old < 1024 }
+        requires newest { All (λ (a : Arena). a.stamp < arena.stamp) self.old }
+        requires last { All (λ (a : Arena). a.number < arena.number) self.old }
+        ensures pushed { OnOk result (self.new ≡ arena ∷ self.old) }
+        ensures unchanged { OnErr result (self.new ≡ self.old) }
+        ensures entered { IfOk result (λ visits. 1 ≤ visits) }
+        ensures visits { IfOk result (λ visits. visits ≤ 2 * bits (length self.old) + 1) }
+    {
+        self.table.reserve(1)?;
+        let list = &mut self.lists[arena.level().index()];
+        let visits = list.push(alloc, arena.row())?;
+        self.table.push_reserved(arena);
+        self.enqueued += counted(arena.claim());
+        Ok(visits)
+    }
+
+    /// Changes an arena's claim, unless the change is refused or no living arena has this number. Gives the claim then.
+    #[inline(always)]
+    pub fn change(&mut self, arena: ArenaId, change: Change) -> Result<(ArenaRecord, u32), Fault>
+        ensures claim { IfOk result (λ done. changed_at (arena_at arena self.old) change ≡ Ok done.0) }
+        ensures next { IfOk result (λ done. self.new ≡ with_claim arena done.0 self.old) }
+        ensures fault { IfErr result (λ fault. changed_at (arena_at arena self.old) change ≡ Err fault) }
+        ensures unchanged { OnErr result (self.new ≡ self.old) }
+        ensures entered { IfOk result (λ done. 1 ≤ done.1) }
+        ensures visits { IfOk result (λ done. done.1 ≤ 2 * bits (length self.old)) }
+    {
+        let Some(index) = index_of(&self.table, arena) else {
+            return Err(Fault::NoArena);
+        };
+        let old = self.table[index];
+        let claim = change.made_to(old.claim())?;
+        let new = old.with_claim(claim);
+        self.table[index] = new;
+        self.enqueued = self.enqueued - counted(old.claim()) + counted(claim);
+        let row = new.row();
+        let list = &mut self.lists[old.level().index()];
+        let visits = list.update(old.row(), row.request, row.mandated);
+        Ok((claim, visits))
+    }
+
+    /// The arena goes; `None` where no living arena has this number.
+    pub fn remove(&mut self, arena: ArenaId) -> Option<u32>
+        ensures exact { self.new ≡ without arena self.old }
+        ensures there { OnSome result (IsSome (arena_at arena self.old)) }
+        ensures missing { IfNone result (arena_at arena self.old ≡ None) }
+        ensures unchanged { IfNone result (self.new ≡ self.old) }
+        ensures entered { IfSome result (λ visits. 1 ≤ visits) }
+        ensures visits { IfSome result (λ visits. visits ≤ 2 * bits (length self.old)) }
+    {
+        let index = index_of(&self.table, arena)?;
+        let old = self.table.remove(index);
+        self.enqueued -= counted(old.claim());
+        let list = &mut self.lists[old.level().index()];
+        let (_taken, visits) = list.take(old.stamp());
+        Some(visits)
+    }
+
+    /// The arena goes first at this level, with a new stamp; `None` where no living arena has this number.
+    pub fn promote(&mut self, arena: ArenaId, stamp: u32, level: Level) -> Option<u32>
+        requires newest { All (λ (a : Arena). a.stamp < stamp) self.old }
+        ensures there { OnSome result (IsSome (arena_at arena self.old)) }
+        ensures exact { (a : Arena) → arena_at arena self.old ≡ Some a
+            → self.new ≡ record a { stamp = stamp; level = level } ∷ without a.number self.old }
+        ensures missing { IfNone result (arena_at arena self.old ≡ None) }
+        ensures unchanged { IfNone result (self.new ≡ self.old) }
+        ensures entered { IfSome result (λ visits. 2 ≤ visits) }
+        ensures visits { IfSome result (λ visits. visits ≤ 4 * bits (length self.old) + 1) }
+    {
+        let index = index_of(&self.table, arena)?;
+        let old = self.table[index];
+        let from = &mut self.lists[old.level().index()];
+        let (taken, out) = from.take(old.stamp());
+        let Some(taken) = taken else {
+            unreachable!();
+        };
+        let to = &mut self.lists[level.index()];
+        let back = to.put(taken, stamp);
+        self.table[index] = old.promoted(stamp, level);
+        Some(out + back)
+    }
+}
+
+/// 1 where there is enqueued work.
+fn counted(claim: ArenaRecord) -> u32
+    ensures { result ≡ (if nat_lt 0 claim.mandatory then 1 else 0) }
+{
+    if claim.mandatory() > 0 { 1 } else { 0 }
+}

@@ -1,0 +1,14 @@
+//! Where bytes come from and where they go: a [`Source`] is read in pieces, a [`Sink`] is written in pieces, and each
+//! says by its contract what it gave or took, also after a fault. [`put_all`] writes a whole text.
+//!
+//! [`ReadSource`] and [`WriteSink`] stand over std's readers and writers, [`TestSource`] and [`TestSink`] over memory:
+//! these cut what they give and take into pieces of a chosen size, and fail where a test says.
+#![tactic(auto)]
+
+mod device;
+mod std_device;
+mod test_device;
+
+pub use device::{DeviceFault, Sink, Source, WriteFault, put_all};
+pub use std_device::{ReadSource, WriteSink};
+pub use test_device::{Refusal, TestSink, TestSource};

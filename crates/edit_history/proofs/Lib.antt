@@ -1,0 +1,4 @@
+mod Longer
+mod Moved
+mod Placed
+mod Keeping

@@ -1,0 +1,54 @@
+-- What contracts see of a chronicle, and what opening one answers.
+use Rattle.std.specs.Prelude.{◌≡◌, ◌≤◌, ℕ, ◌||◌, ◌==◌, nat_lt, if◌then◌else◌, List, [], length, Result, Ok, Err}
+use Rattle.market_types.specs.declared.command.Cmd.{Cmd}
+use Rattle.market_types.specs.declared.reply.Entry.{Entry}
+use Rattle.market_types.specs.declared.reply.Reply.{Reply}
+use Rattle.market_types.specs.declared.reply.OpenFault.{OpenFault}
+use Rattle.market_types.specs.declared.reply.OpenFault.TheVariants.{BadBase, BadHard, BadSeats, BadPlaces, BadLevels}
+use Rattle.market_types.specs.State.{State, opening}
+use Rattle.market_types.specs.History.{calls_of, state_after}
+
+-- the market at its opening, the history since, the number of places, and how many of the first entries are no longer kept (own)
+pub record Chronicled : Type 0 where
+  pub start : State
+  pub log : List Entry
+  pub places : ℕ
+  pub from : ℕ
+
+-- the market as it stands
+abbrev pub market_of : Chronicled → State
+market_of c = state_after c.start (calls_of c.log)
+
+-- a seat's command with its reply
+abbrev pub entry : ℕ → Cmd → Reply → Entry
+entry seat cmd reply = record { call = record { seat = seat; cmd = cmd }; reply = reply }
+
+-- a chronicle that nothing has happened to
+abbrev pub begun : ℕ → ℕ → ℕ → ℕ → ℕ → Chronicled
+begun base hard seats places levels =
+    record { start = opening base hard seats levels; log = []; places = places; from = 0 }
+
+-- a new chronicle, or the first of its numbers that is out of range (own)
+abbrev pub opened_chronicle : ℕ → ℕ → ℕ → ℕ → ℕ → Result Chronicled OpenFault
+opened_chronicle base hard seats places levels =
+    if base == 0 || nat_lt 65536 base then Err BadBase
+    else if hard == 0 || nat_lt 65535 hard then Err BadHard
+    else if seats == 0 || nat_lt 64 seats then Err BadSeats
+    else if places == 0 || nat_lt 1048576 places then Err BadPlaces
+    else if levels == 0 || nat_lt 8 levels then Err BadLevels
+    else Ok (begun base hard seats places levels)
+
+-- it is what a market is opened with, and its numbers are in their ranges
+pub record IsOpening (s : State) : Type 0 where
+  pub same : s ≡ opening s.base s.hard (length s.seats) s.levels
+  pub base : (1 ≤ s.base) × (s.base ≤ 65536)
+  pub hard : (1 ≤ s.hard) × (s.hard ≤ 65535)
+  pub seats : (1 ≤ length s.seats) × (length s.seats ≤ 64)
+  pub levels : (1 ≤ s.levels) × (s.levels ≤ 8)
+
+-- the market has the numbers of its opening still
+pub record HasNumbersOf (start s : State) : Type 0 where
+  pub base : s.base ≡ start.base
+  pub hard : s.hard ≡ start.hard
+  pub seats : length s.seats ≡ length start.seats
+  pub levels : s.levels ≡ start.levels

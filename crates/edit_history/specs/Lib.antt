@@ -1,0 +1,6 @@
+pub mod Chronicled
+pub mod Places
+pub mod Moves
+pub mod Kept
+pub mod Pasts
+pub mod Falls

@@ -1,0 +1,167 @@
+//! The market and its history.
+ghost use Rattle.std.specs.Prelude.{◌≡◌, ◌+◌, ◌<◌, ◌≤◌, ◌++◌, [], ◌∷◌, Some, length, slice_get, IfOk, OnOk, OnErr, IfErr, IsErrOf, IsOk};
+ghost use Rattle.market_types.specs.Step.{step, place_of};
+ghost use Rattle.market_types.specs.History.{IsLegal};
+ghost use Rattle.market_types.specs.Opening.{MemoryAside};
+ghost use Rattle.edit_history.specs.Chronicled.{entry, market_of, opened_chronicle, HasNumbersOf, IsOpening};
+ghost use Rattle.edit_history.specs.Places.{takes, taken, LacksPlaces};
+ghost use Rattle.edit_history.specs.declared.fault.CallFault.TheVariants.{HistoryFull, Memory};
+
+use crate::fault::CallFault;
+use crate::past::Past;
+use market_core::Market;
+use market_types::{ArenaId, Call, Cmd, Entry, OpenFault, Reply, SeatNo};
+use std::alloc::Global;
+use std::marker::Model;
+use std::snapshot::Snapshot;
+
+/// The most places that a history can have.
+const MOST_PLACES: u32 = 1_048_576;
+
+/// A market whose calls are recorded. Contracts see it as its opening, the history since, and its number of places.
+#[derive(Drop)]
+pub struct Chronicle {
+    opened: Snapshot<Market>,
+    market: Market,
+    // The history is the past, which takes no memory, and the entries since.
+    past: Past,
+    from: u64,
+    recent: Vec<Entry>,
+    places: u32,
+}
+
+impl Model for Chronicle {
+    ghost use Rattle.std.specs.Prelude.{◌++◌, vec_capacity};
+    ghost use Rattle.edit_history.specs.Chronicled.{Chronicled};
+    ghost use Rattle.edit_history.specs.Kept.{IsKept};
+
+    ghost Value = { Chronicled };
+
+    ghost view = { λ c. record { start = c.opened.value; log = c.past ++ c.recent.items; places = c.places; from = c.from } };
+
+    ghost invariant = { λ c. IsKept c.opened.value c.market c.past c.recent.items c.from c.places (vec_capacity c.recent) };
+}
+
+impl Chronicle {
+    /// A chronicle that nothing has happened to: with a base of 1 to 65,536, else `BadBase`; a hard limit of 1 to 65,535,
+    /// else `BadHard`; 1 to 64 seats, else `BadSeats`; 1 to 1,048,576 places, else `BadPlaces`; and 1 to 8 levels, else
+    /// `BadLevels`. Then out of memory is `Memory`.
+    pub fn new(
+        alloc: Global,
+        base: u32,
+        hard: u32,
+        seats: u8,
+        places: u32,
+        levels: u32,
+    ) -> Result<Self, OpenFault>
+        ensures exact { MemoryAside (opened_chronicle base hard seats places levels) result }
+    {
+        match Market::new(alloc, base, hard, seats, levels) {
+            Err(OpenFault::BadBase) => Err(OpenFault::BadBase),
+            Err(OpenFault::BadHard) => Err(OpenFault::BadHard),
+            Err(OpenFault::BadSeats) => Err(OpenFault::BadSeats),
+            _ if places == 0 || places > MOST_PLACES => Err(OpenFault::BadPlaces),
+            Err(fault) => Err(fault),
+            Ok(market) => Ok(Chronicle {
+                opened: Snapshot::of(&market),
+                market,
+                past: Past::new(),
+                from: 0,
+                recent: Vec::new(alloc),
+                places,
+            }),
+        }
+    }
+
+    /// Does what a seat asks, as the market does, and records it with its reply, be it a refusal. A Join by a seat that is not
+    /// placed needs two free places, a Leave by a placed seat none, every other call one; where they lack, the answer is
+    /// `HistoryFull`. Then out of memory, for the command or for its entry, is `Memory`. After either nothing is changed, and
+    /// nothing recorded. The memory of a later Leave is taken by the call that places its seat, so that a Leave by a placed
+    /// seat takes none and always succeeds. The seat is one that the market has.
+    pub fn call(&mut self, alloc: Global, seat: SeatNo, cmd: Cmd) -> Result<Reply, CallFault>
+        requires seat { seat < length self.old.start.seats }
+        ensures reply { IfOk result (λ reply. reply ≡ (step (market_of self.old) seat cmd).0) }
+        ensures recorded { IfOk result (λ reply. self.new.log ≡ self.old.log ++ entry seat cmd reply ∷ []) }
+        ensures unchanged { OnErr result (self.new ≡ self.old) }
+        ensures full { LacksPlaces self.old seat cmd → IsErrOf result HistoryFull }
+        ensures room { IfErr result (λ fault. fault ≡ HistoryFull → LacksPlaces self.old seat cmd) }
+        ensures leave { takes (place_of (market_of self.old) seat) cmd ≡ 0 → IsOk result }
+        ensures start { self.new.start ≡ self.old.start }
+        ensures places { self.new.places ≡ self.old.places }
+        ensures from { self.new.from ≡ self.old.from }
+    {
+        let call = Call { seat, cmd };
+        let placed = self.market.placed();
+        let takes = takes_of(self.market.arena_of(call.seat), call.cmd);
+        if self.free() < takes {
+            return Err(CallFault::HistoryFull);
+        }
+        // One entry for this call, if it needs a place, one for each placed seat, and one for a seat that joins.
+        let Ok(()) = self.recent.reserve((placed + takes) as usize) else {
+            return Err(CallFault::Memory);
+        };
+        let Ok(reply) = self.market.apply(alloc, call.seat, call.cmd) else {
+            return Err(CallFault::Memory);
+        };
+        // Only lists take memory here, and they change nothing.
+        let Ok(kept) = reply.copied(alloc) else {
+            return Err(CallFault::Memory);
+        };
+        self.recent.push_reserved(Entry { call, reply: kept });
+        Ok(reply)
+    }
+
+    /// How many calls were answered.
+    pub fn len(&self) -> u64
+        ensures exact { result ≡ length self.now.log }
+    {
+        self.from + self.recent.len() as u64
+    }
+
+    /// The entry of a call, the first being 0. It takes no memory.
+    pub fn entry(&self, index: u64) -> &Entry
+        requires kept { self.now.from ≤ index }
+        requires there { index < length self.now.log }
+        ensures exact { slice_get self.now.log index ≡ Some result.now }
+    {
+        &self.recent[(index - self.from) as usize]
+    }
+
+    /// The market as it stands: what the opening becomes by the calls of the history. The history is legal: each reply is the
+    /// one that was due. The market has the numbers of its opening still.
+    pub fn market(&self) -> &Market
+        ensures exact { result.now ≡ market_of self.now }
+        ensures legal { IsLegal self.now.start self.now.log }
+        ensures opened { IsOpening self.now.start }
+        ensures numbers { HasNumbersOf self.now.start result.now }
+    {
+        &self.market
+    }
+
+    /// How many places the history has, 1 to 1,048,576.
+    pub fn places(&self) -> u32
+        ensures exact { result ≡ self.now.places }
+    {
+        self.places
+    }
+
+    /// How many places are free.
+    pub fn free(&self) -> u32
+        ensures exact { result + taken self.now ≡ self.now.places }
+    {
+        let unused = self.places - self.recent.len() as u32;
+        unused - self.market.placed()
+    }
+}
+
+/// How many places a call takes by a seat that is placed there.
+fn takes_of(arena: Option<ArenaId>, cmd: Cmd) -> u32
+    ensures exact { result ≡ takes arena cmd }
+    ensures few { result ≤ 2 }
+{
+    match (arena, cmd) {
+        (None, Cmd::Join) => 2,
+        (Some(_), Cmd::Leave) => 0,
+        _ => 1,
+    }
+}

@@ -1,0 +1,52 @@
+//! A history that exists in proofs alone.
+ghost use Rattle.std.specs.Prelude.{◌≡◌, []};
+
+use market_types::Entry;
+use std::marker::Model;
+use std::snapshot::Snapshot;
+
+/// Contracts see it as its entries. It stores none of them, and its size never changes.
+#[cycle(past)]
+#[derive(Drop)]
+pub(crate) struct Past {
+    last: Last,
+}
+
+#[cycle(past)]
+#[derive(Drop)]
+enum Last {
+    Nothing,
+    After(Snapshot<Past>, Snapshot<Vec<Entry>>),
+}
+
+impl Model for Past {
+    ghost use Rattle.std.specs.Prelude.{List, length};
+    ghost use Rattle.market_types.specs.declared.reply.Entry.{Entry};
+
+    ghost Value = { List Entry };
+
+    ghost use Rattle.edit_history.specs.Pasts.{entries};
+
+    ghost view = { λ p. entries p.last };
+
+    ghost use Rattle.edit_history.specs.Pasts.{IsGrown};
+
+    ghost invariant = { λ p. IsGrown p.last };
+
+    ghost size = { length };
+
+    ghost use Rattle.edit_history.specs.Falls.{falls};
+
+    ghost size_decreases = { λ a h. falls a.last h };
+}
+
+impl Past {
+    /// No entry.
+    pub(crate) fn new() -> Past
+        ensures { result ≡ [] }
+    {
+        Past {
+            last: Last::Nothing,
+        }
+    }
+}

@@ -1,0 +1,98 @@
+//! Histories that fill up, and what a chronicle answers at its bounds.
+use super::*;
+use market_types::{ArenaId, ArenaView, Cmd, Level, OpenFault, Reply, SeatNo};
+use std::alloc::Global;
+use std::process::Abort;
+use std::rt::HostRuntime;
+
+/// A chronicle with a base of 8, a hard limit of 64, four seats, three levels, and so many places.
+fn opened(rt: &impl Abort, alloc: Global, places: u32) -> Chronicle {
+    let Ok(chronicle) = Chronicle::new(alloc, 8, 64, 4, places, 3) else {
+        panic!(rt; "no chronicle");
+    };
+    chronicle
+}
+
+/// What seat 0 is answered.
+fn answer(chronicle: &mut Chronicle, alloc: Global, cmd: Cmd) -> Result<Reply, CallFault> {
+    let _ = chronicle.market();
+    chronicle.call(alloc, SeatNo::new(0), cmd)
+}
+
+/// Opens an arena that asks for one worker.
+fn open_arena(rt: &impl Abort, alloc: Global, chronicle: &mut Chronicle) {
+    let opened = answer(chronicle, alloc, Cmd::Open(8, 1, Level::from_index(1)));
+    assert!(rt; matches!(&opened, Ok(Reply::Opened(arena)) if arena.get() == 1));
+    let asked = answer(chronicle, alloc, Cmd::Request(ArenaId::new(1), 1, 0));
+    assert!(rt; matches!(&asked, Ok(Reply::Requested(1))));
+}
+
+#[test]
+fn a_placed_seat_keeps_a_place_for_its_leave(rt: HostRuntime) {
+    let alloc = rt.alloc();
+    let mut chronicle = opened(&rt, alloc, 4);
+    open_arena(&rt, alloc, &mut chronicle);
+    let joined = answer(&mut chronicle, alloc, Cmd::Join);
+    assert!(&rt; matches!(&joined, Ok(Reply::Placed(arena)) if arena.get() == 1));
+    for cmd in [Cmd::Show(ArenaId::new(1)), Cmd::Stay] {
+        let refused = answer(&mut chronicle, alloc, cmd);
+        assert!(&rt; matches!(&refused, Err(CallFault::HistoryFull)));
+    }
+    assert!(&rt; chronicle.free() == 0);
+    let left = answer(&mut chronicle, alloc, Cmd::Leave);
+    assert!(&rt; matches!(&left, Ok(Reply::Left(arena)) if arena.get() == 1));
+    assert!(&rt; chronicle.len() == 4);
+    let refused = answer(&mut chronicle, alloc, Cmd::Limit);
+    assert!(&rt; matches!(&refused, Err(CallFault::HistoryFull)));
+}
+
+#[test]
+fn a_join_needs_two_places(rt: HostRuntime) {
+    let alloc = rt.alloc();
+    let mut chronicle = opened(&rt, alloc, 3);
+    open_arena(&rt, alloc, &mut chronicle);
+    let refused = answer(&mut chronicle, alloc, Cmd::Join);
+    assert!(&rt; matches!(&refused, Err(CallFault::HistoryFull)));
+    let due = ArenaView {
+        arena: ArenaId::new(1),
+        request: 1,
+        allot: 1,
+        top: true,
+        active: 0,
+        recall: 0,
+        hire: 1,
+    };
+    let shown = answer(&mut chronicle, alloc, Cmd::Show(ArenaId::new(1)));
+    assert!(&rt; matches!(&shown, Ok(Reply::Shown(view)) if *view == due));
+    assert!(&rt; chronicle.len() == 3);
+}
+
+#[test]
+fn an_opening_is_refused_by_the_first_number_out_of_range(rt: HostRuntime) {
+    let bad = [
+        (0, 0, 0, 0, 0, OpenFault::BadBase),
+        (8, 0, 0, 0, 0, OpenFault::BadHard),
+        (8, 64, 65, 0, 0, OpenFault::BadSeats),
+        (8, 64, 4, 0, 0, OpenFault::BadPlaces),
+        (8, 64, 4, 1_048_577, 9, OpenFault::BadPlaces),
+        (8, 64, 4, 1_048_576, 9, OpenFault::BadLevels),
+    ];
+    for (base, hard, seats, places, levels, due) in bad {
+        let answer = Chronicle::new(rt.alloc(), base, hard, seats, places, levels);
+        assert!(&rt; matches!(&answer, Err(fault) if *fault == due));
+    }
+    assert!(&rt; Chronicle::new(rt.alloc(), 8, 64, 4, 1_048_576, 3).is_ok());
+}
+
+#[test]
+fn a_fault_has_its_text(rt: HostRuntime) {
+    for (fault, text) in [
+        (CallFault::Memory, "C1 memory"),
+        (CallFault::HistoryFull, "C2 history full"),
+    ] {
+        let Ok(told) = format!(in rt.alloc(); "{fault}") else {
+            panic!(&rt; "no memory");
+        };
+        assert!(&rt; told.as_str() == text);
+    }
+}

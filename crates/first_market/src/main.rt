@@ -1,0 +1,28 @@
+//! A first program with the market inside: it opens a market and an arena, asks for three workers, and places one.
+#![tactic(auto)]
+
+use anyhow::Result;
+use market_core::Market;
+use market_types::{ArenaId, Cmd, Level, SeatNo, reply_text};
+
+fn main(rt: HostRuntime) -> Result<()> {
+    let alloc = rt.alloc();
+    // Base 8 (seven workers), hard limit 64, four seats, three levels.
+    let mut market = Market::new(alloc, 8, 64, 4, 3)?;
+    let arena = ArenaId::new(1);
+    let commands = [
+        Cmd::Open(8, 1, Level::from_index(1)),
+        Cmd::Request(arena, 3, 0),
+        Cmd::Join,
+    ];
+    for cmd in commands {
+        // That each market has a seat 0 is what this call promises.
+        let _ = market.seats();
+        let reply = market.apply(alloc, SeatNo::new(0), cmd)?;
+        println!(rt; "{}", reply_text(alloc, &reply)?)?;
+    }
+    if let Some(view) = market.view(arena) {
+        println!(rt; "{} allotted, {} more to hire", view.allot, view.hire)?;
+    }
+    Ok(())
+}

@@ -1,0 +1,106 @@
+//! Writing a journal.
+ghost use Rattle.std.specs.Prelude.{◌≡◌, ◌++◌, codes, true, false, OnOk, OnErr, IfErr};
+ghost use Rattle.std.specs.Io.KnownBytes.{Appends};
+ghost use Rattle.byte_devices.specs.Devices.{WritesFront};
+ghost use Rattle.journal_replay.specs.Journal.{entry_lines, journal_text};
+ghost use Rattle.journal_replay.specs.Output.{Fronts, IsOutFault};
+
+use crate::line::{entry_line, header_line};
+use byte_devices::{Sink, WriteFault, put_all};
+use edit_history::Chronicle;
+use std::alloc::{AllocError, Global};
+use thiserror::Error;
+
+/// So many bytes that wait are handed over.
+const PIECE: usize = 65_536;
+
+/// Why a text was not written whole. What was written is then a prefix of it.
+#[derive(Clone, Copy, Debug, Error, PartialEq, Eq)]
+pub enum OutFault {
+    /// A write failed, or took 0 of some bytes.
+    #[error("write fault")]
+    Write,
+    /// Out of memory.
+    #[error("memory")]
+    Memory,
+}
+
+impl From<AllocError> for OutFault {
+    ghost use Rattle.std.specs.Prelude.{◌≡◌};
+    ghost use Rattle.journal_replay.specs.declared.journal.OutFault.TheVariants.{Memory};
+
+    ghost from_gives = { λ _ fault. fault ≡ Memory };
+
+    fn from(_error: AllocError) -> OutFault {
+        OutFault::Memory
+    }
+}
+
+impl From<WriteFault> for OutFault {
+    ghost use Rattle.std.specs.Prelude.{◌≡◌};
+    ghost use Rattle.journal_replay.specs.declared.journal.OutFault.TheVariants.{Write};
+
+    ghost from_gives = { λ _ fault. fault ≡ Write };
+
+    fn from(_fault: WriteFault) -> OutFault {
+        OutFault::Write
+    }
+}
+
+/// Puts a line and its LF at the end of what waits.
+fn push_line(waiting: &mut Vec<u8>, line: &str) -> Result<(), AllocError>
+    ensures { OnOk result (waiting.new.items ≡ waiting.old.items ++ (line.now ++ codes "\n")) }
+{
+    waiting.extend_from_slice(line.as_bytes())?;
+    waiting.push(b'\n')?;
+    Ok(())
+}
+
+/// Writes the lines of all entries behind what waits, piece by piece. What waits at the end is not written yet.
+fn write_entries<W: Sink>(
+    alloc: Global,
+    chronicle: &Chronicle,
+    waiting: &mut Vec<u8>,
+    sink: &mut W,
+) -> Result<(), OutFault>
+    requires whole { chronicle.now.from ≡ 0 }
+    requires working { W.failed sink.old ≡ false }
+    ensures all { OnOk result (Fronts (W.taken sink.old) (W.taken sink.new) waiting.new.items (waiting.old.items ++ entry_lines chronicle.now.start.levels chronicle.now.log)) }
+    ensures working { OnOk result (W.failed sink.new ≡ false) }
+    ensures prefix { OnErr result (WritesFront (W.taken sink.old) (W.taken sink.new) (waiting.old.items ++ entry_lines chronicle.now.start.levels chronicle.now.log)) }
+    ensures cause { IfErr result (λ fault. IsOutFault fault (W.failed sink.new)) }
+{
+    let levels = chronicle.market().levels();
+    for index in 0..chronicle.len() {
+        let line = entry_line(alloc, levels, chronicle.entry(index))?;
+        push_line(waiting, &line)?;
+        if waiting.len() >= PIECE {
+            put_all(sink, waiting)?;
+            waiting.clear();
+        }
+    }
+    Ok(())
+}
+
+/// Writes the journal of a chronicle: a line for its opening, and one for each call with its reply. At the first write that
+/// fails it is `Write`, and out of memory is `Memory`; what was written is then a prefix of the journal. It is written in
+/// pieces of some 65,536 bytes, and takes the memory of one piece.
+pub fn write_journal<W: Sink>(
+    alloc: Global,
+    chronicle: &Chronicle,
+    sink: &mut W,
+) -> Result<(), OutFault>
+    requires whole { chronicle.now.from ≡ 0 }
+    requires working { W.failed sink.old ≡ false }
+    ensures all { OnOk result (Appends (W.taken sink.old) (W.taken sink.new) (journal_text chronicle.now.start chronicle.now.log)) }
+    ensures working { OnOk result (W.failed sink.new ≡ false) }
+    ensures prefix { OnErr result (WritesFront (W.taken sink.old) (W.taken sink.new) (journal_text chronicle.now.start chronicle.now.log)) }
+    ensures cause { IfErr result (λ fault. IsOutFault fault (W.failed sink.new)) }
+{
+    let mut waiting = Vec::new(alloc);
+    let header = header_line(alloc, chronicle.market())?;
+    push_line(&mut waiting, &header)?;
+    write_entries(alloc, chronicle, &mut waiting, sink)?;
+    put_all(sink, &waiting)?;
+    Ok(())
+}

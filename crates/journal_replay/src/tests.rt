@@ -1,0 +1,78 @@
+//! The journal of a short history, and what a failing sink has of it.
+ghost use Rattle.std.specs.Prelude.{◌≡◌, false};
+
+use super::*;
+use byte_devices::{Refusal, TestSink};
+use edit_history::Chronicle;
+use market_types::{ArenaId, Cmd, Level, SeatNo};
+use std::alloc::Global;
+use std::process::Abort;
+use std::rt::HostRuntime;
+
+const JOURNAL: &[u8] = b"\
+{\"base\":8,\"hard\":64,\"journal\":2,\"levels\":3,\"seats\":4}
+{\"cmd\":\"open 8 1 normal\",\"reply\":\"arena 1\",\"seat\":0}
+{\"cmd\":\"request 1 3 0\",\"reply\":\"request 3\",\"seat\":0}
+{\"cmd\":\"show 1\",\"reply\":\"arena 1 request 3 allot 3 top yes active 0 recall 0 hire 3\",\"seat\":0}
+";
+
+/// Records a call of seat 0.
+fn record(rt: &impl Abort, alloc: Global, chronicle: &mut Chronicle, cmd: Cmd)
+    ensures { chronicle.new.from ≡ chronicle.old.from }
+{
+    let _ = chronicle.market();
+    let answered = chronicle.call(alloc, SeatNo::new(0), cmd);
+    assert!(rt; answered.is_ok());
+}
+
+/// An arena is opened, asks for three workers, and is shown.
+fn recorded(rt: &impl Abort, alloc: Global) -> Chronicle
+    ensures { result.from ≡ 0 }
+{
+    let Ok(mut chronicle) = Chronicle::new(alloc, 8, 64, 4, 1000, 3) else {
+        panic!(rt; "no chronicle");
+    };
+    let arena = ArenaId::new(1);
+    record(
+        rt,
+        alloc,
+        &mut chronicle,
+        Cmd::Open(8, 1, Level::from_index(1)),
+    );
+    record(rt, alloc, &mut chronicle, Cmd::Request(arena, 3, 0));
+    record(rt, alloc, &mut chronicle, Cmd::Show(arena));
+    chronicle
+}
+
+/// A sink with room for the journal.
+fn new_sink(rt: &impl Abort, alloc: Global) -> TestSink
+    ensures { result.failed ≡ false }
+{
+    let Ok(memory) = Vec::with_capacity(alloc, 4096) else {
+        panic!(rt; "no memory");
+    };
+    TestSink::new(memory)
+}
+
+#[test]
+fn a_journal_has_a_line_for_the_opening_and_one_for_each_call(rt: HostRuntime) {
+    let chronicle = recorded(&rt, rt.alloc());
+    let mut sink = new_sink(&rt, rt.alloc());
+    let written = write_journal(rt.alloc(), &chronicle, &mut sink);
+    assert!(&rt; written == Ok(()));
+    assert!(&rt; sink.taken() == JOURNAL);
+}
+
+#[test]
+fn a_failing_sink_has_a_front_of_the_journal(rt: HostRuntime) {
+    for refusal in [Refusal::Fault, Refusal::NoneTaken] {
+        for most in [0, 1, 42, 100, 243] {
+            let chronicle = recorded(&rt, rt.alloc());
+            let mut sink = new_sink(&rt, rt.alloc()).refusing_after(most, refusal);
+            let written = write_journal(rt.alloc(), &chronicle, &mut sink);
+            assert!(&rt; written == Err(OutFault::Write));
+            assert!(&rt; JOURNAL.starts_with(sink.taken()));
+            assert!(&rt; sink.taken().len() == most);
+        }
+    }
+}

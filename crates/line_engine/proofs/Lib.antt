@@ -1,0 +1,6 @@
+pub mod Cut
+pub mod Folds
+pub mod Handed
+pub mod Taking
+pub mod Feeding
+pub mod Running

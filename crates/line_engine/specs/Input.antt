@@ -1,0 +1,49 @@
+-- What is read of an input, what is written, and why it stops (own).
+use Rattle.std.specs.Prelude.{◌≡◌, ℕ, ◌<◌, ◌≤◌, List, ◌∷◌, ◌++◌, length, Bool, true, false, Option}
+use Rattle.std.specs.Io.KnownBytes.{Consumes, Appends}
+use Rattle.byte_devices.specs.Devices.{WritesFront}
+use Rattle.line_engine.specs.Lines.{Line, lines_of, whole_lines}
+use Rattle.line_engine.specs.Rule.{LineRule, after, replies_to}
+use Rattle.line_engine.specs.declared.fault.InputFault.{InputFault}
+use Rattle.line_engine.specs.declared.fault.InputFault.TheVariants.{Read, TooLong, Write, Memory, Taker}
+
+-- the most bytes that an input may have
+abbrev pub longest_input : ℕ
+longest_input = 268435456
+
+-- The input was read, its lines led from `start` to `end`, and their replies were written.
+pub record TakesAll {S : Type 0} (rule : LineRule S) (longest : ℕ) (start end : S) (left left' taken taken' : Option (List ℕ)) : Type 0 where
+  pub input : List ℕ
+  pub read : Consumes left left' input
+  pub within : length input ≤ longest_input
+  pub wrote : Appends taken taken' (replies_to rule start (lines_of longest input))
+  pub state : end ≡ after rule start (lines_of longest input)
+
+-- The taker stopped at one of the lines, after it had taken all before.
+pub record StopsAt {S F : Type 0} (rule : LineRule S) (stops : S → Line → F → Type 0) (start : S) (lines : List Line) (fault : F) : Type 0 where
+  pub before : List Line
+  pub line : Line
+  pub more : List Line
+  pub are : lines ≡ before ++ line ∷ more
+  pub why : stops (after rule start before) line fault
+
+-- why an input was not taken to its end, by the bytes that were read, by how the taker stops, and by whether the devices failed
+abbrev pub CauseOf : {F : Type 0} → (F → Type 0) → InputFault F → List ℕ → Bool → Bool → Type 0
+CauseOf stops Read input source_failed sink_failed = (length input ≤ longest_input) × (source_failed ≡ true) × (sink_failed ≡ false)
+CauseOf stops TooLong input source_failed sink_failed = (longest_input < length input) × (source_failed ≡ false) × (sink_failed ≡ false)
+CauseOf stops Write input source_failed sink_failed = (length input ≤ longest_input) × (source_failed ≡ false) × (sink_failed ≡ true)
+CauseOf stops Memory input source_failed sink_failed = (length input ≤ longest_input) × (source_failed ≡ false) × (sink_failed ≡ false)
+CauseOf stops (Taker fault) input source_failed sink_failed = (length input ≤ longest_input) × (source_failed ≡ false) × (sink_failed ≡ false) × stops fault
+
+-- The input was read up to some byte, and a prefix of the replies to it was written.
+pub record Stops {S F : Type 0} (rule : LineRule S) (longest : ℕ) (stops : S → Line → F → Type 0) (start : S) (left left' taken taken' : Option (List ℕ)) (source_failed sink_failed : Bool) (fault : InputFault F) : Type 0 where
+  pub input : List ℕ
+  pub read : Consumes left left' input
+  pub wrote : WritesFront taken taken' (replies_to rule start (lines_of longest input))
+  pub cause : CauseOf (StopsAt rule stops start (lines_of longest input)) fault input source_failed sink_failed
+
+-- The input was read up to some byte, and the replies to all lines that an LF ended were written.
+pub record HandsOver {S : Type 0} (rule : LineRule S) (longest : ℕ) (start : S) (left left' taken taken' : Option (List ℕ)) : Type 0 where
+  pub input : List ℕ
+  pub read : Consumes left left' input
+  pub wrote : Appends taken taken' (replies_to rule start (whole_lines longest input))

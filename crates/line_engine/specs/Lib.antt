@@ -1,0 +1,4 @@
+pub mod Lines
+pub mod Rule
+pub mod Input
+pub mod Pieces

@@ -1,0 +1,21 @@
+//! Cuts what a source gives into lines, hands them to a [`LineTaker`] one after the other, and hands the taker's replies
+//! over to a sink as it goes: [`take_lines`]. Whoever needs a whole input line by line writes a taker and no loop.
+//!
+//! A taker says how long a line it needs: of a longer one it gets the first bytes, told as [`LineForm::TooLong`]. It
+//! learns whether the last line had its LF, it may stop with a fault of its own, and it may write nothing at all and
+//! keep what it has made of the lines until the end.
+#![tactic(auto)]
+
+mod engine;
+mod fault;
+mod form;
+mod lines;
+mod taker;
+
+pub use engine::take_lines;
+pub use fault::InputFault;
+pub use form::LineForm;
+pub use taker::LineTaker;
+
+#[cfg(test)]
+mod tests;

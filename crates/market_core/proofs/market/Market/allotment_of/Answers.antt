@@ -1,0 +1,71 @@
+use Rattle.std.proofs.Common.{arith, refl, sym, ap, ◌∙◌, ◌≡◌, ◌+◌, ◌-◌, ◌≤◌, ◌<◌, get_or}
+use Rattle.market_types.specs.State.{Arena, State}
+use Rattle.market_types.specs.Claims.{request_of}
+use Rattle.market_types.specs.Allotment.{total_request, at_level, demand, assigned, limit_of, share_of, carry_after}
+use Rattle.arena_store.specs.Arenas.{newer, IsFound}
+use Rattle.market_core.proofs.Numbers.{All-found, level-some}
+use Rattle.market_core.proofs.Allotted.{allotment_of-found, request-within}
+use Rattle.market_core.proofs.market.Market.allotment_of.Goals as goal
+use Rattle.market_core.proofs.market.Market.allotment_of.Goals.{After-before-before}
+
+pub returns-then-request-eq0-clause-exact : goal.returns-then-request-eq0-clause-exact
+returns-then-request-eq0-clause-exact c =
+    let s = c.args.self.now in
+    let row = c.args.stored in
+    let found = c.requires.divided.once.found row.number row c.requires.there in
+    let level = All-found (λ (a : Arena). (1 ≤ a.level) × (a.level ≤ s.levels)) row.number s.arenas row c.requires.there c.requires.divided.leveled in
+    let some : 0 < limit_of s = omega (arith, c.requires.divided.limit, c.if-division-eq0.false) in
+    let idle : request_of row.claim ≡ 0 = sym (c.from-request.ensures ∙ c.request.ensures.exact ∙ ap request_of c.claim.ensures) ∙ c.if-request-eq0.true in
+    let zero : share_of (assigned s) (demand s) (carry_after (assigned s) (demand s) 0 (at_level row.level (newer row.stamp s.arenas))) row ≡ 0 = rw idle refl in
+    sym (allotment_of-found s row.number row found level some (c.no_carry_to_keep.ensures.after_a_level s (assigned s)) ∙ zero)
+
+module _ (c : After-before-before) where
+  level-within : (1 ≤ c.args.stored.level) × (c.args.stored.level ≤ c.args.self.now.levels)
+  level-within = All-found (λ (a : Arena). (1 ≤ a.level) × (a.level ≤ c.args.self.now.levels)) c.args.stored.number c.args.self.now.arenas c.args.stored c.requires.there c.requires.divided.leveled
+
+  found-here : IsFound c.args.stored.number c.args.stored c.args.self.now.arenas
+  found-here = c.requires.divided.once.found c.args.stored.number c.args.stored c.requires.there
+
+  asked : c.from-request.result ≡ request_of c.args.stored.claim
+  asked = c.from-request.ensures ∙ c.request.ensures.exact ∙ ap request_of c.claim.ensures
+
+  place-of : c.index-level.result ≡ c.args.stored.level - 1
+  place-of = omega (arith, c.index-level.ensures.exact, c.level.ensures)
+
+  demanded : get_or c.args.division.now.demands c.index-level.result 0 ≡ demand c.args.self.now c.args.stored.level
+  demanded = ap (λ n. get_or c.args.division.now.demands n 0) place-of ∙ c.requires.divided.demands.levels c.args.stored.level level-within.0 level-within.1
+
+  given : get_or c.args.division.now.assigned c.index-level.result 0 ≡ assigned c.args.self.now c.args.stored.level
+  given = ap (λ n. get_or c.args.division.now.assigned n 0) place-of ∙ c.requires.divided.assigned c.args.stored.level level-within.0 level-within.1
+
+  before : c.before-before.result.0 ≡ total_request (at_level c.args.stored.level (newer c.args.stored.stamp c.args.self.now.arenas))
+  before =
+      c.before-before.ensures.exact
+      ∙ ap (λ l. total_request (at_level l (newer c.stamp.result c.self.inside.arenas))) c.level-2.ensures
+      ∙ ap (λ t. total_request (at_level c.args.stored.level (newer t c.self.inside.arenas))) c.stamp.ensures
+      ∙ ap (λ (s : State). total_request (at_level c.args.stored.level (newer c.args.stored.stamp s.arenas))) c.self.view_is
+
+  part : c.before-before.result.0 + c.from-request.result ≤ get_or c.args.division.now.demands c.index-level.result 0
+  part = omega (arith, before, asked, demanded, request-within c.args.stored.number c.args.stored c.args.self.now.arenas found-here)
+
+pub share-workers-requires-clause-some_demand : goal.share-workers-requires-clause-some_demand
+share-workers-requires-clause-some_demand c = omega (arith, part (goal.at.share-workers-requires-clause-some_demand c).After-before-before, c.if-request-eq0.false)
+
+pub share-workers-requires-clause-part_of_demand : goal.share-workers-requires-clause-part_of_demand
+share-workers-requires-clause-part_of_demand c = part (goal.at.share-workers-requires-clause-part_of_demand c).After-before-before
+
+pub returns-clause-exact : goal.returns-clause-exact
+returns-clause-exact c =
+    let here = (goal.at.returns-clause-exact c).After-before-before in
+    let s = c.args.self.now in
+    let row = c.args.stored in
+    let some : 0 < limit_of s = omega (arith, c.requires.divided.limit, c.if-division-eq0.false) in
+    c.share-workers.ensures.workers_of (assigned s) (demand s) (newer row.stamp s.arenas) row
+    (record { assigned_is = given here; demand_is = demanded here; request_is = asked here }) (before here)
+    ∙ sym (allotment_of-found s row.number row (found-here here) (level-within here) some (c.no_carry_to_keep.ensures.after_a_level s (assigned s)))
+
+pub returns-clause-entered : goal.returns-clause-entered
+returns-clause-entered c = λ some asks.
+    let at : c.level-2.result ≡ c.args.stored.level = c.level-2.ensures in
+    let arenas : c.self.inside.arenas ≡ c.args.self.now.arenas = ap (λ (s : State). s.arenas) c.self.view_is in
+    c.before-before.ensures.entered (rw (at, arenas) (level-some c.args.stored.number c.args.self.now.arenas c.args.stored c.requires.there))

@@ -1,0 +1,52 @@
+use Rattle.std.proofs.Common.{arith, sym, ap, subst, ◌∙◌, ◌≡◌, ◌≤◌, ◌*◌, ◌-◌, get_or, length}
+use Rattle.std.proofs.Math.Nat.{mul-le-mul_left}
+use Rattle.market_types.specs.State.{State}
+use Rattle.market_types.specs.Allotment.{assigned, at_level, demand}
+use Rattle.arena_store.specs.Arenas.{level_rows}
+use Rattle.arena_store.specs.Bits.{bits}
+use Rattle.recall_hire.specs.declared.sharing.Sharing.TheVariants.{Carried}
+use Rattle.recall_hire.specs.Shared.{staffed}
+use Rattle.recall_hire.specs.Staffed.{first_in_need, searches}
+use Rattle.market_core.specs.Divided.{rows_at}
+use Rattle.market_core.proofs.LevelWalk.{Shared, walk-of}
+use Rattle.market_core.proofs.InNeed.{need-rows}
+use Rattle.market_core.proofs.market.Market.in_need_at.Goals as goal
+use Rattle.market_core.proofs.market.Market.in_need_at.Goals.{After-first_in_need}
+
+module _ (c : After-first_in_need) where
+  place : c.index-at.result ≡ c.args.level - 1
+  place = omega (arith, c.index-at.ensures.exact)
+
+  asked : get_or c.args.division.now.demands c.index-at.result 0 ≡ demand c.args.self.now c.args.level
+  asked = ap (λ n. get_or c.args.division.now.demands n 0) place ∙ c.requires.shared.divided.demands.levels c.args.level c.requires.shared.low c.requires.shared.high
+
+  given : get_or c.args.division.now.assigned c.index-at.result 0 ≡ assigned c.args.self.now c.args.level
+  given = ap (λ n. get_or c.args.division.now.assigned n 0) place ∙ c.requires.shared.divided.assigned c.args.level c.requires.shared.low c.requires.shared.high
+
+  shared : Shared c.args.self.now
+  shared = record { stand = c.requires.shared.divided.once; leveled = c.requires.shared.divided.leveled; some = c.requires.shared.some; whole = c.no_carry_to_keep.ensures.after_a_level c.args.self.now (assigned c.args.self.now) }
+
+  walk : staffed (Carried (get_or c.args.division.now.assigned c.index-at.result 0) (get_or c.args.division.now.demands c.index-at.result 0)) c.self.inside.roster 0 c.whole.result.0 ≡ rows_at c.args.self.now c.args.level
+  walk =
+      walk-of c.args.self.now c.args.level (get_or c.args.division.now.assigned c.index-at.result 0) (get_or c.args.division.now.demands c.index-at.result 0) c.self.inside.roster c.whole.result.0
+      shared given asked (ap (λ (t : State). t.seats) c.self.view_is) (c.whole.ensures.rows ∙ ap (λ (t : State). level_rows c.args.level t.arenas) c.self.view_is)
+
+pub first_in_need-requires-clause-few : goal.first_in_need-requires-clause-few
+first_in_need-requires-clause-few c = c.whole.ensures.short
+
+pub returns-clause-exact : goal.returns-clause-exact
+returns-clause-exact c =
+    let here = (goal.at.returns-clause-exact c).After-first_in_need in
+    c.first_in_need.ensures.exact ∙ ap first_in_need (walk here) ∙ need-rows c.args.self.now (at_level c.args.level c.args.self.now.arenas)
+
+pub returns-clause-looked : goal.returns-clause-looked
+returns-clause-looked c =
+    let here = (goal.at.returns-clause-looked c).After-first_in_need in
+    omega (arith, c.first_in_need.ensures.looked, ap searches (walk here))
+
+pub returns-clause-most : goal.returns-clause-most
+returns-clause-most c =
+    let here = (goal.at.returns-clause-most c).After-first_in_need in
+    let looked = searches (rows_at c.args.self.now c.args.level) in
+    let height : c.whole.result.1 ≤ 2 * bits (length c.args.self.now.arenas) = subst (λ (t : State). c.whole.result.1 ≤ 2 * bits (length t.arenas)) c.self.view_is c.whole.ensures.height in
+    omega (arith, c.first_in_need.ensures.most, ap (λ n. c.whole.result.1 * n) (ap searches (walk here)), mul-le-mul_left looked height)

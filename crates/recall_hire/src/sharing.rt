@@ -1,0 +1,41 @@
+//! How the workers of a level go to its arenas.
+ghost use Rattle.std.specs.Prelude.{◌≡◌, ◌+◌, ◌*◌, ◌/◌, ◌%◌, ◌^◌, ◌<◌, ◌≤◌};
+
+use market_types::ArenaId;
+
+/// How the workers of a level are shared out among its arenas.
+#[derive(Clone, Copy, Debug)]
+pub enum Sharing {
+    /// Each arena gets its part of `workers`, by what it asks for of the level's `demand`. One carry goes through all.
+    Carried {
+        workers: u64,
+        demand: u64,
+    },
+    /// All `workers` go to one arena, whose enqueued work is served.
+    Picked {
+        arena: Option<ArenaId>,
+        workers: u32,
+    },
+}
+
+/// How many whole workers are `due`, a number of parts of which `demand` make a worker. What is left is the carry. It
+/// divides only where these are not the workers that there are, `active`.
+#[inline(always)]
+pub(crate) fn whole(due: u64, demand: u64, active: u32, carry: &mut u64) -> u32
+    requires some { 0 < demand }
+    requires small { demand < 2 ^ 32 }
+    requires fits { due / demand < 2 ^ 32 }
+    ensures whole { result ≡ due / demand }
+    ensures carry { carry.new ≡ due % demand }
+{
+    let kept = u64::from(active) * demand;
+    if kept <= due {
+        let rest = due - kept;
+        if rest < demand {
+            *carry = rest;
+            return active;
+        }
+    }
+    *carry = due % demand;
+    (due / demand) as u32
+}
