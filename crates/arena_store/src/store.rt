@@ -147,13 +147,6 @@ impl Arenas {
         }
     }
 
-    /// How many arenas a level has.
-    pub fn count(&self, level: Level) -> usize
-        ensures exact { result ≡ length (at_level level self.now) }
-    {
-        self.lists[level.index()].len()
-    }
-
     /// The arena at an index, from 0 on, of a level; `None` beyond its last.
     pub fn nth_of(&self, level: Level, index: usize) -> Option<StoredArena>
         ensures exact { result ≡ slice_get (at_level level self.now) index }

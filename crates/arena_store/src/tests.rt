@@ -28,7 +28,7 @@ fn two_arenas_are_told_by_number_and_by_level(rt: HostRuntime) {
         let asked = arenas.change(ArenaId::new(number), Change::Add(workers, 1));
         assert!(&rt; matches!(asked, Ok((claim, _)) if claim.mandatory() == 1));
     }
-    assert!(&rt; arenas.len() == 2 && arenas.count(level) == 2 && arenas.has_mandatory());
+    assert!(&rt; arenas.len() == 2 && arenas.has_mandatory());
     assert!(&rt; arenas.demand(level) == 5);
     assert!(&rt; arenas.before(level, 1).0 == 2 && arenas.whole(level).requests() == 5);
     assert!(&rt; arenas.first_mandated(level).0 == Some(ArenaId::new(2)));

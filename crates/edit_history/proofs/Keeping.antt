@@ -11,7 +11,7 @@ use Rattle.edit_history.specs.Chronicled.{IsOpening, entry}
 use Rattle.edit_history.specs.Kept.{IsKept}
 use Rattle.edit_history.specs.Places.{placed, takes}
 use Rattle.edit_history.proofs.Longer.{state-longer, legal-longer}
-use Rattle.edit_history.proofs.Moved.{steps}
+use Rattle.market_core.proofs.Moved.{steps}
 use Rattle.edit_history.proofs.Placed.{same-seats-after, nobody, one-of, placed-after, room, takes-some}
 
 pub opening-is : (base hard seats levels : ℕ) → (1 ≤ base) × (base ≤ 65536) → (1 ≤ hard) × (hard ≤ 65535) → (1 ≤ seats) × (seats ≤ 64) → (1 ≤ levels) × (levels ≤ 8) → IsOpening (opening base hard seats levels)

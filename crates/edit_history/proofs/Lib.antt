@@ -1,4 +1,3 @@
 mod Longer
-mod Moved
 mod Placed
 mod Keeping

@@ -13,9 +13,9 @@ use Rattle.market_types.specs.State.{State, opening}
 use Rattle.market_types.specs.Step.{place_of, step}
 use Rattle.market_types.specs.History.{IsLegal, calls_of, state_after, replies_to, of_seat, place_after, place_in}
 use Rattle.edit_history.specs.Chronicled.{HasNumbersOf}
-use Rattle.edit_history.specs.Moves.{Answers}
+use Rattle.market_core.specs.Moves.{Answers}
 use Rattle.edit_history.specs.Places.{placed, takes}
-use Rattle.edit_history.proofs.Moved.{steps, stays}
+use Rattle.market_core.proofs.Moved.{steps, stays}
 
 -- ---- one seat
 

@@ -1,6 +1,5 @@
 pub mod Chronicled
 pub mod Places
-pub mod Moves
 pub mod Kept
 pub mod Pasts
 pub mod Falls

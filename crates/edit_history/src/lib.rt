@@ -12,7 +12,7 @@ mod past;
 
 pub use chronicle::Chronicle;
 pub use fault::CallFault;
-pub use law::{a_call_moves_its_own_seat, own_entries_place_a_seat};
+pub use law::own_entries_place_a_seat;
 
 #[cfg(test)]
 mod tests;

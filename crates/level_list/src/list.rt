@@ -62,13 +62,13 @@ impl LevelList {
         self.rows.sum_before(stamp)
     }
 
-    /// The row at a place of the list, from 0 on, None beyond its end.
-    pub fn walk(&self, place: usize) -> (Option<Row>, u32)
-        ensures exact { result.0 ≡ slice_get self.now place }
+    /// The row at an index of the list, from 0 on, None beyond its end.
+    pub fn walk(&self, index: usize) -> (Option<Row>, u32)
+        ensures exact { result.0 ≡ slice_get self.now index }
         ensures entered { 0 < length self.now → 1 ≤ result.1 }
         ensures visits { result.1 ≤ 2 * bits (length self.now) }
     {
-        self.rows.walk(place)
+        self.rows.walk(index)
     }
 
     /// The first mandated row of the list.

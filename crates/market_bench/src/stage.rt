@@ -9,7 +9,7 @@ ghost use Rattle.market_bench.specs.Stages.{filled, with_arena, with_arenas, wit
 ghost use Rattle.market_bench.specs.Turns.{arena_in, is_in_turns};
 
 use crate::fault::{BenchFault, TurnFault};
-use market_core::{Market, seats_stay};
+use market_core::Market;
 use market_types::{ArenaId, Cmd, Level, Reply, SeatNo};
 use std::alloc::Global;
 
@@ -50,7 +50,7 @@ fn number_in(reply: &Reply) -> Option<u64>
 /// Gives a seat's command to a market, and answers a number out of its reply. A refusal is a fault.
 // As in a program that knows its commands.
 #[inline(always)]
-#[tactic(auto, using(crate::proofs::Living::same_living))]
+#[tactic(auto, using(crate::proofs::Living::same_living, market_core::proofs::Moved::same_seats))]
 fn ask(alloc: Global, market: &mut Market, seat: u8, cmd: Cmd) -> Result<u64, TurnFault>
     requires { seat < length market.old.seats }
     ensures next { OnOk result (market.new ≡ (step market.old seat cmd).1) }
@@ -59,7 +59,6 @@ fn ask(alloc: Global, market: &mut Market, seat: u8, cmd: Cmd) -> Result<u64, Tu
     ensures same_seats { length market.new.seats ≡ length market.old.seats }
     ensures same_arenas { is_in_turns cmd ≡ true → length market.new.arenas ≡ length market.old.arenas }
 {
-    seats_stay();
     let reply = market.apply(alloc, SeatNo::new(seat), cmd)?;
     number_in(&reply).ok_or(TurnFault::Refused)
 }

@@ -73,7 +73,7 @@ level-shared s level stand leveled some whole given = level-carried s level stan
 -- what a division assigns to a level, also above the market's levels, where there is no arena
 pub division-assigned : (s : State) (d : Division) (level : ℕ) → IsDivisionOf s d → IsLeveled s → 1 ≤ level
     → sum_by workers_of (carried (assigned s) (demand s) 0 (at_level level s.arenas)) ≡ assigned s level
-    → slice_index d.assigned (level - 1) ≡ assigned s level
+    → slice_index d.assigned.values (level - 1) ≡ assigned s level
 division-assigned s d level divided leveled low given =
     elim (cases_lt s.levels level) [
       | inl above ↦

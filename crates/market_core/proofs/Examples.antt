@@ -1,10 +1,10 @@
 -- Worked examples of the words that public clauses have: each holds by computation.
-use Rattle.std.specs.Prelude.{◌≡◌, ℕ, pos, true, false, List, [], ◌∷◌, refl}
+use Rattle.std.specs.Prelude.{◌≡◌, pos, true, false, [], ◌∷◌, refl}
 use Rattle.market_types.specs.declared.command.Call.{Call}
 use Rattle.market_types.specs.declared.command.Cmd.{Cmd}
-use Rattle.market_types.specs.declared.command.Cmd.TheVariants.{Open, Close, Priority, Request, Control, Uncontrol, Join, Stay, Leave, Show, Lists, Limit}
+use Rattle.market_types.specs.declared.command.Cmd.TheVariants.{Open, Request, Control, Join, Leave, Show, Lists}
 use Rattle.market_types.specs.declared.reply.Fault.TheVariants.{NoArena}
-use Rattle.market_types.specs.declared.reply.Reply.TheVariants.{Opened, Closed, Moved, Placed, Idle, Left, Refused}
+use Rattle.market_types.specs.declared.reply.Reply.TheVariants.{Moved, Placed, Idle, Left, Refused}
 use Rattle.market_types.specs.State.{State, opening}
 use Rattle.market_types.specs.History.{state_after}
 use Rattle.market_core.specs.Allotted.{level_allotment, total_allotment}

@@ -3,6 +3,7 @@ mod Allotted
 mod Steps
 mod Order
 mod Runs
+pub mod Moved
 mod Staffed
 mod Totals
 mod Assigned

@@ -15,10 +15,10 @@ pub record IsDivisionOf (s : State) (d : Division) : Type 0 where
   pub leveled : IsLeveled s
   pub limit : d.limit ≡ limit_of s
   pub bound : d.bound ≡ bound_of s
-  pub demands : AreDemandsOf s d.demands
-  pub small : (place : ℕ) → slice_index d.demands place ≤ 1024 * 65535
-  pub assigned : (level : ℕ) → 1 ≤ level → level ≤ s.levels → slice_index d.assigned (level - 1) ≡ assigned s level
-  pub within : (place : ℕ) → slice_index d.assigned place ≤ slice_index d.demands place
+  pub demands : AreDemandsOf s d.demands.values
+  pub small : (index : ℕ) → slice_index d.demands.values index ≤ 1024 * 65535
+  pub assigned : (level : ℕ) → 1 ≤ level → level ≤ s.levels → slice_index d.assigned.values (level - 1) ≡ assigned s level
+  pub within : (index : ℕ) → slice_index d.assigned.values index ≤ slice_index d.demands.values index
   pub picked : limit_of s ≡ 0 → d.picked ≡ pick_of s
 
 -- the level is one of the market's, some worker may be active, and this is how they are divided

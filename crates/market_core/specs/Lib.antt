@@ -4,3 +4,4 @@ pub mod Sound
 pub mod Shown
 pub mod Divided
 pub mod Visits
+pub mod Moves

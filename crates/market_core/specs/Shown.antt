@@ -6,9 +6,9 @@ use Rattle.market_core.specs.Sound.{IsSound}
 abbrev pub shown : Inside → State
 shown m =
     record {
-      base = m.base;
-      hard = m.hard;
-      levels = m.levels;
+      base = m.opening.base;
+      hard = m.opening.hard;
+      levels = m.opening.levels;
       arenas = m.arenas;
       controls = m.controls.living;
       seats = m.roster;

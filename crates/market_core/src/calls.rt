@@ -4,7 +4,6 @@ ghost use Rattle.std.specs.List.{All, SomeIndex};
 ghost use Rattle.market_types.specs.declared.command.Call.{Call};
 ghost use Rattle.market_types.specs.History.{replies_to, state_after};
 
-use crate::law::seats_stay;
 use crate::market::Market;
 use market_types::{Call, Reply};
 use std::alloc::{AllocError, Global};
@@ -22,7 +21,6 @@ pub fn apply_all(
     ensures market { OnOk result (market.new ≡ state_after market.old calls.now) }
     ensures part { OnErr result (SomeIndex calls.now (λ n. market.new ≡ state_after market.old (take n calls.now))) }
 {
-    seats_stay();
     let mut replies = Vec::with_capacity(alloc, calls.len())?;
     for call in calls {
         replies.push_reserved(market.apply(alloc, call.seat, call.cmd)?);

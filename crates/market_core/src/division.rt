@@ -3,6 +3,7 @@ ghost use Rattle.std.specs.Prelude.{◌≡◌, ℕ, ◌-◌, ◌*◌, ◌<◌, �
 ghost use Rattle.market_types.specs.Allotment.{is_just};
 ghost use Rattle.recall_hire.specs.declared.sharing.Sharing.TheVariants.{Carried, Picked};
 
+use crate::by_level::ByLevel;
 use market_types::{ArenaId, Level};
 use recall_hire::Sharing;
 
@@ -13,10 +14,10 @@ pub struct Division {
     pub limit: u32,
     /// How many may be allotted in all; where some may be active, so many are.
     pub bound: u32,
-    /// What each level asks for, level 1 first.
-    pub demands: [u64; 8],
+    /// What each level asks for.
+    pub demands: ByLevel<u64>,
     /// What each level is assigned.
-    pub assigned: [u64; 8],
+    pub assigned: ByLevel<u64>,
     /// Where no worker may be active, the arena whose enqueued work is served.
     pub picked: Option<ArenaId>,
     /// How many nodes of the arenas' trees were entered to find that arena.
@@ -28,7 +29,7 @@ impl Division {
     pub fn sharing(&self, level: Level) -> Sharing
         ensures picked { self.now.limit ≡ 0 → result ≡ Picked self.now.picked self.now.bound }
         ensures carried { 0 < self.now.limit
-            → result ≡ Carried (slice_index self.now.assigned (level - 1)) (slice_index self.now.demands (level - 1)) }
+            → result ≡ Carried (slice_index self.now.assigned.values (level - 1)) (slice_index self.now.demands.values (level - 1)) }
     {
         if self.limit == 0 {
             return Sharing::Picked {
@@ -36,10 +37,9 @@ impl Division {
                 workers: self.bound,
             };
         }
-        let at = level.index();
         Sharing::Carried {
-            workers: self.assigned[at],
-            demand: self.demands[at],
+            workers: self.assigned.at(level),
+            demand: self.demands.at(level),
         }
     }
 
@@ -57,7 +57,7 @@ impl Division {
 
 /// What all levels ask for.
 pub fn sum_of(demands: &[u64; 8]) -> u64
-    requires small { (place : ℕ) → slice_index demands.now place ≤ 1024 * 65535 }
+    requires small { (index : ℕ) → slice_index demands.now index ≤ 1024 * 65535 }
     ensures exact { result ≡ sum demands.now }
 {
     let mut total = 0;

@@ -4,13 +4,15 @@
 //! is what its arenas, controls and seats give as they stand, and depends on nothing that went before.
 #![tactic(auto)]
 
+mod by_level;
 mod calls;
 mod division;
 mod law;
 mod market;
+mod opening;
 
 pub use calls::apply_all;
-pub use law::{placed_worker_is_allotted, seats_stay};
+pub use law::{a_call_moves_its_own_seat, placed_worker_is_allotted};
 pub use market::Market;
 
 #[cfg(test)]

@@ -11,6 +11,7 @@ mod allot;
 mod apply;
 mod order;
 
+use crate::opening::Opening;
 use allotment::{bound_is_given_out, no_carry_to_keep};
 use arena_store::Arenas;
 use control_set::ControlSet;
@@ -23,9 +24,7 @@ use std::marker::Model;
 /// seats, and its next numbers.
 #[derive(Drop)]
 pub struct Market {
-    base: u32,
-    hard: u32,
-    levels: u32,
+    opening: Opening,
     arenas: Arenas,
     controls: ControlSet,
     roster: Roster,
@@ -58,25 +57,12 @@ impl Market {
         ensures exact { MemoryAside (opened_market base hard seats levels) result }
         ensures opened { IfOk result (λ market. market ≡ opening base hard seats levels) }
     {
-        if base == 0 || base > 65536 {
-            return Err(OpenFault::BadBase);
-        }
-        if hard == 0 || hard > 65535 {
-            return Err(OpenFault::BadHard);
-        }
-        if seats == 0 || seats > 64 {
-            return Err(OpenFault::BadSeats);
-        }
-        if levels == 0 || levels > 8 {
-            return Err(OpenFault::BadLevels);
-        }
+        let opening = Opening::checked(base, hard, seats, levels)?;
         let Ok(roster) = Roster::new(alloc, seats) else {
             return Err(OpenFault::Memory);
         };
         Ok(Market {
-            base,
-            hard,
-            levels,
+            opening,
             arenas: Arenas::new(alloc),
             controls: ControlSet::new(alloc),
             roster,
@@ -91,7 +77,7 @@ impl Market {
         ensures low { 1 ≤ result }
         ensures high { result ≤ 65536 }
     {
-        self.base
+        self.opening.base
     }
 
     /// How many workers may be active whatever the value is, 1 to 65,535.
@@ -100,7 +86,7 @@ impl Market {
         ensures low { 1 ≤ result }
         ensures high { result ≤ 65535 }
     {
-        self.hard
+        self.opening.hard
     }
 
     /// How many seats there are, 1 to 64, numbered from 0.
@@ -118,7 +104,7 @@ impl Market {
         ensures low { 1 ≤ result }
         ensures high { result ≤ 8 }
     {
-        self.levels
+        self.opening.levels
     }
 
     /// How many seats are placed, 0 to 64. It takes no memory.
@@ -166,7 +152,7 @@ impl Market {
             0
         };
         LimitView {
-            value: self.controls.active_value(self.base),
+            value: self.controls.active_value(self.opening.base),
             limit,
             effective,
         }
@@ -176,6 +162,6 @@ impl Market {
     fn limit(&self) -> u32
         ensures exact { result ≡ limit_of self.now }
     {
-        (self.controls.active_value(self.base) - 1).min(self.hard)
+        (self.controls.active_value(self.opening.base) - 1).min(self.opening.hard)
     }
 }

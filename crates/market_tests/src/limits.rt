@@ -1,9 +1,11 @@
 //! The market at its limits.
-ghost use Rattle.std.specs.Prelude.{◌≡◌, ◌<◌, length, IsTrue};
+ghost use Rattle.std.specs.Prelude.{◌≡◌, ◌<◌, length, IsTrue, IfOk};
+ghost use Rattle.std.specs.List.{All};
+ghost use Rattle.market_types.specs.declared.command.Call.{Call};
 
 use market_core::{Market, apply_all};
 use market_types::{ArenaId, Call, Cmd, ControlId, Fault, Level, OpenFault, Reply, SeatNo};
-use std::alloc::Global;
+use std::alloc::{AllocError, Global};
 use std::process::Abort;
 use std::rt::HostRuntime;
 
@@ -265,4 +267,28 @@ fn a_list_of_commands_is_answered_in_order(rt: HostRuntime) {
         panic!(&rt; "no memory");
     };
     assert!(&rt; matches!(&replies[2], Reply::Shown(view) if view.allot == 3 && view.hire == 3));
+}
+
+/// So many calls of seat 3, each for the limits.
+fn limit_calls(alloc: Global, count: usize) -> Result<Vec<Call>, AllocError>
+    ensures seats { IfOk result (λ calls. All (λ (call : Call). call.seat < 4) calls.items) }
+{
+    let call = Call {
+        seat: SeatNo::new(3),
+        cmd: Cmd::Limit,
+    };
+    vec![in alloc; call; count]
+}
+
+#[test]
+fn a_long_list_of_commands_is_answered(rt: HostRuntime) -> Result<(), AllocError> {
+    let Ok(mut market) = Market::new(rt.alloc(), 8, 64, 4, 3) else {
+        panic!(&rt; "no market");
+    };
+    let calls = limit_calls(rt.alloc(), 1_048_576)?;
+    let replies = apply_all(rt.alloc(), &mut market, &calls)?;
+    assert!(&rt; replies.len() == 1_048_576);
+    let last = replies.last();
+    assert!(&rt; matches!(last, Some(Reply::Limits(limits)) if limits.limit == 7));
+    Ok(())
 }

@@ -1,6 +1,6 @@
 -- What is known of a side's value d once its topmost node n is seen.
 use Rattle.std.specs.List.{slice_get}
-use Rattle.std.proofs.Common.{refl, ◌≡◌, ℕ, ◌+◌, ◌<◌, ◌≤◌, true, false, List, ◌∷◌, ◌++◌, length, take, Box, sym, ap, ◌∙◌, subst, Option, Some, arith}
+use Rattle.std.proofs.Common.{refl, ◌≡◌, ℕ, ◌+◌, ◌<◌, true, false, List, ◌∷◌, ◌++◌, length, Box, sym, ap, ◌∙◌, subst, Option, Some, arith}
 use Rattle.std.specs.declared.alloc.Global.{Global}
 use Rattle.market_types.specs.declared.row.Row.{Row}
 use Rattle.prefix_tree.specs.Rows.{requests, requests_above, first_mandated}

@@ -34,14 +34,14 @@ impl Side {
         (before, visits)
     }
 
-    /// The row at a place of the list.
-    pub(crate) fn walk(&self, place: usize) -> (Option<Row>, u32)
+    /// The row at an index of the list.
+    pub(crate) fn walk(&self, index: usize) -> (Option<Row>, u32)
         requires { IsSmall self.now }
-        ensures row { result.0 ≡ slice_get self.now.0 place }
+        ensures row { result.0 ≡ slice_get self.now.0 index }
         ensures entered { 0 < length self.now.0 → 1 ≤ result.1 }
         ensures visits { result.1 ≤ self.now.1 }
     {
-        let mut rest = place;
+        let mut rest = index;
         let mut visits = 0;
         let mut side = self;
         while let Some(node) = side.enter(&mut visits) {

@@ -76,13 +76,13 @@ impl Tree {
         self.root.sum_before(stamp)
     }
 
-    /// The row at a place of the list, from 0 on, None beyond its end.
-    pub fn walk(&self, place: usize) -> (Option<Row>, u32)
-        ensures exact { result.0 ≡ slice_get self.now place }
+    /// The row at an index of the list, from 0 on, None beyond its end.
+    pub fn walk(&self, index: usize) -> (Option<Row>, u32)
+        ensures exact { result.0 ≡ slice_get self.now index }
         ensures entered { 0 < length self.now → 1 ≤ result.1 }
         ensures visits { result.1 ≤ 2 * bits (length self.now) }
     {
-        self.root.walk(place)
+        self.root.walk(index)
     }
 
     /// The first mandated row of the list.

@@ -11,6 +11,7 @@ ghost use Rattle.market_types.specs.Claims.{request_of};
 ghost use Rattle.market_core.specs.Allotted.{IsWithin, level_allotment};
 
 use super::Market;
+use crate::by_level::ByLevel;
 use crate::division::{Division, sum_of};
 use allotment::{assign, bound_is_given_out, mandatory_pick, no_carry_to_keep, share, top_level};
 use arena_store::StoredArena;
@@ -21,7 +22,7 @@ impl Market {
     /// What each level asks for, and 0 above the levels of the market.
     fn demands(&self) -> [u64; 8]
         ensures exact { AreDemandsOf self.now result }
-        ensures small { (place : ℕ) → slice_index result place ≤ 1024 * 65535 }
+        ensures small { (index : ℕ) → slice_index result index ≤ 1024 * 65535 }
         ensures leveled { IsLeveled self.now }
     {
         self.arenas.demands()
@@ -36,11 +37,11 @@ impl Market {
     {
         let mut picks = [None; 8];
         let mut visits = 0;
-        for place in 0..self.levels {
+        for index in 0..self.opening.levels {
             let (pick, more) = self
                 .arenas
-                .first_mandated(Level::from_index(place as usize));
-            picks[place as usize] = pick;
+                .first_mandated(Level::from_index(index as usize));
+            picks[index as usize] = pick;
             visits += more;
         }
         (picks, visits)
@@ -69,8 +70,10 @@ impl Market {
         Division {
             limit: limits.limit,
             bound,
-            demands,
-            assigned: assign(&demands, u64::from(bound)),
+            demands: ByLevel { values: demands },
+            assigned: ByLevel {
+                values: assign(&demands, u64::from(bound)),
+            },
             picked,
             visits,
         }
@@ -93,9 +96,10 @@ impl Market {
         if request == 0 {
             return (0, 0);
         }
-        let level = stored.level().index();
-        let (before, visits) = self.arenas.before(stored.level(), stored.stamp());
-        let (given, asked) = (division.assigned[level], division.demands[level]);
+        let level = stored.level();
+        let given = division.assigned.at(level);
+        let asked = division.demands.at(level);
+        let (before, visits) = self.arenas.before(level, stored.stamp());
         let workers = share(given, asked, before, request);
         (workers as u32, visits)
     }
@@ -114,7 +118,7 @@ impl Market {
             arena: stored.arena(),
             request: stored.claim().request(),
             allot,
-            top: is_top(stored, &division.demands),
+            top: is_top(stored, &division.demands.values),
             active,
             recall: recall(active, allot),
             hire: hire(active, allot),
@@ -163,7 +167,7 @@ impl Market {
         no_carry_to_keep();
         let division = &self.divide();
         if division.limit > 0 {
-            return division.assigned[level.index()];
+            return division.assigned.at(level);
         }
         let Some(picked) = division.picked else {
             return 0;

@@ -22,7 +22,7 @@ impl Market {
     /// before. The seat is one that the market has.
     ///
     /// That an arena has no more workers than it is allotted after one was placed, no fewer after one was recalled, and that
-    /// no command changes the number of seats, are laws of the definitions: `placed_worker_is_allotted`, `seats_stay`.
+    /// no command changes the number of seats, are laws of the definitions: `placed_worker_is_allotted`, `a_call_moves_its_own_seat`.
     #[inline(always)]
     pub fn apply(&mut self, alloc: Global, seat: SeatNo, cmd: Cmd) -> Result<Reply, AllocError>
         requires seat { seat < length self.old.seats }
@@ -96,7 +96,7 @@ impl Market {
             Ok(claim) => claim,
             Err(fault) => return Ok((Reply::Refused(fault), 0)),
         };
-        if level.get() > self.levels {
+        if level.get() > self.opening.levels {
             return Ok((Reply::Refused(Fault::BadLevel), 0));
         }
         if self.arenas.len() >= Arenas::MOST_ARENAS {
@@ -143,7 +143,7 @@ impl Market {
         ensures entered { least_visits self.old result.0 ≤ result.1 }
         ensures visits { result.1 ≤ most_visits self.old }
     {
-        if self.levels < level.get() {
+        if self.opening.levels < level.get() {
             return (Reply::Refused(Fault::BadLevel), 0);
         }
         if self.next_stamp > LAST_NUMBER {

@@ -37,7 +37,7 @@ impl Market {
         ensures every_search { searched self.now ≤ result.1 }
         ensures most { result.1 ≤ most_joined self.now }
     {
-        let levels = self.levels;
+        let levels = self.opening.levels;
         let division = &self.divide();
         let mut visits = division.visits;
         if division.limit == 0 {
@@ -63,8 +63,8 @@ impl Market {
         ensures few { length self.now.arenas ≤ 1024 }
     {
         no_carry_to_keep();
-        let at = level.index();
-        let (given, asked) = (division.assigned[at], division.demands[at]);
+        let given = division.assigned.at(level);
+        let asked = division.demands.at(level);
         first_in_need(&self.roster, &self.arenas.whole(level), given, asked)
     }
 
@@ -102,7 +102,7 @@ impl Market {
             recalls: Vec::new(alloc),
             hires: Vec::new(alloc),
         };
-        for level in 0..self.levels {
+        for level in 0..self.opening.levels {
             visits += self.list_level(division, Level::from_index(level as usize), &mut lists)?;
         }
         Ok((lists, visits))

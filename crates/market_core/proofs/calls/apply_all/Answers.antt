@@ -2,6 +2,7 @@ use Rattle.std.proofs.Common.{arith, length, sym, ap, ◌∙◌}
 use Rattle.std.proofs.lemmas.Grind.{common_steps}
 use Rattle.market_types.specs.State.{State}
 use Rattle.market_types.specs.Step.{step}
+use Rattle.market_core.proofs.Moved.{same_seats}
 use Rattle.market_core.proofs.Runs.{state_after_more}
 use Rattle.market_core.proofs.calls.apply_all.Goals as goal
 
@@ -17,6 +18,9 @@ loop-call-preserved c =
           c.in_ok-apply.ensures.next
           ∙ ap (λ (s : State). (step s call.seat call.cmd).1) c.loop-call.invariant.so_far
           ∙ sym (state_after_more c.args.market.now calls i call c.loop-call-test.true c.call-item.is);
-      seats = ap (λ (s : State). length s.seats) c.in_ok-apply.ensures.next ∙ c.seats_stay.ensures c.loop-call.market call.seat call.cmd ∙ c.loop-call.invariant.seats;
+      seats =
+          ap (λ (s : State). length s.seats) c.in_ok-apply.ensures.next
+          ∙ same_seats c.loop-call.market call.seat call.cmd
+          ∙ c.loop-call.invariant.seats;
       room = omega (arith, c.push_reserved.ensures.len, c.push_reserved.ensures.capacity, c.loop-call.invariant.room, c.loop-call-test.true);
     }

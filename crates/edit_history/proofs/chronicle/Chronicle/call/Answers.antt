@@ -5,7 +5,7 @@ use Rattle.market_types.specs.Step.{place_of, step}
 use Rattle.market_types.specs.Replies.{is_listed}
 use Rattle.edit_history.specs.Chronicled.{Chronicled, entry}
 use Rattle.edit_history.specs.Places.{takes, taken, placed}
-use Rattle.edit_history.proofs.Moved.{steps}
+use Rattle.market_core.proofs.Moved.{steps}
 use Rattle.edit_history.proofs.Keeping.{kept-seats, kept-some, kept-room, kept-same, kept-more}
 use Rattle.edit_history.proofs.chronicle.Chronicle.call.Goals as goal
 

@@ -1,4 +1,5 @@
 use Rattle.std.proofs.Common.{arith, refl, sym, ap, ◌∙◌, ◌≡◌, ◌+◌, ◌-◌, ◌≤◌, ◌<◌, get_or}
+use Rattle.std.proofs.lemmas.Option.{get_or_from_slice_get}
 use Rattle.market_types.specs.State.{Arena, State}
 use Rattle.market_types.specs.Claims.{request_of}
 use Rattle.market_types.specs.Allotment.{total_request, at_level, demand, assigned, limit_of, share_of, carry_after}
@@ -29,23 +30,26 @@ module _ (c : After-before-before) where
   asked : c.from-request.result ≡ request_of c.args.stored.claim
   asked = c.from-request.ensures ∙ c.request.ensures.exact ∙ ap request_of c.claim.ensures
 
-  place-of : c.index-level.result ≡ c.args.stored.level - 1
-  place-of = omega (arith, c.index-level.ensures.exact, c.level.ensures)
+  demanded : c.at-asked.result ≡ demand c.args.self.now c.args.stored.level
+  demanded =
+      sym (get_or_from_slice_get c.args.division.now.demands.values (c.level-level.result - 1) c.at-asked.result 0 c.at-asked.ensures.exact)
+      ∙ ap (λ l. get_or c.args.division.now.demands.values (l - 1) 0) c.level-level.ensures
+      ∙ c.requires.divided.demands.levels c.args.stored.level level-within.0 level-within.1
 
-  demanded : get_or c.args.division.now.demands c.index-level.result 0 ≡ demand c.args.self.now c.args.stored.level
-  demanded = ap (λ n. get_or c.args.division.now.demands n 0) place-of ∙ c.requires.divided.demands.levels c.args.stored.level level-within.0 level-within.1
-
-  given : get_or c.args.division.now.assigned c.index-level.result 0 ≡ assigned c.args.self.now c.args.stored.level
-  given = ap (λ n. get_or c.args.division.now.assigned n 0) place-of ∙ c.requires.divided.assigned c.args.stored.level level-within.0 level-within.1
+  given : c.at-given.result ≡ assigned c.args.self.now c.args.stored.level
+  given =
+      sym (get_or_from_slice_get c.args.division.now.assigned.values (c.level-level.result - 1) c.at-given.result 0 c.at-given.ensures.exact)
+      ∙ ap (λ l. get_or c.args.division.now.assigned.values (l - 1) 0) c.level-level.ensures
+      ∙ c.requires.divided.assigned c.args.stored.level level-within.0 level-within.1
 
   before : c.before-before.result.0 ≡ total_request (at_level c.args.stored.level (newer c.args.stored.stamp c.args.self.now.arenas))
   before =
       c.before-before.ensures.exact
-      ∙ ap (λ l. total_request (at_level l (newer c.stamp.result c.self.inside.arenas))) c.level-2.ensures
+      ∙ ap (λ l. total_request (at_level l (newer c.stamp.result c.self.inside.arenas))) c.level-level.ensures
       ∙ ap (λ t. total_request (at_level c.args.stored.level (newer t c.self.inside.arenas))) c.stamp.ensures
       ∙ ap (λ (s : State). total_request (at_level c.args.stored.level (newer c.args.stored.stamp s.arenas))) c.self.view_is
 
-  part : c.before-before.result.0 + c.from-request.result ≤ get_or c.args.division.now.demands c.index-level.result 0
+  part : c.before-before.result.0 + c.from-request.result ≤ c.at-asked.result
   part = omega (arith, before, asked, demanded, request-within c.args.stored.number c.args.stored c.args.self.now.arenas found-here)
 
 pub share-workers-requires-clause-some_demand : goal.share-workers-requires-clause-some_demand
@@ -66,6 +70,6 @@ returns-clause-exact c =
 
 pub returns-clause-entered : goal.returns-clause-entered
 returns-clause-entered c = λ some asks.
-    let at : c.level-2.result ≡ c.args.stored.level = c.level-2.ensures in
+    let at : c.level-level.result ≡ c.args.stored.level = c.level-level.ensures in
     let arenas : c.self.inside.arenas ≡ c.args.self.now.arenas = ap (λ (s : State). s.arenas) c.self.view_is in
     c.before-before.ensures.entered (rw (at, arenas) (level-some c.args.stored.number c.args.self.now.arenas c.args.stored c.requires.there))

@@ -1,5 +1,5 @@
-use Rattle.std.proofs.Common.{arith, refl, sym, ap, ◌∙◌, ◌≡◌, ◌<◌, eqb, true, false, Some, None}
-use Rattle.std.specs.Prelude.{slice_index}
+use Rattle.std.proofs.lemmas.Option.{get_or_from_slice_get}
+use Rattle.std.proofs.Common.{arith, refl, sym, ap, ◌∙◌, ◌≡◌, ◌-◌, ◌<◌, eqb, true, false, Some, None}
 use Rattle.market_types.specs.State.{State}
 use Rattle.market_types.specs.Allotment.{assigned, limit_of}
 use Rattle.market_types.specs.Step.{arena_at}
@@ -10,17 +10,17 @@ pub returns-then-division-gt0-clause-assigned : goal.returns-then-division-gt0-c
 returns-then-division-gt0-clause-assigned c =
     let s = c.args.self.now in
     let d = c.divide.result in
-    λ some. ap (slice_index d.assigned) (omega (arith, c.index.ensures.exact))
-    ∙ division-assigned s d c.args.level c.divide.ensures.exact c.divide.ensures.exact.leveled (omega (arith, c.index.ensures.exact)) (c.bound_is_given_out.ensures.in_a_level s c.args.level (omega (arith, c.index.ensures.exact)))
+    λ some. sym (get_or_from_slice_get d.assigned.values (c.args.level - 1) c.at.result 0 c.at.ensures.exact)
+    ∙ division-assigned s d c.args.level c.divide.ensures.exact c.divide.ensures.exact.leveled (omega arith) (c.bound_is_given_out.ensures.in_a_level s c.args.level (omega arith))
 
 pub returns-then-division-gt0-clause-exact : goal.returns-then-division-gt0-clause-exact
 returns-then-division-gt0-clause-exact c =
     let s = c.args.self.now in
     let d = c.divide.result in
     let some : 0 < limit_of s = omega (arith, c.divide.ensures.exact.limit, c.if-division-gt0.true) in
-    let given = c.bound_is_given_out.ensures.in_a_level s c.args.level (omega (arith, c.index.ensures.exact)) in
-    ap (slice_index d.assigned) (omega (arith, c.index.ensures.exact))
-    ∙ division-assigned s d c.args.level c.divide.ensures.exact c.divide.ensures.exact.leveled (omega (arith, c.index.ensures.exact)) given
+    let given = c.bound_is_given_out.ensures.in_a_level s c.args.level (omega arith) in
+    sym (get_or_from_slice_get d.assigned.values (c.args.level - 1) c.at.result 0 c.at.ensures.exact)
+    ∙ division-assigned s d c.args.level c.divide.ensures.exact c.divide.ensures.exact.leveled (omega arith) given
     ∙ sym (level-shared s c.args.level c.divide.ensures.exact.once c.divide.ensures.exact.leveled some (c.no_carry_to_keep.ensures.after_a_level s (assigned s)) given)
 
 pub returns-in_default-clause-exact : goal.returns-in_default-clause-exact

@@ -30,7 +30,7 @@ pub overflow_add-visits : goal.overflow_add-visits
 overflow_add-visits c =
     let s = c.args.self.now in
     let level = c.loop-level.level in
-    let levels : c.self.inside.levels ≡ s.levels = ap (λ (t : State). t.levels) c.self.view_is in
+    let levels : c.self.inside.opening.levels ≡ s.levels = ap (λ (t : State). t.levels) c.self.view_is in
     let one : s.levels - level ≡ suc (s.levels - (level + 1)) = omega (arith, levels, c.loop-level-test.true) in
     let deep = 2 * bits (length s.arenas) in
     let here : c.in_need_at-found.result.0 ≡ need_among s (at_level (level + 1) s.arenas) = c.in_need_at-found.ensures.exact ∙ ap (λ n. need_among s (at_level n s.arenas)) c.from_index.ensures in
@@ -44,7 +44,7 @@ pub returns-then-is_some : goal.returns-then-is_some
 returns-then-is_some c =
     let s = c.args.self.now in
     let level = c.loop-level.level in
-    let levels : c.self.inside.levels ≡ s.levels = ap (λ (t : State). t.levels) c.self.view_is in
+    let levels : c.self.inside.opening.levels ≡ s.levels = ap (λ (t : State). t.levels) c.self.view_is in
     let one : s.levels - level ≡ suc (s.levels - (level + 1)) = omega (arith, levels, c.loop-level-test.true) in
     let deep = 2 * bits (length s.arenas) in
     let here : c.in_need_at-found.result.0 ≡ need_among s (at_level (level + 1) s.arenas) = c.in_need_at-found.ensures.exact ∙ ap (λ n. need_among s (at_level n s.arenas)) c.from_index.ensures in
@@ -66,7 +66,7 @@ pub loop-level-preserved : goal.loop-level-preserved
 loop-level-preserved c =
     let s = c.args.self.now in
     let level = c.loop-level.level in
-    let levels : c.self.inside.levels ≡ s.levels = ap (λ (t : State). t.levels) c.self.view_is in
+    let levels : c.self.inside.opening.levels ≡ s.levels = ap (λ (t : State). t.levels) c.self.view_is in
     let one : s.levels - level ≡ suc (s.levels - (level + 1)) = omega (arith, levels, c.loop-level-test.true) in
     let deep = 2 * bits (length s.arenas) in
     let here : c.in_need_at-found.result.0 ≡ need_among s (at_level (level + 1) s.arenas) = c.in_need_at-found.ensures.exact ∙ ap (λ n. need_among s (at_level n s.arenas)) c.from_index.ensures in
@@ -87,7 +87,7 @@ pub returns : goal.returns
 returns c =
     let s = c.args.self.now in
     let level = c.loop-level.level in
-    let levels : c.self.inside.levels ≡ s.levels = ap (λ (t : State). t.levels) c.self.view_is in
+    let levels : c.self.inside.opening.levels ≡ s.levels = ap (λ (t : State). t.levels) c.self.view_is in
     let over : s.levels - level ≡ 0 = omega (arith, levels, c.loop-level-test.false) in
     record {
       exact = sym (c.loop-level.invariant.needed ∙ need-done s (level + 1) (s.levels - level) over);

@@ -1,4 +1,5 @@
-use Rattle.std.proofs.Common.{arith, sym, ap, subst, ◌∙◌, ◌≡◌, ◌≤◌, ◌*◌, ◌-◌, get_or, length}
+use Rattle.std.proofs.Common.{arith, sym, ap, subst, ◌∙◌, ◌≡◌, ◌≤◌, ◌*◌, ◌-◌, length}
+use Rattle.std.proofs.lemmas.Option.{get_or_from_slice_get}
 use Rattle.std.proofs.Math.Nat.{mul-le-mul_left}
 use Rattle.market_types.specs.State.{State}
 use Rattle.market_types.specs.Allotment.{assigned, at_level, demand}
@@ -14,21 +15,22 @@ use Rattle.market_core.proofs.market.Market.in_need_at.Goals as goal
 use Rattle.market_core.proofs.market.Market.in_need_at.Goals.{After-first_in_need}
 
 module _ (c : After-first_in_need) where
-  place : c.index-at.result ≡ c.args.level - 1
-  place = omega (arith, c.index-at.ensures.exact)
+  asked : c.at-asked.result ≡ demand c.args.self.now c.args.level
+  asked =
+      sym (get_or_from_slice_get c.args.division.now.demands.values (c.args.level - 1) c.at-asked.result 0 c.at-asked.ensures.exact)
+      ∙ c.requires.shared.divided.demands.levels c.args.level c.requires.shared.low c.requires.shared.high
 
-  asked : get_or c.args.division.now.demands c.index-at.result 0 ≡ demand c.args.self.now c.args.level
-  asked = ap (λ n. get_or c.args.division.now.demands n 0) place ∙ c.requires.shared.divided.demands.levels c.args.level c.requires.shared.low c.requires.shared.high
-
-  given : get_or c.args.division.now.assigned c.index-at.result 0 ≡ assigned c.args.self.now c.args.level
-  given = ap (λ n. get_or c.args.division.now.assigned n 0) place ∙ c.requires.shared.divided.assigned c.args.level c.requires.shared.low c.requires.shared.high
+  given : c.at-given.result ≡ assigned c.args.self.now c.args.level
+  given =
+      sym (get_or_from_slice_get c.args.division.now.assigned.values (c.args.level - 1) c.at-given.result 0 c.at-given.ensures.exact)
+      ∙ c.requires.shared.divided.assigned c.args.level c.requires.shared.low c.requires.shared.high
 
   shared : Shared c.args.self.now
   shared = record { stand = c.requires.shared.divided.once; leveled = c.requires.shared.divided.leveled; some = c.requires.shared.some; whole = c.no_carry_to_keep.ensures.after_a_level c.args.self.now (assigned c.args.self.now) }
 
-  walk : staffed (Carried (get_or c.args.division.now.assigned c.index-at.result 0) (get_or c.args.division.now.demands c.index-at.result 0)) c.self.inside.roster 0 c.whole.result.0 ≡ rows_at c.args.self.now c.args.level
+  walk : staffed (Carried c.at-given.result c.at-asked.result) c.self.inside.roster 0 c.whole.result.0 ≡ rows_at c.args.self.now c.args.level
   walk =
-      walk-of c.args.self.now c.args.level (get_or c.args.division.now.assigned c.index-at.result 0) (get_or c.args.division.now.demands c.index-at.result 0) c.self.inside.roster c.whole.result.0
+      walk-of c.args.self.now c.args.level c.at-given.result c.at-asked.result c.self.inside.roster c.whole.result.0
       shared given asked (ap (λ (t : State). t.seats) c.self.view_is) (c.whole.ensures.rows ∙ ap (λ (t : State). level_rows c.args.level t.arenas) c.self.view_is)
 
 pub first_in_need-requires-clause-few : goal.first_in_need-requires-clause-few

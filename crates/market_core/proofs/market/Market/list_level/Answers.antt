@@ -1,9 +1,9 @@
-use Rattle.std.proofs.Common.{arith, sym, ap, subst, ◌∙◌, ◌≡◌, ◌-◌, ◌<◌, ◌≤◌, get_or, length, inl, inr}
+use Rattle.std.proofs.Common.{arith, sym, ap, subst, ◌∙◌, ◌≡◌, ◌-◌, get_or, length, inl, inr}
 use Rattle.std.specs.Prelude.{IfOk, OnOk}
 use Rattle.std.proofs.lemmas.Bool.{cases_eq}
 use Rattle.std.proofs.lemmas.List.{length-map}
 use Rattle.market_types.specs.State.{State}
-use Rattle.market_types.specs.Allotment.{assigned, at_level, demand, limit_of}
+use Rattle.market_types.specs.Allotment.{assigned, at_level, limit_of}
 use Rattle.arena_store.specs.Arenas.{level_row, level_rows}
 use Rattle.recall_hire.specs.Shared.{IsListed, staffed}
 use Rattle.recall_hire.specs.Staffed.{row_of}
@@ -31,7 +31,7 @@ module _ (c : After-list) where
         | inr some ↦
             let shared : Shared s = record { stand = c.requires.divided.once; leveled = c.requires.divided.leveled; some = omega (arith, c.requires.divided.limit); whole = c.no_carry_to_keep.ensures.after_a_level s (assigned s) } in
             ap (λ sharing. staffed sharing c.self.inside.roster 0 c.whole.result.0) (c.sharing.ensures.carried (omega arith))
-            ∙ walk-of s c.args.level (get_or d.assigned (c.args.level - 1) 0) (get_or d.demands (c.args.level - 1) 0) c.self.inside.roster c.whole.result.0 shared
+            ∙ walk-of s c.args.level (get_or d.assigned.values (c.args.level - 1) 0) (get_or d.demands.values (c.args.level - 1) 0) c.self.inside.roster c.whole.result.0 shared
             (c.requires.divided.assigned c.args.level (omega arith) c.requires.high) (c.requires.divided.demands.levels c.args.level (omega arith) c.requires.high) seats rows
       ]
 

@@ -1,8 +1,7 @@
-use Rattle.std.proofs.Common.{arith, sym, ap, ◌∙◌, ◌≡◌, ◌+◌, ◌-◌, ◌≤◌, suc, length}
+use Rattle.std.proofs.Common.{arith, ap, ◌∙◌, ◌≡◌, ◌+◌, ◌-◌, suc, length}
 use Rattle.market_types.specs.State.{State}
 use Rattle.market_types.specs.Step.{counts_of}
 use Rattle.recall_hire.specs.Shared.{IsListed}
-use Rattle.recall_hire.specs.Staffed.{rows_among}
 use Rattle.market_core.specs.Divided.{rows_at}
 use Rattle.market_core.specs.Sound.{IsSound}
 use Rattle.market_core.proofs.LevelWalk.{coming-length, coming-none}
@@ -27,7 +26,7 @@ pub overflow_add-visits : goal.overflow_add-visits
 overflow_add-visits c =
     let s = c.args.self.now in
     let level = c.loop-level.level in
-    let levels : c.self.inside.levels ≡ s.levels = ap (λ (t : State). t.levels) c.self.view_is in
+    let levels : c.self.inside.opening.levels ≡ s.levels = ap (λ (t : State). t.levels) c.self.view_is in
     let one : s.levels - level ≡ suc (s.levels - (level + 1)) = omega (arith, levels, c.loop-level-test.true) in
     let lengths = coming-length s (level + 1) (s.levels - (level + 1)) (s.levels - level) one in
     let more : c.in_ok-visits.field-0 ≡ length (rows_at s (level + 1)) = rw c.from_index.ensures at c.in_ok-visits.ensures.visits in
@@ -37,7 +36,7 @@ pub loop-level-preserved : goal.loop-level-preserved
 loop-level-preserved c =
     let s = c.args.self.now in
     let level = c.loop-level.level in
-    let levels : c.self.inside.levels ≡ s.levels = ap (λ (t : State). t.levels) c.self.view_is in
+    let levels : c.self.inside.opening.levels ≡ s.levels = ap (λ (t : State). t.levels) c.self.view_is in
     let one : s.levels - level ≡ suc (s.levels - (level + 1)) = omega (arith, levels, c.loop-level-test.true) in
     let lengths = coming-length s (level + 1) (s.levels - (level + 1)) (s.levels - level) one in
     let more : c.in_ok-visits.field-0 ≡ length (rows_at s (level + 1)) = rw c.from_index.ensures at c.in_ok-visits.ensures.visits in
@@ -53,7 +52,7 @@ pub returns : goal.returns
 returns c =
     let s = c.args.self.now in
     let level = c.loop-level.level in
-    let levels : c.self.inside.levels ≡ s.levels = ap (λ (t : State). t.levels) c.self.view_is in
+    let levels : c.self.inside.opening.levels ≡ s.levels = ap (λ (t : State). t.levels) c.self.view_is in
     let over : s.levels - level ≡ 0 = omega (arith, levels, c.loop-level-test.false) in
     let none = coming-none s (level + 1) (s.levels - level) over in
     record {

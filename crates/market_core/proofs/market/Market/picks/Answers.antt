@@ -9,5 +9,5 @@ returns-clause-entered c = λ some.
     let s = c.args.self.now in
     let sound : IsSound s = rw c.self.view_is at c.self.invariant in
     let arenas : c.self.inside.arenas ≡ s.arenas = ap (λ (t : State). t.arenas) c.self.view_is in
-    let levels : c.self.inside.levels ≡ s.levels = ap (λ (t : State). t.levels) c.self.view_is in
-    some-level s.arenas s.levels c.loop-place.visits sound.leveled (λ k low at. c.loop-place.invariant.entered k (omega (arith, levels, c.loop-place-test.false)) (rw arenas at)) some
+    let levels : c.self.inside.opening.levels ≡ s.levels = ap (λ (t : State). t.levels) c.self.view_is in
+    some-level s.arenas s.levels c.loop-index.visits sound.leveled (λ k low at. c.loop-index.invariant.entered k (omega (arith, levels, c.loop-index-test.false)) (rw arenas at)) some

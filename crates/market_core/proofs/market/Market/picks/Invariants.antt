@@ -8,12 +8,12 @@ use Rattle.arena_store.specs.Bits.{bits}
 use Rattle.market_core.proofs.market.Market.picks.Given as goal
 
 -- the levels so far have their picks, and there is none above them
-abbrev pub invariant-loop-place : goal.invariant-loop-place
-invariant-loop-place l =
+abbrev pub invariant-loop-index : goal.invariant-loop-index
+invariant-loop-index l =
     record {
-      exact : (k : ℕ) → k < l.place → get_or l.picks k None ≡ number_of (find (λ (a : Arena). is_mandated a.claim) (at_level (k + 1) l.self-inside.arenas));
-      above : (k : ℕ) → l.place ≤ k → get_or l.picks k None ≡ None;
-      entered : (k : ℕ) → k < l.place → 0 < length (at_level (k + 1) l.self-inside.arenas) → 1 ≤ l.visits;
-      visits : l.visits ≤ l.place * (2 * bits (length l.self-inside.arenas));
-      few : l.visits ≤ l.place * 22;
+      exact : (k : ℕ) → k < l.index → get_or l.picks k None ≡ number_of (find (λ (a : Arena). is_mandated a.claim) (at_level (k + 1) l.self-inside.arenas));
+      above : (k : ℕ) → l.index ≤ k → get_or l.picks k None ≡ None;
+      entered : (k : ℕ) → k < l.index → 0 < length (at_level (k + 1) l.self-inside.arenas) → 1 ≤ l.visits;
+      visits : l.visits ≤ l.index * (2 * bits (length l.self-inside.arenas));
+      few : l.visits ≤ l.index * 22;
     }

@@ -1,5 +1,5 @@
-use Rattle.edit_history.proofs.Moved.{steps}
-use Rattle.edit_history.proofs.law.a_call_moves_its_own_seat.Goals as goal
+use Rattle.market_core.proofs.Moved.{steps}
+use Rattle.market_core.proofs.law.a_call_moves_its_own_seat.Goals as goal
 
 pub returns-clause-seats : goal.returns-clause-seats
 returns-clause-seats c = λ s seat cmd. (steps s seat cmd).seats

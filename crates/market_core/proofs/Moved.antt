@@ -1,6 +1,7 @@
 -- What a step does to the seats, and what it keeps of the opening.
 use Rattle.std.specs.Prelude.{slice_get, nat_le, ◌==◌, ◌||◌, ◌+◌, length}
 use Rattle.std.proofs.Common.{unwrap_or, ◌≡◌, ℕ, zero, suc, Bool, true, false, cond, List, [], ◌∷◌, ◌++◌, set, Option, Some, None, Result, Ok, Err, refl, ap, sym, ◌∙◌, inl, inr, nat_lt}
+use Rattle.std.proofs.lemmas.List.{length-set}
 use Rattle.market_types.specs.declared.command.Cmd.{Cmd}
 use Rattle.market_types.specs.declared.command.Cmd.TheVariants.{Open, Close, Priority, Resize, Request, Control, Uncontrol, Join, Stay, Leave, Show, Lists, Limit}
 use Rattle.market_types.specs.declared.reply.Fault.{Fault}
@@ -14,7 +15,7 @@ use Rattle.market_types.specs.State.{Claim, Arena, State}
 use Rattle.market_types.specs.Allotment.{need, recall}
 use Rattle.market_types.specs.Step.{Outcome, last_number, refuse, if_arena, if_claim, arena_at, opened, moved, open_step, close_step, priority_step, resize_step, request_step, control_step, uncontrol_step, place_of, with_place, join_from, stay_from, leave_from, show_step, step}
 use Rattle.market_types.specs.History.{place_after}
-use Rattle.edit_history.specs.Moves.{moves, Answers}
+use Rattle.market_core.specs.Moves.{moves, Answers}
 
 -- what a step of a seat that is placed there leaves
 pub record Steps (s : State) (seat : ℕ) (cmd : Cmd) (arena : Option ℕ) (o : Outcome) : Type 0 where
@@ -27,7 +28,8 @@ pub record Steps (s : State) (seat : ℕ) (cmd : Cmd) (arena : Option ℕ) (o : 
 
 -- ---- commands that move no seat
 
-record Quiet (s : State) (o : Outcome) : Type 0 where
+-- what a command leaves that moves no seat
+pub record Quiet (s : State) (o : Outcome) : Type 0 where
   pub base : o.1.base ≡ s.base
   pub hard : o.1.hard ≡ s.hard
   pub levels : o.1.levels ≡ s.levels
@@ -96,6 +98,21 @@ uncontrol-quiet s c = quiet-if s _ _ _ (quiet-changed s _ Uncontrolled refl refl
 show-quiet : (s : State) (a : ℕ) → Quiet s (show_step s a)
 show-quiet s a = quiet-arena s (arena_at a s.arenas) _ (λ arena. quiet-same s (Shown _) refl)
 
+pub quiet : (s : State) (seat : ℕ) (cmd : Cmd) → moves_seat cmd ≡ false → Quiet s (step s seat cmd)
+quiet s seat (Open slots reserved level) e = open-quiet s slots reserved level
+quiet s seat (Close a) e = close-quiet s a
+quiet s seat (Priority a level) e = priority-quiet s a level
+quiet s seat (Resize a slots reserved) e = resize-quiet s a slots reserved
+quiet s seat (Request a workers mandatory) e = request-quiet s a workers mandatory
+quiet s seat (Control value) e = control-quiet s value
+quiet s seat (Uncontrol c) e = uncontrol-quiet s c
+quiet s seat (Show a) e = show-quiet s a
+quiet s seat Lists e = quiet-same s (Listed _) refl
+quiet s seat Limit e = quiet-same s (Limits _) refl
+quiet s seat Join e = absurd (let f : true ≡ false = e in cc)
+quiet s seat Stay e = absurd (let f : true ≡ false = e in cc)
+quiet s seat Leave e = absurd (let f : true ≡ false = e in cc)
+
 -- ---- a seat
 
 set-self : (l : List (Option ℕ)) (k : ℕ) (p : Option ℕ) → unwrap_or (slice_get l k) None ≡ p → set l k p ≡ l
@@ -156,16 +173,11 @@ leave-steps s seat None at = refused-steps s seat Leave None _ at refl
 leave-steps s seat (Some a) at = record { base = refl; hard = refl; levels = refl; seats = refl; answers = refl; listed = unlisted s (with_place s seat None) }
 
 pub steps : (s : State) (seat : ℕ) (cmd : Cmd) → Steps s seat cmd (place_of s seat) (step s seat cmd)
-steps s seat (Open slots reserved level) = quiet-steps s seat (Open slots reserved level) (place_of s seat) _ refl refl (open-quiet s slots reserved level)
-steps s seat (Close a) = quiet-steps s seat (Close a) (place_of s seat) _ refl refl (close-quiet s a)
-steps s seat (Priority a level) = quiet-steps s seat (Priority a level) (place_of s seat) _ refl refl (priority-quiet s a level)
-steps s seat (Resize a slots reserved) = quiet-steps s seat (Resize a slots reserved) (place_of s seat) _ refl refl (resize-quiet s a slots reserved)
-steps s seat (Request a workers mandatory) = quiet-steps s seat (Request a workers mandatory) (place_of s seat) _ refl refl (request-quiet s a workers mandatory)
-steps s seat (Control value) = quiet-steps s seat (Control value) (place_of s seat) _ refl refl (control-quiet s value)
-steps s seat (Uncontrol c) = quiet-steps s seat (Uncontrol c) (place_of s seat) _ refl refl (uncontrol-quiet s c)
 steps s seat Join = join-steps s seat (place_of s seat) (need s) refl refl
 steps s seat Stay = stay-steps s seat (place_of s seat) refl
 steps s seat Leave = leave-steps s seat (place_of s seat) refl
-steps s seat (Show a) = quiet-steps s seat (Show a) (place_of s seat) _ refl refl (show-quiet s a)
-steps s seat Lists = quiet-steps s seat Lists (place_of s seat) _ refl refl (quiet-same s (Listed _) refl)
-steps s seat Limit = quiet-steps s seat Limit (place_of s seat) _ refl refl (quiet-same s (Limits _) refl)
+steps s seat cmd = quiet-steps s seat cmd (place_of s seat) (step s seat cmd) refl refl (quiet s seat cmd refl)
+
+-- no command changes how many seats there are
+pub same_seats : (s : State) (seat : ℕ) (cmd : Cmd) → length (step s seat cmd).1.seats ≡ length s.seats
+same_seats s seat cmd = ap length (steps s seat cmd).seats ∙ length-set s.seats seat (place_after (place_of s seat) (step s seat cmd).0)

@@ -1,0 +1,114 @@
+//! A market whose calls are recorded, and its journal.
+ghost use Rattle.std.specs.Prelude.{◌≡◌, false};
+
+use byte_devices::TestSink;
+use edit_history::{CallFault, Chronicle};
+use journal_replay::{OutFault, write_journal};
+use market_types::{ArenaId, Cmd, Level, OpenFault, Reply, SeatNo};
+use std::alloc::Global;
+use std::process::Abort;
+use std::rt::HostRuntime;
+
+const JOURNAL: &[u8] = b"\
+{\"base\":8,\"hard\":64,\"journal\":2,\"levels\":3,\"seats\":4}
+{\"cmd\":\"open 8 1 normal\",\"reply\":\"arena 1\",\"seat\":0}
+{\"cmd\":\"request 1 3 0\",\"reply\":\"request 3\",\"seat\":0}
+{\"cmd\":\"lists\",\"reply\":\"recall - hire 1:3\",\"seat\":0}
+{\"cmd\":\"join\",\"reply\":\"placed 1\",\"seat\":0}
+{\"cmd\":\"leave\",\"reply\":\"left 1\",\"seat\":0}
+";
+
+/// A chronicle of four seats, opened again where the first growth was refused.
+fn opened(rt: &impl Abort, alloc: Global) -> Chronicle
+    ensures { result.from ≡ 0 }
+{
+    match Chronicle::new(alloc, 8, 64, 4, 100, 3) {
+        Ok(chronicle) => return chronicle,
+        Err(fault) => assert!(rt; fault == OpenFault::Memory),
+    }
+    let Ok(chronicle) = Chronicle::new(alloc, 8, 64, 4, 100, 3) else {
+        panic!(rt; "no chronicle");
+    };
+    chronicle
+}
+
+/// What seat 0 is answered, asked for again where there was no memory: then nothing had changed.
+fn answer(rt: &impl Abort, alloc: Global, chronicle: &mut Chronicle, cmd: &Cmd) -> Reply
+    ensures { chronicle.new.from ≡ chronicle.old.from }
+{
+    let before = (chronicle.len(), chronicle.places(), chronicle.free());
+    let placed = chronicle.market().placed();
+    match chronicle.call(alloc, SeatNo::new(0), *cmd) {
+        Ok(reply) => return reply,
+        Err(fault) => assert!(rt; fault == CallFault::Memory),
+    }
+    assert!(rt; (chronicle.len(), chronicle.places(), chronicle.free()) == before);
+    assert!(rt; chronicle.market().placed() == placed);
+    let Ok(reply) = chronicle.call(alloc, SeatNo::new(0), *cmd) else {
+        panic!(rt; "no memory");
+    };
+    reply
+}
+
+/// An arena is opened, asks for three workers, is listed, gets a worker, and loses it.
+fn recorded(rt: &impl Abort, alloc: Global) -> Chronicle
+    ensures { result.from ≡ 0 }
+{
+    let mut chronicle = opened(rt, alloc);
+    let told = answer(
+        rt,
+        alloc,
+        &mut chronicle,
+        &Cmd::Open(8, 1, Level::from_index(1)),
+    );
+    assert!(rt; matches!(&told, Reply::Opened(arena) if arena.get() == 1));
+    let told = answer(
+        rt,
+        alloc,
+        &mut chronicle,
+        &Cmd::Request(ArenaId::new(1), 3, 0),
+    );
+    assert!(rt; matches!(&told, Reply::Requested(3)));
+    let told = answer(rt, alloc, &mut chronicle, &Cmd::Lists);
+    assert!(rt; matches!(&told, Reply::Listed(lists) if lists.hires.len() == 1));
+    let told = answer(rt, alloc, &mut chronicle, &Cmd::Join);
+    assert!(rt; matches!(&told, Reply::Placed(arena) if arena.get() == 1));
+    let told = answer(rt, alloc, &mut chronicle, &Cmd::Leave);
+    assert!(rt; matches!(&told, Reply::Left(arena) if arena.get() == 1));
+    chronicle
+}
+
+#[test]
+fn a_refused_growth_leaves_the_chronicle(rt: HostRuntime) {
+    let chronicle = recorded(&rt, rt.alloc());
+    assert!(&rt; chronicle.len() == 5);
+    assert!(&rt; chronicle.free() == 95);
+}
+
+/// A sink with room for the journal.
+fn new_sink(rt: &impl Abort, alloc: Global) -> TestSink
+    ensures { result.failed ≡ false }
+{
+    if let Ok(memory) = Vec::with_capacity(alloc, 4096) {
+        return TestSink::new(memory);
+    }
+    let Ok(memory) = Vec::with_capacity(alloc, 4096) else {
+        panic!(rt; "no memory");
+    };
+    TestSink::new(memory)
+}
+
+#[test]
+fn a_refused_growth_leaves_a_prefix_of_the_journal(rt: HostRuntime) {
+    let chronicle = recorded(&rt, rt.alloc());
+    let mut sink = new_sink(&rt, rt.alloc());
+    if let Err(fault) = write_journal(rt.alloc(), &chronicle, &mut sink) {
+        assert!(&rt; fault == OutFault::Memory);
+        assert!(&rt; JOURNAL.starts_with(sink.taken()));
+        let mut sink = new_sink(&rt, rt.alloc());
+        assert!(&rt; write_journal(rt.alloc(), &chronicle, &mut sink) == Ok(()));
+        assert!(&rt; sink.taken() == JOURNAL);
+        return;
+    }
+    assert!(&rt; sink.taken() == JOURNAL);
+}

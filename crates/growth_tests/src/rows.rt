@@ -1,0 +1,110 @@
+//! Rows, seats and lists of counts.
+ghost use Rattle.std.specs.Prelude.{◌≡◌, ◌<◌, ◌≤◌, ◌∷◌, length, All, OnOk};
+
+use level_list::LevelList;
+use market_types::{ArenaId, Lists, Row, SeatNo};
+use recall_hire::{Roster, Sharing, list};
+use std::alloc::{AllocError, Global};
+use std::process::Abort;
+use std::rt::HostRuntime;
+
+/// The row of an arena with the number of its stamp, which asks for 5.
+fn row(stamp: u32) -> Row
+    ensures { result ≡ record { stamp = stamp; arena = stamp; request = 5; mandated = false } }
+{
+    Row {
+        stamp,
+        arena: ArenaId::new(stamp),
+        request: 5,
+        mandated: false,
+    }
+}
+
+/// Pushes a row, again where the first growth was refused: then the rows were as before.
+fn push(rt: &impl Abort, alloc: Global, rows: &mut LevelList, row: Row) -> Result<(), AllocError>
+    requires room { length rows.old < 1024 }
+    requires request { row.request ≤ 65535 }
+    requires newest { All (λ older. older.stamp < row.stamp) rows.old }
+    ensures rows { OnOk result (rows.new ≡ row ∷ rows.old) }
+{
+    let before = (rows.len(), rows.demand());
+    if rows.push(alloc, row).is_ok() {
+        return Ok(());
+    }
+    assert!(rt; (rows.len(), rows.demand()) == before);
+    rows.push(alloc, row)?;
+    Ok(())
+}
+
+/// Three arenas that ask for 5 workers each.
+fn three_arenas(rt: &impl Abort, alloc: Global) -> Result<LevelList, AllocError> {
+    let mut rows = LevelList::new();
+    push(rt, alloc, &mut rows, row(1))?;
+    push(rt, alloc, &mut rows, row(2))?;
+    push(rt, alloc, &mut rows, row(3))?;
+    Ok(rows)
+}
+
+#[test]
+fn a_refused_growth_leaves_the_rows(rt: HostRuntime) -> Result<(), AllocError> {
+    let rows = three_arenas(&rt, rt.alloc())?;
+    assert!(&rt; rows.demand() == 15);
+    for (index, arena) in [(0, 3), (1, 2), (2, 1)] {
+        assert!(&rt; rows.walk(index).0 == Some(row(arena)));
+    }
+    Ok(())
+}
+
+/// So many seats, none placed.
+fn seats(alloc: Global, count: u8) -> Result<Roster, AllocError>
+    requires some { 1 ≤ count }
+    requires few { count ≤ 64 }
+    ensures { OnOk result (length result.now ≡ count) }
+{
+    match Roster::new(alloc, count) {
+        Ok(roster) => Ok(roster),
+        Err(_) => Roster::new(alloc, count),
+    }
+}
+
+#[test]
+fn a_refused_growth_leaves_a_roster_to_be_made(rt: HostRuntime) -> Result<(), AllocError> {
+    let roster = seats(rt.alloc(), 64)?;
+    assert!(&rt; roster.seats() == 64);
+    assert!(&rt; roster.placed() == 0);
+    Ok(())
+}
+
+/// What is listed where each arena is allotted all that it asks for.
+fn listed(rows: &LevelList, roster: &Roster, alloc: Global) -> Result<Lists, AllocError> {
+    let mut lists = Lists {
+        recalls: Vec::new(alloc),
+        hires: Vec::new(alloc),
+    };
+    let demand = rows.demand();
+    let all = Sharing::Carried {
+        workers: demand,
+        demand,
+    };
+    list(roster, &rows.whole(), all, &mut lists)?;
+    Ok(lists)
+}
+
+#[test]
+fn a_refused_growth_leaves_arenas_to_be_listed(rt: HostRuntime) -> Result<(), AllocError> {
+    let rows = three_arenas(&rt, rt.alloc())?;
+    let mut roster = seats(rt.alloc(), 6)?;
+    for seat in 0..6 {
+        let _ = roster.unplace(SeatNo::new(seat));
+        roster.place(SeatNo::new(seat), ArenaId::new(3));
+    }
+    let lists = match listed(&rows, &roster, rt.alloc()) {
+        Ok(lists) => lists,
+        Err(_) => listed(&rows, &roster, rt.alloc())?,
+    };
+    let recalls = [(ArenaId::new(3), 1)];
+    let hires = [(ArenaId::new(2), 5), (ArenaId::new(1), 5)];
+    assert!(&rt; lists.recalls.as_slice() == recalls.as_slice());
+    assert!(&rt; lists.hires.as_slice() == hires.as_slice());
+    Ok(())
+}
