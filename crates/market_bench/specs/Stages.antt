@@ -7,7 +7,7 @@ use Rattle.market_types.specs.declared.command.Cmd.TheVariants.{Open, Request, J
 use Rattle.market_bench.specs.Repeated.{repeated}
 use Rattle.market_bench.specs.Replies.{number_in}
 use Rattle.market_bench.specs.declared.scenario.Scenario.{Scenario}
-use Rattle.market_bench.specs.declared.scenario.Scenario.TheVariants.{JoinInVain}
+use Rattle.market_bench.specs.declared.scenario.Scenario.TheVariants.{JoinInVain, RequestJoin}
 
 -- the market after a seat's command
 abbrev pub after : ℕ → Cmd → State → Option State
@@ -37,4 +37,5 @@ filled base levels arenas = with_arenas levels arenas (opening base 65535 64 lev
 -- seat 0 joined
 abbrev pub stage_of : Scenario → ℕ → ℕ → Option State
 stage_of JoinInVain levels arenas = option_and_then with_others (filled 64 levels arenas)
+stage_of RequestJoin levels arenas = option_and_then with_others (filled 64 levels arenas)
 stage_of _ levels arenas = filled 65 levels arenas

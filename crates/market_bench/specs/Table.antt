@@ -3,7 +3,7 @@ use Rattle.std.specs.Prelude.{ℕ, List, codes, Option, option_and_then, option_
 use Rattle.market_bench.specs.Stages.{stage_of}
 use Rattle.market_bench.specs.Turns.{Sum, round_of}
 use Rattle.market_bench.specs.declared.scenario.Scenario.{Scenario}
-use Rattle.market_bench.specs.declared.scenario.Scenario.TheVariants.{Request, RequestShow, JoinStayLeave, JoinInVain, Lists}
+use Rattle.market_bench.specs.declared.scenario.Scenario.TheVariants.{Request, RequestShow, JoinStayLeave, JoinInVain, RequestJoin, Lists}
 
 -- what the table calls a scenario
 abbrev pub heading_of : Scenario → List ℕ
@@ -11,6 +11,7 @@ heading_of Request = codes "request"
 heading_of RequestShow = codes "request, show"
 heading_of JoinStayLeave = codes "join, stay, leave"
 heading_of JoinInVain = codes "join in vain"
+heading_of RequestJoin = codes "request, join"
 heading_of Lists = codes "lists"
 
 -- the sum of the replies to the first round in a scenario's market

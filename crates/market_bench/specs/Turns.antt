@@ -25,6 +25,7 @@ turns_of scenario.Request = 50000
 turns_of scenario.RequestShow = 50000
 turns_of scenario.JoinStayLeave = 20000
 turns_of scenario.JoinInVain = 2000
+turns_of scenario.RequestJoin = 2000
 turns_of scenario.Lists = 1000
 
 -- the arena of a turn among so many, spread evenly by a multiplicative hash of 64 bits
@@ -45,6 +46,7 @@ commands_of scenario.Request arenas turn = request_in arenas turn ∷ []
 commands_of scenario.RequestShow arenas turn = request_in arenas turn ∷ Show (arena_in arenas turn) ∷ []
 commands_of scenario.JoinStayLeave arenas turn = Join ∷ Stay ∷ Leave ∷ []
 commands_of scenario.JoinInVain arenas turn = Join ∷ []
+commands_of scenario.RequestJoin arenas turn = Request (arena_in arenas turn) (pos 0) (pos 0) ∷ Join ∷ []
 commands_of scenario.Lists arenas turn = Lists ∷ []
 
 -- a sum of 64 bits, and the market

@@ -1,5 +1,6 @@
 //! What is measured.
 ghost use Rattle.std.specs.Prelude.{◌≡◌, ◌≤◌, [], ◌∷◌, Some, None, OnErr, IfOk, IfErr};
+ghost use Rattle.market_types.specs.declared.command.Cmd.TheVariants.{Join};
 ghost use Rattle.market_bench.specs.declared.fault.BenchFault.TheVariants as bench;
 ghost use Rattle.market_bench.specs.declared.fault.TurnFault.TheVariants.{Refused};
 ghost use Rattle.market_bench.specs.Faults.{StopsTurns};
@@ -24,19 +25,22 @@ pub enum Scenario {
     RequestShow,
     /// A worker that joins, stays and leaves.
     JoinStayLeave,
-    /// A worker that joins where no arena needs one: each arena that is allotted workers is looked at in vain.
+    /// A worker that joins where no arena needs one, as the same worker's last Join found.
     JoinInVain,
+    /// The same after a request, of no more workers: each arena that is allotted workers is looked at in vain.
+    RequestJoin,
     /// The arenas with workers too many or too few.
     Lists,
 }
 
 impl Scenario {
     /// Every scenario, as the table has them.
-    pub const ALL: [Scenario; 5] = [
+    pub const ALL: [Scenario; 6] = [
         Scenario::Request,
         Scenario::RequestShow,
         Scenario::JoinStayLeave,
         Scenario::JoinInVain,
+        Scenario::RequestJoin,
         Scenario::Lists,
     ];
 
@@ -49,6 +53,7 @@ impl Scenario {
             Scenario::RequestShow => "request, show",
             Scenario::JoinStayLeave => "join, stay, leave",
             Scenario::JoinInVain => "join in vain",
+            Scenario::RequestJoin => "request, join",
             Scenario::Lists => "lists",
         }
     }
@@ -60,7 +65,7 @@ impl Scenario {
         match self {
             Scenario::Request | Scenario::RequestShow => 50_000,
             Scenario::JoinStayLeave => 20_000,
-            Scenario::JoinInVain => 2_000,
+            Scenario::JoinInVain | Scenario::RequestJoin => 2_000,
             Scenario::Lists => 1_000,
         }
     }
@@ -75,7 +80,7 @@ impl Scenario {
         ensures arenas { IfOk result (λ stage. stage.arenas ≡ arenas) }
     {
         match self {
-            Scenario::JoinInVain => {
+            Scenario::JoinInVain | Scenario::RequestJoin => {
                 let mut stage = Stage::new(alloc, 64, levels, arenas)?;
                 stage.place_others()?;
                 Ok(stage)
@@ -104,7 +109,12 @@ impl Scenario {
                 let left = stage.ask(CALLER, Cmd::Leave)?;
                 Ok(placed.wrapping_add(stays).wrapping_add(left))
             }
-            Scenario::JoinInVain => stage.ask(CALLER, Cmd::Join),
+            Scenario::JoinInVain => join(stage),
+            Scenario::RequestJoin => {
+                let request = stage.ask(CALLER, Cmd::Request(stage.some_arena(turn), 0, 0))?;
+                let idle = stage.ask(CALLER, Cmd::Join)?;
+                Ok(request.wrapping_add(idle))
+            }
             Scenario::Lists => stage.ask(CALLER, Cmd::Lists),
         }
     }
@@ -122,6 +132,17 @@ impl Scenario {
         }
         Ok(sum)
     }
+}
+
+/// A Join of its own for each turn: where the compiler saw that nothing changes, it would give one for all.
+#[inline(never)]
+fn join(stage: &mut Stage) -> Result<u64, TurnFault>
+    ensures refused { IfErr result (λ fault. fault ≡ Refused) }
+    ensures no_number { OnErr result (sum_after 0 stage.old.market (Join ∷ []) ≡ None) }
+    ensures number { IfOk result (λ n. sum_after 0 stage.old.market (Join ∷ []) ≡ Some (n, stage.new.market)) }
+    ensures arenas { stage.new.arenas ≡ stage.old.arenas }
+{
+    stage.ask(CALLER, Cmd::Join)
 }
 
 /// An arena asks for one worker more in an even turn, and for one less in the odd turn after it.

@@ -1,4 +1,6 @@
+use Rattle.std.specs.Prelude.{◌≡◌, Bool, true, false, None}
 use Rattle.market_types.specs.State.{State}
+use Rattle.market_types.specs.Allotment.{need}
 use Rattle.market_core.specs.declared.market.Market.TheInside.{Inside}
 use Rattle.market_core.specs.Sound.{IsSound}
 
@@ -17,5 +19,11 @@ shown m =
       next_stamp = m.next_stamp;
     }
 
-abbrev pub IsSoundInside : Inside → Type 0
-IsSoundInside m = IsSound (shown m)
+-- no arena needs a worker, where that is known
+abbrev pub IsUnneeded : Bool → State → Type 0
+IsUnneeded false s = Unit {0}
+IsUnneeded true s = need s ≡ None
+
+pub record IsSoundInside (m : Inside) : Type 0 where
+  pub sound : IsSound (shown m)
+  pub unneeded : IsUnneeded m.nobody_needed (shown m)

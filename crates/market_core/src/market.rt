@@ -30,6 +30,8 @@ pub struct Market {
     roster: Roster,
     next_arena: u32,
     next_stamp: u32,
+    /// No arena needed a worker when a Join last looked, and nothing has changed since.
+    nobody_needed: bool,
 }
 
 impl Model for Market {
@@ -68,6 +70,7 @@ impl Market {
             roster,
             next_arena: 1,
             next_stamp: 1,
+            nobody_needed: false,
         })
     }
 

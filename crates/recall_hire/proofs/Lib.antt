@@ -1,4 +1,5 @@
 mod Seats
+mod Remainders
 mod Tables
 pub mod Shares
 pub mod Searches

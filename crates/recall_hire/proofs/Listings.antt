@@ -1,5 +1,5 @@
 -- What a walk over all of a level's rows lists.
-use Rattle.std.proofs.Common.{◌≡◌, ℕ, ◌+◌, ◌*◌, ◌%◌, ◌<◌, ◌≤◌, eqb, cond, List, [], ◌∷◌, ◌++◌, map, Option, Result, Ok, Err, refl, sym, ap, subst, ◌∙◌, arith, inl, inr, append_assoc}
+use Rattle.std.proofs.Common.{◌≡◌, ℕ, ◌+◌, ◌*◌, ◌%◌, ◌<◌, eqb, cond, List, [], ◌∷◌, ◌++◌, map, Option, Result, Ok, Err, refl, sym, ap, subst, ◌∙◌, arith, inl, inr, append_assoc}
 use Rattle.std.specs.Prelude.{nat_lt, OnOk}
 use Rattle.std.specs.List.{filter}
 use Rattle.std.proofs.lemmas.Bool.{cases_eq, eq-eqb, ne_eqb}
@@ -12,7 +12,7 @@ use Rattle.recall_hire.specs.declared.rows.Staffing.{Staffing}
 use Rattle.recall_hire.specs.declared.sharing.Sharing.{Sharing}
 use Rattle.recall_hire.specs.declared.sharing.Sharing.TheVariants.{Carried, Picked}
 use Rattle.recall_hire.specs.Staffed.{recall_in, hire_in, above_zero_in, counts_in}
-use Rattle.recall_hire.specs.Shared.{CanShareAll, IsListed, row_share, row_carry, staffed, carry_after}
+use Rattle.recall_hire.specs.Shared.{CanShareAll, IsListed, row_carry, staffed, carry_after}
 use Rattle.recall_hire.proofs.Shares.{requests-parts, staffed-append, carry-append}
 
 -- ---- the carry on the way

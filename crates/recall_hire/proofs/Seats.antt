@@ -1,7 +1,8 @@
-use Rattle.std.proofs.Common.{◌≡◌, ℕ, zero, suc, ◌+◌, ◌<◌, ◌≤◌, Bool, cond, List, [], ◌∷◌, length, get_or, set, Option, Some, None, ap, arith}
+use Rattle.std.proofs.Common.{◌≡◌, ℕ, zero, suc, ◌+◌, ◌<◌, ◌≤◌, Bool, cond, List, [], ◌∷◌, length, get_or, set, Option, Some, None, refl, ap, subst, arith}
 use Rattle.std.specs.Prelude.{slice_get, is_some}
 use Rattle.std.specs.List.{count_by}
 use Rattle.std.proofs.lemmas.List.Sums.{sum_by-cons, sum_by-set, count_by-le-length}
+use Rattle.std.proofs.lemmas.Option.{slice_get_read}
 
 -- ---- the seat at a place
 
@@ -10,7 +11,7 @@ at-seat [] seat o e = cc
 at-seat (x ∷ xs) zero o e = let f : Some x ≡ Some o = e in (omega arith, cc)
 at-seat (x ∷ xs) (suc seat) o e = let rest = at-seat xs seat o e in (omega arith, rest.1)
 
-abbrev one : (Option ℕ → Bool) → Option ℕ → ℕ
+abbrev pub one : (Option ℕ → Bool) → Option ℕ → ℕ
 one p o = cond (p o) 1 0
 
 -- another seat placed, or not
@@ -39,3 +40,7 @@ count-below (x ∷ xs) (suc seat) e =
     at-most : (o : Option ℕ) → one is_some o ≤ 1
     at-most None = omega arith
     at-most (Some a) = omega arith
+
+-- what was read of a seat
+pub read-seat : (seats : List (Option ℕ)) (place seat : ℕ) (o : Option ℕ) → place ≡ seat → seat < length seats → o ≡ get_or seats place o → slice_get seats seat ≡ Some o
+read-seat seats place seat o same h e = slice_get_read seats (length seats) seat o refl h (subst (λ i. o ≡ get_or seats i o) same e)

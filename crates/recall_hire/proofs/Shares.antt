@@ -1,5 +1,5 @@
 -- What rows are allotted where one carry goes through all of them, and what a search among them looks at.
-use Rattle.std.proofs.Common.{◌≡◌, ℕ, ◌+◌, ◌*◌, ◌/◌, ◌%◌, ◌<◌, ◌≤◌, ltb, eqb, cond, List, [], ◌∷◌, ◌++◌, length, Option, Some, None, refl, sym, ap, ◌∙◌, arith, inl, inr}
+use Rattle.std.proofs.Common.{◌≡◌, ℕ, ◌+◌, ◌*◌, ◌/◌, ◌%◌, ◌<◌, ◌≤◌, eqb, cond, List, [], ◌∷◌, ◌++◌, Option, Some, None, refl, sym, ap, ◌∙◌, arith, inl, inr}
 use Rattle.std.specs.List.{count_by}
 use Rattle.std.proofs.Math.Nat.{div-eq_of_lt, mod-eq_of_lt, lt-div-mul-add, zero-div, zero-mod}
 use Rattle.std.proofs.lemmas.Bool.{cases_eq, cases_lt, lt-ltb, le-ltb, eq-eqb, ne_eqb}
@@ -11,7 +11,7 @@ use Rattle.recall_hire.specs.declared.rows.Staffing.{Staffing}
 use Rattle.recall_hire.specs.declared.sharing.Sharing.{Sharing}
 use Rattle.recall_hire.specs.declared.sharing.Sharing.TheVariants.{Carried}
 use Rattle.recall_hire.specs.Staffed.{hire_in, first_in_need, searches}
-use Rattle.recall_hire.specs.Shared.{IsSearch, row_share, row_carry, staffed, carry_after}
+use Rattle.recall_hire.specs.Shared.{row_share, row_carry, staffed, carry_after}
 
 -- ---- one row
 

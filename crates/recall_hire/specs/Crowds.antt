@@ -3,6 +3,8 @@ use Rattle.std.specs.Prelude.{◌≡◌, ℕ, ◌≤◌, Bool, ◌==◌, if◌th
 use Rattle.std.specs.List.{sum_by, count_by}
 use Rattle.market_types.specs.Allotment.{is_just}
 use Rattle.recall_hire.specs.declared.crowd.Crowd.{Crowd}
+use Rattle.recall_hire.specs.declared.slots.Slot.{Slot}
+use Rattle.recall_hire.specs.Slots.{seats_in, in_slot}
 
 abbrev pub one_if : Bool → ℕ
 one_if b = if b then 1 else 0
@@ -24,10 +26,12 @@ pub record IsTable (crowds : List Crowd) : Type 0 where
   pub single : (a : ℕ) → count_by (λ (c : Crowd). c.arena == a) crowds ≤ 1
   pub filled : All (λ (c : Crowd). 1 ≤ c.size) crowds
 
--- the crowds are those of the seats, with room for each seat to be at an arena of its own
-pub record IsCounted (seats : List (Option ℕ)) (crowds : List Crowd) (capacity : ℕ) : Type 0 where
+-- the crowds and the slots are those of the seats, with room for each seat to be at an arena of its own
+pub record IsCounted (seats : List (Option ℕ)) (placed : ℕ) (crowds : List Crowd) (capacity : ℕ) (slots : List Slot) : Type 0 where
+  pub placed_is : placed ≡ count_by is_some seats
   pub table : IsTable crowds
   pub sizes : (a : ℕ) → size_at a crowds ≡ count_by (is_just a) seats
-  pub total : total_size crowds ≡ count_by is_some seats
+  pub total : total_size crowds ≡ placed
   pub room : length seats ≤ capacity
   pub few : length seats ≤ 64
+  pub slotted : (i : ℕ) → seats_in i slots ≡ count_by (in_slot i) seats

@@ -1,3 +1,4 @@
 pub mod Crowds
+pub mod Slots
 pub mod Staffed
 pub mod Shared

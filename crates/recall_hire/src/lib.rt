@@ -8,6 +8,7 @@ mod lists;
 mod roster;
 mod rows;
 mod sharing;
+mod slots;
 mod walk;
 
 pub use lists::list;

@@ -3,7 +3,8 @@ ghost use Rattle.std.specs.Prelude.{◌≡◌, ◌≤◌, ◌<◌, None, Some, l
 ghost use Rattle.std.specs.List.{count_by};
 ghost use Rattle.market_types.specs.Allotment.{is_just};
 
-use crate::crowd::{Crowd, grow, shrink, size_of, total_of};
+use crate::crowd::{Crowd, grow, shrink, size_of};
+use crate::slots::SlotTable;
 use market_types::{ArenaId, SeatNo};
 use std::alloc::{AllocError, Global};
 use std::marker::Model;
@@ -12,8 +13,12 @@ use std::marker::Model;
 #[derive(Debug, Drop)]
 pub struct Roster {
     seats: Vec<Option<ArenaId>>,
+    /// How many seats are placed.
+    placed: u32,
     /// The arenas where somebody is placed, so that their seats need not be counted again.
     crowds: Vec<Crowd>,
+    /// Where their crowds are found, and which arenas have none.
+    slots: SlotTable,
 }
 
 impl Model for Roster {
@@ -25,7 +30,7 @@ impl Model for Roster {
 
     ghost view = { λ r. r.seats.items };
 
-    ghost invariant = { λ r. IsCounted r.seats.items r.crowds.items (vec_capacity r.crowds) };
+    ghost invariant = { λ r. IsCounted r.seats.items r.placed r.crowds.items (vec_capacity r.crowds) r.slots };
 }
 
 impl Roster {
@@ -37,7 +42,9 @@ impl Roster {
     {
         Ok(Roster {
             seats: vec![in alloc; None; usize::from(seats)]?,
+            placed: 0,
             crowds: Vec::with_capacity(alloc, usize::from(seats))?,
+            slots: SlotTable::new(alloc)?,
         })
     }
 
@@ -64,7 +71,9 @@ impl Roster {
     {
         let place = usize::from(seat.get());
         self.seats[place] = Some(arena);
-        grow(&mut self.crowds, arena);
+        self.placed += 1;
+        grow(&mut self.crowds, &mut self.slots, arena);
+        self.slots.add(arena);
     }
 
     /// Takes a seat from its arena, and gives that arena; nothing happens where it is not placed.
@@ -77,25 +86,27 @@ impl Roster {
         let was = self.seats[place];
         if let Some(arena) = was {
             self.seats[place] = None;
-            shrink(&mut self.crowds, arena);
+            self.placed -= 1;
+            shrink(&mut self.crowds, &mut self.slots, arena);
+            self.slots.remove(arena);
         }
         was
     }
 
-    /// How many seats are placed at an arena. Looks at no more entries than there are seats, whatever the number of
-    /// arenas.
+    /// How many seats are placed at an arena. Takes a fixed time where no other arena of its slot has or had seats beside it,
+    /// which is one whose number differs by a multiple of 1,024; else it looks at 64 entries at most.
     pub fn active(&self, arena: ArenaId) -> u32
         ensures exact { result ≡ count_by (is_just arena) self.now }
         ensures few { result ≤ 64 }
     {
-        size_of(&self.crowds, arena)
+        size_of(&self.crowds, self.slots.slot_of(arena), arena)
     }
 
-    /// How many seats are placed. Looks at no more entries than there are seats.
+    /// How many seats are placed. Takes a fixed time.
     pub fn placed(&self) -> u32
         ensures exact { result ≡ count_by is_some self.now }
         ensures few { result ≤ 64 }
     {
-        total_of(&self.crowds)
+        self.placed
     }
 }

@@ -28,7 +28,8 @@ fn need(roster: &Roster, rows: &LevelList, workers: u64) -> (Option<ArenaId>, u3
 #[test]
 fn seats_are_counted_at_their_arenas(rt: HostRuntime) -> Result<(), AllocError> {
     let arena = ArenaId::new(1);
-    let other = ArenaId::new(1024);
+    // Its slot is that of the other.
+    let other = ArenaId::new(1025);
     let mut roster = Roster::new(rt.alloc(), 2)?;
     assert_eq!(rt; roster.seats(), 2);
     roster.place(SeatNo::new(0), arena);

@@ -1,8 +1,9 @@
 //! What a command does.
-ghost use Rattle.std.specs.Prelude.{◌≡◌, ◌≤◌, ◌<◌, length, false, true, IsOk, IfOk, OnOk, OnErr};
-ghost use Rattle.market_types.specs.Step.{open_step, close_step, priority_step, resize_step, request_step, control_step, uncontrol_step, join_from, stay_from, leave_from, place_of, show_step, counts_of, step};
+ghost use Rattle.std.specs.Prelude.{◌≡◌, ◌≤◌, ◌<◌, length, None, false, true, IsOk, IfOk, OnOk, OnErr};
+ghost use Rattle.std.specs.Bool.{OnTrue};
+ghost use Rattle.market_types.specs.Step.{open_step, close_step, priority_step, resize_step, request_step, control_step, uncontrol_step, join_from, stay_from, leave_from, place_of, with_place, show_step, counts_of, step};
 ghost use Rattle.market_types.specs.declared.command.Cmd.TheVariants.{Join};
-ghost use Rattle.market_types.specs.declared.reply.Reply.TheVariants.{Listed};
+ghost use Rattle.market_types.specs.declared.reply.Reply.TheVariants.{Idle, Listed};
 ghost use Rattle.market_core.specs.Memory.{is_refusal, takes_memory};
 ghost use Rattle.market_core.specs.Visits.{most_visits, most_listed, most_joined, least_visits, looks_in_order, lists_all};
 
@@ -19,7 +20,8 @@ const LAST_NUMBER: u32 = 1_048_576;
 impl Market {
     /// Does what a seat asks, or refuses it: the first refusal that applies is the reply, and changes nothing. Only Open,
     /// Control and Lists can give an `Err`, where there is no memory for what no refusal stops, and after one the market is as
-    /// before. The seat is one that the market has.
+    /// before. The seat is one that the market has. A Join is answered at once where an earlier one found no arena in need of a
+    /// worker, and only reads, Joins and Stays that stay came after it.
     ///
     /// That an arena has no more workers than it is allotted after one was placed, no fewer after one was recalled, and that
     /// no command changes the number of seats, are laws of the definitions: `placed_worker_is_allotted`, `a_call_moves_its_own_seat`.
@@ -32,16 +34,22 @@ impl Market {
         ensures no_memory { takes_memory cmd ≡ false → IsOk result }
         ensures memory_last { OnErr result (is_refusal (step self.old seat cmd).0 ≡ false) }
     {
-        let (reply, _visits) = self.apply_counted(alloc, seat, cmd)?;
-        Ok(reply)
+        match cmd {
+            Cmd::Join if self.is_unneeded(seat) => Ok(Reply::Idle),
+            _ => {
+                let (reply, _visits) = self.apply_counted(alloc, seat, cmd)?;
+                Ok(reply)
+            }
+        }
     }
 
-    /// Does what `apply` does, and says how many nodes of the arenas' trees it entered: for every command but Join and
-    /// Lists no more than four times as many as the number of living arenas has binary digits, and one; for Lists no more
-    /// than there are arenas; for Join no more than 44 for each arena that it looks at, which are those that are allotted a
-    /// worker until one has too few, and for each level; where no worker may be active, twice as many as these digits more for each level. It is no
-    /// fewer than one for each row that was put in, taken out or set, one to see an arena that asks for workers or to place
-    /// or keep a seat, one for each arena that a Join looked at on its way, and all rows for Lists.
+    /// Does what `apply` does, but never from what the market keeps of an earlier Join, and says how many nodes of the arenas'
+    /// trees it entered: for every command but Join and Lists no more than four times as many as the number of living arenas
+    /// has binary digits, and one; for Lists no more than there are arenas; for Join no more than 44 for each arena that it
+    /// looks at, which are those that are allotted a worker until one has too few, and for each level; where no worker may be
+    /// active, twice as many as these digits more for each level. It is no fewer than one for each row that was put in, taken
+    /// out or set, one to see an arena that asks for workers or to place or keep a seat, one for each arena that a Join looked
+    /// at on its way, and all rows for Lists.
     #[inline(always)]
     pub fn apply_counted(
         &mut self,
@@ -110,6 +118,7 @@ impl Market {
         }
         let arena = ArenaId::new(self.next_arena);
         let stored = StoredArena::new(arena, self.next_stamp, level, claim);
+        self.nobody_needed = false;
         let visits = self.arenas.push(alloc, stored)?;
         self.next_arena += 1;
         self.next_stamp += 1;
@@ -130,6 +139,7 @@ impl Market {
                 None => (Reply::Refused(Fault::NoArena), 0),
             };
         }
+        self.nobody_needed = false;
         match self.arenas.remove(arena) {
             Some(visits) => (Reply::Closed, u64::from(visits)),
             None => (Reply::Refused(Fault::NoArena), 0),
@@ -152,6 +162,7 @@ impl Market {
                 None => (Reply::Refused(Fault::NoArena), 0),
             };
         }
+        self.nobody_needed = false;
         let Some(visits) = self.arenas.promote(arena, self.next_stamp, level) else {
             return (Reply::Refused(Fault::NoArena), 0);
         };
@@ -169,6 +180,7 @@ impl Market {
         if let Err(fault) = ArenaRecord::new(slots, reserved) {
             return (Reply::Refused(fault), 0);
         }
+        self.nobody_needed = false;
         match self.arenas.change(arena, Change::Resize(slots, reserved)) {
             Ok((claim, visits)) => (Reply::Resized(claim.request()), u64::from(visits)),
             Err(fault) => (Reply::Refused(fault), 0),
@@ -182,6 +194,7 @@ impl Market {
         ensures entered { least_visits self.old result.0 ≤ result.1 }
         ensures visits { result.1 ≤ most_visits self.old }
     {
+        self.nobody_needed = false;
         match self.arenas.change(arena, Change::Add(workers, mandatory)) {
             Ok((claim, visits)) => (Reply::Requested(claim.request()), u64::from(visits)),
             Err(fault) => (Reply::Refused(fault), 0),
@@ -195,6 +208,7 @@ impl Market {
         ensures unchanged { OnErr result (self.new ≡ self.old) }
         ensures memory_last { OnErr result (is_refusal (control_step self.old value).0 ≡ false) }
     {
+        self.nobody_needed = false;
         let made = self.controls.make(value)?;
         match made {
             Ok(control) => Ok(Reply::Controlled(control)),
@@ -207,10 +221,20 @@ impl Market {
         ensures reply { result ≡ (uncontrol_step self.old control).0 }
         ensures next { self.new ≡ (uncontrol_step self.old control).1 }
     {
+        self.nobody_needed = false;
         match self.controls.remove(control) {
             Ok(()) => Reply::Uncontrolled,
             Err(fault) => Reply::Refused(fault),
         }
+    }
+
+    /// Whether a seat's Join is known to find no arena in need of a worker.
+    #[inline(always)]
+    fn is_unneeded(&self, seat: SeatNo) -> bool
+        requires seat { seat < length self.now.seats }
+        ensures { OnTrue result (join_from self.now seat (place_of self.now seat) ≡ (Idle, self.now)) }
+    {
+        self.nobody_needed && self.roster.at(seat).is_none()
     }
 
     /// An unplaced seat goes to the first arena in need of a worker.
@@ -225,6 +249,7 @@ impl Market {
             return (Reply::Refused(Fault::AlreadyPlaced(arena)), 0);
         }
         let (arena, visits) = self.first_in_need();
+        self.nobody_needed = arena.is_none();
         let Some(arena) = arena else {
             return (Reply::Idle, u64::from(visits));
         };
@@ -247,7 +272,7 @@ impl Market {
         if recall(self.roster.active(arena), allotted) == 0 {
             return (Reply::Stays(arena), u64::from(visits));
         }
-        self.roster.unplace(seat);
+        self.unplace(seat);
         (Reply::Recalled(arena), u64::from(visits))
     }
 
@@ -260,8 +285,17 @@ impl Market {
         let Some(arena) = self.roster.at(seat) else {
             return Reply::Refused(Fault::NotPlaced);
         };
-        self.roster.unplace(seat);
+        self.unplace(seat);
         Reply::Left(arena)
+    }
+
+    /// Takes a seat from its arena, which may need a worker then.
+    fn unplace(&mut self, seat: SeatNo)
+        requires seat { seat < length self.old.seats }
+        ensures { self.new ≡ with_place self.old seat None }
+    {
+        self.roster.unplace(seat);
+        self.nobody_needed = false;
     }
 
     /// What is seen of an arena, or that there is none.

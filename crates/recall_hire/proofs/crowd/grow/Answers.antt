@@ -24,3 +24,8 @@ returns-in-Some-clause-total c = total-up c.args.crowds.now.items c.in-Some.plac
 
 pub returns-in-None-clause-kept : goal.returns-in-None-clause-kept
 returns-in-None-clause-kept c = subst IsTable (sym c.push_reserved.ensures.items) (table-push c.args.crowds.now.items c.args.arena c.requires.kept (sym (ap (size_at c.args.arena) c.deref.ensures.value) ∙ c.in-None.ensures.nowhere))
+
+pub overflow_cast-len : goal.overflow_cast-len
+overflow_cast-len c =
+    let few = crowds-few c.args.crowds.now.items c.requires.kept.filled in
+    omega arith

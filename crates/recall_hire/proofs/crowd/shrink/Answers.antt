@@ -1,6 +1,6 @@
 use Rattle.std.proofs.Common.{◌+◌, subst, sym, ap, ◌∙◌, arith, eqb}
 use Rattle.recall_hire.specs.Crowds.{IsTable, arena_at, size_at, total_size, one_if}
-use Rattle.recall_hire.proofs.Tables.{filled-at, same-size, table-resized, sizes-down, total-down, table-swap_remove, sizes-swap_remove, total-swap_remove}
+use Rattle.recall_hire.proofs.Tables.{filled-at, same-size, table-resized, sizes-down, total-down, table-swap_remove, sizes-swap_remove, total-swap_remove, crowds-few}
 use Rattle.recall_hire.proofs.crowd.shrink.Goals as goal
 
 pub returns-then-index-gt1-clause-kept : goal.returns-then-index-gt1-clause-kept
@@ -41,3 +41,8 @@ returns-else-index-gt1-clause-total c =
     let same = same-size c.args.crowds.now.items c.in-Some.place c.args.arena c.swap_remove.result c.index.result.now here c.swap_remove.ensures.value c.index.ensures in
     total-swap_remove c.args.crowds.now.items c.in-Some.place c.args.arena c.swap_remove.result here c.swap_remove.ensures.value (omega arith)
     ∙ ap (λ crowds. total_size crowds + 1) (sym c.swap_remove.ensures.items)
+
+pub point_at-requires : goal.point_at-requires
+point_at-requires c =
+    let few = crowds-few c.args.crowds.now.items c.requires.kept.filled in
+    record { few = omega (arith, few, c.requires.few, c.swap_remove.ensures.len, c.deref-else-index-gt1.ensures.value) }

@@ -1,4 +1,4 @@
-use Rattle.std.proofs.Common.{◌≤◌, sym, ap, ◌∙◌, arith}
+use Rattle.std.proofs.Common.{sym, arith}
 use Rattle.recall_hire.proofs.Shares.{nobody-needs, nobody-searched}
 use Rattle.recall_hire.proofs.walk.first_in_need.Goals as goal
 

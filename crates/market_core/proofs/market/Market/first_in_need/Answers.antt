@@ -14,7 +14,7 @@ pub loop-level-init : goal.loop-level-init
 loop-level-init c =
     let s = c.args.self.now in
     let all : s.levels ≡ s.levels - 0 = omega arith in
-    let sound : IsSound s = rw c.self.view_is at c.self.invariant in
+    let sound : IsSound s = rw c.self.view_is at c.self.invariant.sound in
     let some : 0 < limit_of s = omega (arith, c.divide.ensures.exact.limit, c.if-division-eq0.false) in
     let rows : searches (rows_of s) ≡ searches (rows_among s (levels_from 1 (s.levels - 0) s.arenas)) = ap (λ n. searches (rows_among s (levels_from 1 n s.arenas))) all in
     let deep = 2 * bits (length s.arenas) in
@@ -99,7 +99,7 @@ returns c =
 pub returns-then-division-eq0-clause-entered : goal.returns-then-division-eq0-clause-entered
 returns-then-division-eq0-clause-entered c =
     let s = c.args.self.now in
-    let sound : IsSound s = rw c.self.view_is at c.self.invariant in
+    let sound : IsSound s = rw c.self.view_is at c.self.invariant.sound in
     let none : limit_of s ≡ 0 = sym c.divide.ensures.exact.limit ∙ c.if-division-eq0.true in
     needed-entered s c.picked_in_need.result c.divide.result.visits sound.leveled c.picked_in_need.ensures (c.divide.ensures.entered none)
 

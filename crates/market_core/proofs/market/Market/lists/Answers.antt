@@ -13,7 +13,7 @@ pub loop-level-init : goal.loop-level-init
 loop-level-init c =
     let s = c.args.self.now in
     let all : s.levels - 0 ≡ s.levels = omega arith in
-    let sound : IsSound s = rw c.self.view_is at c.self.invariant in
+    let sound : IsSound s = rw c.self.view_is at c.self.invariant.sound in
     let lengths : length (levels_from 1 (s.levels - 0) s.arenas) ≡ length s.arenas = ap (λ n. length (levels_from 1 n s.arenas)) all ∙ in_order-length s sound.leveled in
     record {
       listed = listing-from s (s.levels - 0) c.new.result.items c.new-2.result.items all c.new.ensures.items c.new-2.ensures.items;

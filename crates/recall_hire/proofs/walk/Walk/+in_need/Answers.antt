@@ -1,4 +1,4 @@
-use Rattle.std.proofs.Common.{◌≡◌, ℕ, ◌+◌, ◌*◌, ◌≤◌, refl, ap, arith}
+use Rattle.std.proofs.Common.{◌≡◌, ◌*◌, ap, arith}
 use Rattle.level_list.specs.Rows.{requests}
 use Rattle.recall_hire.proofs.Searches.{IsOpened, passed-over, found-newer, found-here, goes-on}
 use Rattle.recall_hire.proofs.walk.Walk.+in_need.Goals as goal

@@ -1,4 +1,4 @@
-use Rattle.std.proofs.Common.{◌≡◌, ◌+◌, ◌*◌, ◌<◌, sym, arith}
+use Rattle.std.proofs.Common.{◌+◌, ◌*◌, ◌<◌, sym, arith}
 use Rattle.recall_hire.proofs.Shares.{share-below, carry-below}
 use Rattle.recall_hire.proofs.walk.Walk.lacks.Goals as goal
 

@@ -1,6 +1,6 @@
 use Rattle.std.proofs.Common.{◌≡◌, take}
 use Rattle.recall_hire.specs.Crowds.{size_at}
-use Rattle.recall_hire.proofs.crowd.place_of.Given as goal
+use Rattle.recall_hire.proofs.crowd.search.Given as goal
 
 -- none of the crowds so far is at the arena
 abbrev pub invariant-loop-place : goal.invariant-loop-place
