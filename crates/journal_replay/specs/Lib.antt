@@ -3,3 +3,4 @@ pub mod Output
 pub mod Reading
 pub mod Verdicts
 pub mod VerdictTexts
+pub mod Legality
