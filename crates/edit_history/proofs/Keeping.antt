@@ -1,13 +1,16 @@
 -- What a chronicle keeps, at the start and after a call.
 use Rattle.std.proofs.Common.{◌≡◌, ℕ, ◌+◌, ◌-◌, ◌<◌, ◌≤◌, List, [], ◌∷◌, ◌++◌, length, append_assoc, length-append, None, refl, ap, sym, ◌∙◌, subst, arith}
 use Rattle.std.proofs.lemmas.List.{length-replicate}
+use Rattle.std.proofs.lemmas.List.Elements.{All-nil, All-push}
+use Rattle.std.specs.List.{All}
 use Rattle.market_types.specs.declared.command.Cmd.{Cmd}
 use Rattle.market_types.specs.declared.reply.Entry.{Entry}
 use Rattle.market_types.specs.declared.reply.Reply.{Reply}
 use Rattle.market_types.specs.State.{State, opening}
 use Rattle.market_types.specs.Step.{place_of, step}
 use Rattle.market_types.specs.History.{IsLegal, calls_of, state_after}
-use Rattle.edit_history.specs.Chronicled.{IsOpening, entry}
+use Rattle.market_types.specs.Reading.{Fits}
+use Rattle.edit_history.specs.Chronicled.{IsOpening, IsCallOf, entry}
 use Rattle.edit_history.specs.Kept.{IsKept}
 use Rattle.edit_history.specs.Places.{placed, takes}
 use Rattle.edit_history.proofs.Longer.{state-longer, legal-longer}
@@ -30,7 +33,7 @@ pub kept-new : (base hard seats levels places capacity : ℕ) (past recent : Lis
 kept-new base hard seats levels places capacity past recent opened none_past none some few =
     subst (λ (z : List Entry × List Entry). IsKept (opening base hard seats levels) (opening base hard seats levels) z.0 z.1 0 places capacity) (λ i. (sym none_past i, sym none i)) (
     let zero_placed : placed (opening base hard seats levels) ≡ 0 = nobody seats in
-    record { opened = opened; legal = refl; market_is = refl; from_is = refl; room = omega arith; memory = omega arith; few = few; countable = omega arith }
+    record { opened = opened; legal = refl; calls = All-nil (IsCallOf (length (opening base hard seats levels).seats)); market_is = refl; from_is = refl; room = omega arith; memory = omega arith; few = few; countable = omega arith }
     )
 
 module _ (start market : State) (past recent : List Entry) (from places capacity : ℕ) (k : IsKept start market past recent from places capacity) where
@@ -54,8 +57,8 @@ module _ (start market : State) (past recent : List Entry) (from places capacity
   pub kept-more : (seat : ℕ) (cmd : Cmd) (r : Reply) (recent' : List Entry) (market' : State) (capacity' : ℕ) → seat < length market.seats
       → r ≡ (step market seat cmd).0 → market' ≡ (step market seat cmd).1 → recent' ≡ recent ++ entry seat cmd r ∷ []
       → length recent + placed market + takes (place_of market seat) cmd ≤ places → length recent + placed market + takes (place_of market seat) cmd ≤ capacity'
-      → IsKept start market' past recent' from places capacity'
-  kept-more seat cmd r recent' market' capacity' small is next more fits memory =
+      → Fits cmd → IsKept start market' past recent' from places capacity'
+  kept-more seat cmd r recent' market' capacity' small is next more fits memory held =
       let e : Entry = entry seat cmd r in
       let log : past ++ recent' ≡ (past ++ recent) ++ e ∷ [] = ap (λ l. past ++ l) more ∙ sym (append_assoc past recent (e ∷ [])) in
       let due : r ≡ (step (state_after start (calls_of (past ++ recent))) seat cmd).0 = is ∙ ap (λ (s : State). (step s seat cmd).0) k.market_is in
@@ -66,6 +69,7 @@ module _ (start market : State) (past recent : List Entry) (from places capacity
       record {
         opened = k.opened;
         legal = subst (λ (l : List Entry). IsLegal start l) (sym log) (legal-longer start (past ++ recent) e k.legal due);
+        calls = subst (λ (l : List Entry). All (IsCallOf (length start.seats)) l) (sym log) (All-push (IsCallOf (length start.seats)) (past ++ recent) e k.calls (let seated : seat < length start.seats = omega (arith, kept-seats) in (seated, held)));
         market_is =
             next ∙ ap (λ (s : State). (step s seat cmd).1) k.market_is ∙ sym (state-longer start (past ++ recent) e) ∙ ap (λ (l : List Entry). state_after start (calls_of l)) (sym log);
         from_is = k.from_is;
@@ -86,6 +90,7 @@ module _ (start market : State) (past recent : List Entry) (from places capacity
       record {
         opened = k.opened;
         legal = k.legal;
+        calls = k.calls;
         market_is = k.market_is;
         from_is = k.from_is;
         room = k.room;

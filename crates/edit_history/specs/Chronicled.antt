@@ -1,11 +1,12 @@
 -- What contracts see of a chronicle, and what opening one answers.
-use Rattle.std.specs.Prelude.{◌≡◌, ◌≤◌, ℕ, ◌||◌, ◌==◌, nat_lt, if◌then◌else◌, List, [], length, Result, Ok, Err}
+use Rattle.std.specs.Prelude.{◌≡◌, ◌<◌, ◌≤◌, ℕ, ◌||◌, ◌==◌, nat_lt, if◌then◌else◌, List, [], length, Result, Ok, Err}
 use Rattle.market_types.specs.declared.command.Cmd.{Cmd}
 use Rattle.market_types.specs.declared.reply.Entry.{Entry}
 use Rattle.market_types.specs.declared.reply.Reply.{Reply}
 use Rattle.market_types.specs.declared.reply.OpenFault.{OpenFault}
 use Rattle.market_types.specs.declared.reply.OpenFault.TheVariants.{BadBase, BadHard, BadSeats, BadPlaces, BadLevels}
 use Rattle.market_types.specs.State.{State, opening}
+use Rattle.market_types.specs.Reading.{Fits}
 use Rattle.market_types.specs.History.{calls_of, state_after}
 
 -- the market at its opening, the history since, the number of places, and how many of the first entries are no longer kept (own)
@@ -18,6 +19,10 @@ pub record Chronicled : Type 0 where
 -- the market as it stands
 abbrev pub market_of : Chronicled → State
 market_of c = state_after c.start (calls_of c.log)
+
+-- the call is by one of so many seats, and each number of its command is one that a command can hold
+abbrev pub IsCallOf : ℕ → Entry → Type 0
+IsCallOf seats e = (e.call.seat < seats) × Fits e.call.cmd
 
 -- a seat's command with its reply
 abbrev pub entry : ℕ → Cmd → Reply → Entry

@@ -1,9 +1,11 @@
 //! The market and its history.
 ghost use Rattle.std.specs.Prelude.{◌≡◌, ◌+◌, ◌<◌, ◌≤◌, ◌++◌, [], ◌∷◌, Some, length, slice_get, IfOk, OnOk, OnErr, IfErr, IsErrOf, IsOk};
+ghost use Rattle.std.specs.List.{All};
+ghost use Rattle.market_types.specs.Reading.{Fits};
 ghost use Rattle.market_types.specs.Step.{step, place_of};
 ghost use Rattle.market_types.specs.History.{IsLegal};
 ghost use Rattle.market_types.specs.Opening.{MemoryAside};
-ghost use Rattle.edit_history.specs.Chronicled.{entry, market_of, opened_chronicle, HasNumbersOf, IsOpening};
+ghost use Rattle.edit_history.specs.Chronicled.{entry, market_of, opened_chronicle, HasNumbersOf, IsCallOf, IsOpening};
 ghost use Rattle.edit_history.specs.Places.{takes, taken, LacksPlaces};
 ghost use Rattle.edit_history.specs.declared.fault.CallFault.TheVariants.{HistoryFull, Memory};
 
@@ -91,6 +93,7 @@ impl Chronicle {
         ensures from { self.new.from ≡ self.old.from }
     {
         let call = Call { seat, cmd };
+        command_holds_its_numbers(call.cmd);
         let placed = self.market.placed();
         let takes = takes_of(self.market.arena_of(call.seat), call.cmd);
         if self.free() < takes {
@@ -111,9 +114,10 @@ impl Chronicle {
         Ok(reply)
     }
 
-    /// How many calls were answered.
+    /// How many calls were answered. The entries that are kept are 1,048,576 at most.
     pub fn len(&self) -> u64
         ensures exact { result ≡ length self.now.log }
+        ensures few { result ≤ self.now.from + 1048576 }
     {
         self.from + self.recent.len() as u64
     }
@@ -128,10 +132,11 @@ impl Chronicle {
     }
 
     /// The market as it stands: what the opening becomes by the calls of the history. The history is legal: each reply is the
-    /// one that was due. The market has the numbers of its opening still.
+    /// one that was due, and each call is one that the market can have. The market has the numbers of its opening still.
     pub fn market(&self) -> &Market
         ensures exact { result.now ≡ market_of self.now }
         ensures legal { IsLegal self.now.start self.now.log }
+        ensures calls { All (IsCallOf (length self.now.start.seats)) self.now.log }
         ensures opened { IsOpening self.now.start }
         ensures numbers { HasNumbersOf self.now.start result.now }
     {
@@ -152,6 +157,14 @@ impl Chronicle {
         let unused = self.places - self.recent.len() as u32;
         unused - self.market.placed()
     }
+}
+
+/// Each number of a command is one that a command can hold. This does nothing: what it ensures holds wherever it is called.
+#[inline(always)]
+fn command_holds_its_numbers(cmd: Cmd)
+    ensures { Fits cmd }
+{
+    let _ = cmd;
 }
 
 /// How many places a call takes by a seat that is placed there.

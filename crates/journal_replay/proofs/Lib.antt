@@ -1,1 +1,3 @@
 mod Lines
+mod Json
+mod Legal

@@ -1,2 +1,6 @@
 pub mod Journal
 pub mod Output
+pub mod Reading
+pub mod Verdicts
+pub mod VerdictTexts
+pub mod Legality

@@ -1,12 +1,21 @@
 //! The journal of a chronicle: its text, one JSON line for the opening and one for each call with its reply.
 //!
-//! [`write_journal`] writes it. What is written is `specs/Journal`, said over the history's plain list.
+//! [`write_journal`] writes it. What is written is `specs/Journal`, said over the history's plain list. [`check`] reads one
+//! and replays it. How a line reads is `specs/Reading`, what is found of a text `specs/Verdicts`, and what that is in terms of
+//! histories `specs/Legality`.
 #![tactic(auto)]
 
+mod checker;
 mod journal;
+mod law;
 mod line;
+mod reading;
+mod verdict;
 
+pub use checker::check;
 pub use journal::{OutFault, write_journal};
+pub use law::legal_journals_tell_legal_histories;
+pub use verdict::{DueReply, Verdict};
 
 #[cfg(test)]
 mod tests;

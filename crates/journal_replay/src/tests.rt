@@ -1,6 +1,8 @@
 //! The journal of a short history, and what a failing sink has of it.
 ghost use Rattle.std.specs.Prelude.{◌≡◌, false};
 
+mod checking;
+
 use super::*;
 use byte_devices::{Refusal, TestSink};
 use edit_history::Chronicle;

@@ -1,5 +1,5 @@
 -- A piece of an input, line by line.
-use Rattle.std.proofs.Common.{◌≡◌, ℕ, ◌+◌, ◌≤◌, false, List, [], ◌∷◌, ◌++◌, length, take, Option, refl, sym, ap, ◌∙◌, subst, append_assoc}
+use Rattle.std.proofs.Common.{◌≡◌, ℕ, ◌+◌, ◌≤◌, false, true≢false, List, [], ◌∷◌, ◌++◌, length, take, Option, refl, sym, ap, ◌∙◌, subst, append_assoc, arith}
 use Rattle.std.specs.Io.KnownBytes.{Appends}
 use Rattle.byte_devices.specs.Devices.{WritesFront}
 use Rattle.line_engine.specs.declared.form.LineForm.TheVariants.{Whole, WithoutLf}
@@ -7,8 +7,8 @@ use Rattle.line_engine.specs.declared.fault.InputFault.{InputFault}
 use Rattle.line_engine.specs.declared.fault.InputFault.TheVariants.{Read, TooLong, Write, Memory, Taker}
 use Rattle.line_engine.specs.Lines.{Line, NoLf, handed, whole_lines, last_line}
 use Rattle.line_engine.specs.Rule.{LineRule, replies_to}
-use Rattle.line_engine.specs.Input.{StopsAt}
-use Rattle.line_engine.specs.Pieces.{Takes, IsLineFault, IsPieceFault}
+use Rattle.line_engine.specs.Input.{StopsAt, IsLineFault, longest_input}
+use Rattle.line_engine.specs.Pieces.{Takes, IsPieceFault}
 use Rattle.line_engine.proofs.Handed.{last_line-some}
 use Rattle.line_engine.proofs.Taking.{WritesFront-none, takes-begun, takes-line, takes-handed, takes-part, front-inside, stops-line}
 
@@ -87,3 +87,14 @@ line-fault-weaker P Q h (Taker fault) why = h fault why
 pub stops-last : {S F : Type 0} (rule : LineRule S) (longest : ℕ) (stops : S → Line → F → Type 0) (s : S) (u : List ℕ) → (length u ≡ 0 → ⊥) → (fault : F)
     → stops s (handed longest WithoutLf u) fault → StopsAt rule stops s (last_line longest u) fault
 stops-last rule longest stops s u some fault why = record { before = []; line = handed longest WithoutLf u; more = []; are = last_line-some longest u some; why = why }
+
+zero-within : length {A = ℕ} [] ≤ longest_input
+zero-within = omega arith
+
+-- and conversely, where no sink fails
+pub line-fault-of-piece : {F : Type 0} (P Q : F → Type 0) → ((fault : F) → P fault → Q fault) → (fault : InputFault F) → IsPieceFault P fault false → IsLineFault Q fault
+line-fault-of-piece P Q h Read why = absurd (true≢false (sym (why [] zero-within).1))
+line-fault-of-piece P Q h TooLong why = absurd (omega (arith, (why [] zero-within).0))
+line-fault-of-piece P Q h Write why = absurd (true≢false (sym (why [] zero-within).2))
+line-fault-of-piece P Q h Memory why = tt
+line-fault-of-piece P Q h (Taker fault) why = h fault (why [] zero-within).3

@@ -4,3 +4,4 @@ pub mod Handed
 pub mod Taking
 pub mod Feeding
 pub mod Running
+pub mod Whole

@@ -1,5 +1,5 @@
 -- What is read of an input, what is written, and why it stops (own).
-use Rattle.std.specs.Prelude.{◌≡◌, ℕ, ◌<◌, ◌≤◌, List, ◌∷◌, ◌++◌, length, Bool, true, false, Option}
+use Rattle.std.specs.Prelude.{◌≡◌, ℕ, ◌<◌, ◌≤◌, List, ◌∷◌, ◌++◌, length, Bool, true, false, Option, ⊤}
 use Rattle.std.specs.Io.KnownBytes.{Consumes, Appends}
 use Rattle.byte_devices.specs.Devices.{WritesFront}
 use Rattle.line_engine.specs.Lines.{Line, lines_of, whole_lines}
@@ -34,6 +34,14 @@ CauseOf stops TooLong input source_failed sink_failed = (longest_input < length 
 CauseOf stops Write input source_failed sink_failed = (length input ≤ longest_input) × (source_failed ≡ false) × (sink_failed ≡ true)
 CauseOf stops Memory input source_failed sink_failed = (length input ≤ longest_input) × (source_failed ≡ false) × (sink_failed ≡ false)
 CauseOf stops (Taker fault) input source_failed sink_failed = (length input ≤ longest_input) × (source_failed ≡ false) × (sink_failed ≡ false) × stops fault
+
+-- lines were not taken: running out of memory, or the taker's fault
+abbrev pub IsLineFault : {F : Type 0} → (F → Type 0) → InputFault F → Type 0
+IsLineFault stops Memory = ⊤
+IsLineFault stops (Taker fault) = stops fault
+IsLineFault stops Read = ⊥
+IsLineFault stops TooLong = ⊥
+IsLineFault stops Write = ⊥
 
 -- The input was read up to some byte, and a prefix of the replies to it was written.
 pub record Stops {S F : Type 0} (rule : LineRule S) (longest : ℕ) (stops : S → Line → F → Type 0) (start : S) (left left' taken taken' : Option (List ℕ)) (source_failed sink_failed : Bool) (fault : InputFault F) : Type 0 where

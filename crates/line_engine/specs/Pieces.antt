@@ -1,12 +1,11 @@
 -- What some bytes of an input do to what takes its lines. These words tie the engine's parts together; no public clause
 -- has them (own).
-use Rattle.std.specs.Prelude.{◌≡◌, ℕ, ◌+◌, ◌≤◌, List, ◌++◌, length, take, Bool, false, Option, ⊤}
+use Rattle.std.specs.Prelude.{◌≡◌, ℕ, ◌+◌, ◌≤◌, List, ◌++◌, length, take, Bool, false, Option}
 use Rattle.std.specs.Io.KnownBytes.{Appends, Consumes}
 use Rattle.line_engine.specs.Lines.{whole_lines, unfinished_line}
 use Rattle.line_engine.specs.Rule.{LineRule, after, replies_to}
 use Rattle.line_engine.specs.Input.{CauseOf, longest_input}
 use Rattle.line_engine.specs.declared.fault.InputFault.{InputFault}
-use Rattle.line_engine.specs.declared.fault.InputFault.TheVariants.{Read, TooLong, Write, Memory, Taker}
 
 -- Of the input, the lines that an LF ends were taken, which led from `start` to `now`; `waiting` is what is not handed
 -- over of their replies, and `unfinished` the first bytes of what no LF has ended.
@@ -22,14 +21,6 @@ pub record BreaksOff {F : Type 0} (left left' : Option (List ℕ)) (total : ℕ)
   pub piece : List ℕ
   pub read : Consumes left left' piece
   pub cause : (input : List ℕ) → length input ≡ total → CauseOf (λ _. ⊥) fault (input ++ piece) source_failed false
-
--- a line was not taken: running out of memory, or the taker's fault
-abbrev pub IsLineFault : {F : Type 0} → (F → Type 0) → InputFault F → Type 0
-IsLineFault stops Memory = ⊤
-IsLineFault stops (Taker fault) = stops fault
-IsLineFault stops Read = ⊥
-IsLineFault stops TooLong = ⊥
-IsLineFault stops Write = ⊥
 
 -- a fault after a piece of an input that is not too long
 abbrev pub IsPieceFault : {F : Type 0} → (F → Type 0) → InputFault F → Bool → Type 0

@@ -1,5 +1,6 @@
 //! Cuts what a source gives into lines, hands them to a [`LineTaker`] one after the other, and hands the taker's replies
-//! over to a sink as it goes: [`take_lines`]. Whoever needs a whole input line by line writes a taker and no loop.
+//! over to a sink as it goes: [`take_lines`]. [`take_text`] hands on the lines of a text in memory, and lets the replies go.
+//! Whoever needs a whole input line by line writes a taker and no loop.
 //!
 //! A taker says how long a line it needs: of a longer one it gets the first bytes, told as [`LineForm::TooLong`]. It
 //! learns whether the last line had its LF, it may stop with a fault of its own, and it may write nothing at all and
@@ -11,11 +12,13 @@ mod fault;
 mod form;
 mod lines;
 mod taker;
+mod text;
 
 pub use engine::take_lines;
 pub use fault::InputFault;
 pub use form::LineForm;
 pub use taker::LineTaker;
+pub use text::take_text;
 
 #[cfg(test)]
 mod tests;

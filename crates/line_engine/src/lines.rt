@@ -4,8 +4,8 @@ ghost use Rattle.std.specs.Io.KnownBytes.{Appends};
 ghost use Rattle.byte_devices.specs.Devices.{WritesFront};
 ghost use Rattle.line_engine.specs.Lines.{NoLf, handed, whole_lines, last_line};
 ghost use Rattle.line_engine.specs.Rule.{after, replies_to};
-ghost use Rattle.line_engine.specs.Input.{StopsAt};
-ghost use Rattle.line_engine.specs.Pieces.{Takes, IsLineFault, IsPieceFault};
+ghost use Rattle.line_engine.specs.Input.{StopsAt, IsLineFault};
+ghost use Rattle.line_engine.specs.Pieces.{Takes, IsPieceFault};
 ghost use Rattle.line_engine.specs.declared.form.LineForm.TheVariants.{Whole};
 
 use crate::fault::InputFault;

@@ -3,8 +3,8 @@ ghost use Rattle.std.specs.Prelude.{◌<◌};
 
 use crate::fault::InputFault;
 use crate::form::LineForm;
-use crate::take_lines;
 use crate::taker::LineTaker;
+use crate::{take_lines, take_text};
 use byte_devices::{TestSink, TestSource};
 use std::alloc::{AllocError, Global};
 use std::process::Abort;
@@ -84,6 +84,13 @@ fn logs(rt: &impl Abort, alloc: Global, input: &[u8], size: usize, log: &[u8])
     };
     assert!(rt; last.text.as_slice() == log);
     assert!(rt; sink.taken().is_empty());
+    let taker = Log {
+        text: Vec::new(alloc),
+    };
+    let Ok(last) = take_text(alloc, taker, input) else {
+        panic!(rt; "the text was not taken");
+    };
+    assert!(rt; last.text.as_slice() == log);
 }
 
 #[test]
@@ -113,6 +120,11 @@ fn a_taker_stops(rt: HostRuntime) {
             text: Vec::new(rt.alloc()),
         };
         let stopped = take_lines(rt.alloc(), taker, &mut source, &mut sink);
+        assert!(&rt; matches!(&stopped, Err(InputFault::Taker(LogFault::Asked))));
+        let taker = Log {
+            text: Vec::new(rt.alloc()),
+        };
+        let stopped = take_text(rt.alloc(), taker, input);
         assert!(&rt; matches!(&stopped, Err(InputFault::Taker(LogFault::Asked))));
     }
 }

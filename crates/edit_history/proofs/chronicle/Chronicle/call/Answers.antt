@@ -56,4 +56,4 @@ invariant_of-self-2 c =
     let len = c.in-Ok.ensures.len in
     let capacity = c.push_reserved.ensures.capacity in
     kept-more _ _ _ _ _ _ _ c.self.invariant c.args.seat c.args.cmd c.in-Ok-copied.kept c.push_reserved.new.self.items c.apply.new.self (vec_capacity c.push_reserved.new.self)
-    (omega arith) its c.in-Ok-apply.ensures.next items fits (omega arith)
+    (omega arith) its c.in-Ok-apply.ensures.next items fits (omega arith) c.command_holds_its_numbers.ensures

@@ -2,8 +2,7 @@ use Rattle.std.proofs.Common.{◌≡◌, length, arith, rules, IfErr}
 use Rattle.std.proofs.lemmas.Bool.Decides.{nat_tests}
 use Rattle.std.proofs.lemmas.Result.{IfErr-weaker}
 use Rattle.line_engine.specs.Lines.{handed, last_line}
-use Rattle.line_engine.specs.Input.{StopsAt}
-use Rattle.line_engine.specs.Pieces.{IsLineFault}
+use Rattle.line_engine.specs.Input.{StopsAt, IsLineFault}
 use Rattle.line_engine.specs.declared.form.LineForm.TheVariants.{WithoutLf}
 use Rattle.line_engine.proofs.Feeding.{line-fault-weaker, stops-last}
 use Rattle.line_engine.proofs.lines.Lines.take_last.Goals as goal

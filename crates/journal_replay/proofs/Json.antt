@@ -1,0 +1,26 @@
+-- Texts as JSON.
+use Rattle.std.specs.Prelude.{IsUtf8, String}
+use Rattle.std.specs.Str.{is_utf8}
+use Rattle.std.specs.declared.alloc.Global.{Global}
+use Rattle.std.proofs.Common.{◌≡◌, ℕ, Bool, true, false, cond, List, [], ◌∷◌, length, None, refl, arith}
+use Rattle.std.proofs.lemmas.Str.{IsUtf8-from_is_utf8, is_utf8-from_IsUtf8}
+use Rattle.serde_json.specs.Read.{read}
+use Rattle.serde_json.specs.View.{members_view}
+use Rattle.serde_json.specs.declared.value.Value.{Value}
+use Rattle.journal_replay.specs.Reading.{json_of, count_members}
+
+pub json-read : (text : List ℕ) → IsUtf8 text → json_of text ≡ read text
+unfolding json_of
+json-read text u = rw (is_utf8-from_IsUtf8 text u) refl
+
+none-by : (b : Bool) (text : List ℕ) → is_utf8 text ≡ b → ¬ (IsUtf8 text) → cond b (read text) None ≡ None
+none-by true text e never = absurd (never (IsUtf8-from_is_utf8 text e))
+none-by false text e never = refl
+
+pub json-none : (text : List ℕ) → ¬ (IsUtf8 text) → json_of text ≡ None
+unfolding json_of
+json-none text never = none-by (is_utf8 text) text refl never
+
+pub count-members : (entries : List (String Global × Value)) → count_members (members_view entries) ≡ length entries
+count-members [] = refl
+count-members (e ∷ entries) = omega (arith, count-members entries)

@@ -1,0 +1,85 @@
+-- What is found of a journal, line by line (own).
+use Rattle.std.specs.Prelude.{ℕ, ◌+◌, nat_le, if◌then◌else◌, List, [], length, Option, Some, None, option_and_then}
+use Rattle.std.specs.Str.{bytes_eq}
+use Rattle.serde_json.specs.Data.{Data}
+use Rattle.market_types.specs.declared.reply.Reply.{Reply}
+use Rattle.market_types.specs.State.{State}
+use Rattle.market_types.specs.Step.{step}
+use Rattle.market_types.specs.Texts.{reply_text}
+use Rattle.line_engine.specs.Lines.{Line, lines_of}
+use Rattle.line_engine.specs.Rule.{LineRule, after}
+use Rattle.line_engine.specs.declared.form.LineForm.{LineForm}
+use Rattle.line_engine.specs.declared.form.LineForm.TheVariants.{Whole, WithoutLf, TooLong}
+use Rattle.journal_replay.specs.declared.checker.Progress.{Progress}
+use Rattle.journal_replay.specs.declared.checker.Progress.TheVariants.{Unopened, Replaying, Faulty}
+use Rattle.journal_replay.specs.declared.verdict.Verdict.{Verdict}
+use Rattle.journal_replay.specs.declared.verdict.Verdict.TheVariants.{Legal, BadHeader, BadJson, BadRecord, WrongReply}
+use Rattle.journal_replay.specs.Reading.{json_of, header_of, Recorded, entry_in}
+
+-- the most bytes of a line
+abbrev pub longest_line : ℕ
+longest_line = 65536
+
+-- the most entries of a journal
+abbrev pub most_entries : ℕ
+most_entries = 1048576
+
+-- what a line is as JSON: one without its LF, and one that is too long, is none
+abbrev pub json_by : LineForm → List ℕ → Option Data
+json_by Whole bytes = json_of bytes
+json_by WithoutLf bytes = None
+json_by TooLong bytes = None
+
+-- ---- one line more: the header is line 1, and after n entries the next line is line n + 2
+
+abbrev pub after_header : Option State → Progress
+after_header None = Faulty BadHeader
+after_header (Some market) = Replaying market 0
+
+-- an entry with this reply, where that one is due
+abbrev pub after_reply : ℕ → List ℕ → Reply × State → Progress
+after_reply entries reply due =
+    if bytes_eq (reply_text due.0) reply then Replaying due.1 (entries + 1)
+    else Faulty (WrongReply (entries + 2) (reply_text due.0))
+
+abbrev pub after_entry : State → ℕ → Option Recorded → Progress
+after_entry market entries None = Faulty (BadRecord (entries + 2))
+after_entry market entries (Some e) = after_reply entries e.reply (step market e.seat e.cmd)
+
+-- a journal has no more than the most entries
+abbrev pub after_record : State → ℕ → Data → Progress
+after_record market entries d =
+    if nat_le most_entries entries then Faulty (BadRecord (entries + 2))
+    else after_entry market entries (entry_in (length market.seats) market.levels d)
+
+abbrev pub after_json : State → ℕ → Option Data → Progress
+after_json market entries None = Faulty (BadJson (entries + 2))
+after_json market entries (Some d) = after_record market entries d
+
+-- the first fault stays
+abbrev pub after_line : Progress → Line → Progress
+after_line Unopened line = after_header (option_and_then header_of (json_by line.form line.bytes))
+after_line (Replaying market entries) line = after_json market entries (json_by line.form line.bytes)
+after_line (Faulty verdict) line = Faulty verdict
+
+-- a journal's lines are answered by nothing
+abbrev pub journal_rule : LineRule Progress
+journal_rule = record { reply = λ _ _. []; next = after_line }
+
+-- ---- the whole text
+
+-- what is found at the end
+abbrev pub verdict_of : Progress → Verdict
+verdict_of Unopened = BadHeader
+verdict_of (Replaying market entries) = Legal entries
+verdict_of (Faulty verdict) = verdict
+
+-- the verdict of a text
+abbrev pub verdict : List ℕ → Verdict
+verdict text = verdict_of (after journal_rule Unopened (lines_of longest_line text))
+
+-- how many lines of a legal journal were taken
+abbrev pub lines_taken : Progress → ℕ
+lines_taken Unopened = 0
+lines_taken (Replaying market entries) = entries + 1
+lines_taken (Faulty verdict) = 0

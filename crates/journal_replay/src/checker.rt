@@ -1,0 +1,171 @@
+//! A journal, checked line by line.
+ghost use Rattle.std.specs.Prelude.{◌≡◌, ◌+◌, ◌<◌, ◌^◌, IfOk, option_map, option_and_then};
+ghost use Rattle.serde_json.specs.View.{view};
+ghost use Rattle.journal_replay.specs.Verdicts.{after_header, after_line, after_record, json_by, lines_taken, verdict, verdict_of};
+ghost use Rattle.journal_replay.specs.Reading.{header_of};
+
+use crate::reading::{open_market, read_entry, read_json};
+use crate::verdict::{DueReply, Verdict};
+use line_engine::{LineForm, LineTaker, take_text};
+use market_core::Market;
+use market_types::reply_text;
+use serde_json::Value;
+use std::alloc::{AllocError, Global};
+use std::mem;
+
+/// The most entries of a journal.
+const MOST_ENTRIES: u64 = 1_048_576;
+
+/// How far a journal is found legal.
+#[derive(Drop)]
+pub(crate) enum Progress {
+    /// No line was taken.
+    Unopened,
+    /// The market after so many entries.
+    Replaying(Market, u64),
+    /// What was found at the first faulty line.
+    Faulty(Verdict),
+}
+
+/// What a line is as JSON, if it is any and is whole.
+fn read_line(alloc: Global, line: &[u8], form: LineForm) -> Result<Option<Value>, AllocError>
+    ensures { IfOk result (λ value. option_map view value ≡ json_by form line.now) }
+{
+    match form {
+        LineForm::Whole => read_json(alloc, line),
+        LineForm::WithoutLf | LineForm::TooLong => Ok(None),
+    }
+}
+
+impl Progress {
+    /// After the first line, by what it is as JSON.
+    fn after_header(alloc: Global, value: Option<Value>) -> Result<Progress, AllocError>
+        ensures { IfOk result (λ progress. progress ≡ after_header (option_and_then header_of (option_map view value))) }
+    {
+        let Some(value) = value else {
+            return Ok(Progress::Faulty(Verdict::BadHeader));
+        };
+        let Some(market) = open_market(alloc, &value)? else {
+            return Ok(Progress::Faulty(Verdict::BadHeader));
+        };
+        Ok(Progress::Replaying(market, 0))
+    }
+
+    /// After a line that is JSON, behind so many entries.
+    fn after_record(
+        alloc: Global,
+        mut market: Market,
+        entries: u64,
+        value: &Value,
+    ) -> Result<Progress, AllocError>
+        requires few { entries + 2 < 2 ^ 64 }
+        ensures { IfOk result (λ progress. progress ≡ after_record market entries (view value.now)) }
+    {
+        let bad_record = Verdict::BadRecord(entries + 2);
+        if entries >= MOST_ENTRIES {
+            return Ok(Progress::Faulty(bad_record));
+        }
+        let Some(entry) = read_entry(value, market.seats(), market.levels()) else {
+            return Ok(Progress::Faulty(bad_record));
+        };
+        let reply = market.apply(alloc, entry.seat, entry.cmd)?;
+        let due = reply_text(alloc, &reply)?;
+        if due.as_str() != entry.reply {
+            let wrong_reply = Verdict::WrongReply(entries + 2, DueReply::new(due));
+            return Ok(Progress::Faulty(wrong_reply));
+        }
+        Ok(Progress::Replaying(market, entries + 1))
+    }
+
+    /// After one line more.
+    pub(crate) fn after_line(
+        self,
+        alloc: Global,
+        line: &[u8],
+        form: LineForm,
+    ) -> Result<Progress, AllocError>
+        requires few { lines_taken self + 1 < 2 ^ 64 }
+        ensures { IfOk result (λ progress. progress ≡ after_line self (record { bytes = line.now; form = form })) }
+    {
+        match self {
+            Progress::Unopened => {
+                let value = read_line(alloc, line, form)?;
+                Progress::after_header(alloc, value)
+            }
+            Progress::Replaying(market, entries) => match read_line(alloc, line, form)? {
+                Some(value) => Progress::after_record(alloc, market, entries, &value),
+                None => Ok(Progress::Faulty(Verdict::BadJson(entries + 2))),
+            },
+            Progress::Faulty(verdict) => Ok(Progress::Faulty(verdict)),
+        }
+    }
+
+    /// What is found, if no line follows.
+    fn into_verdict(self) -> Verdict
+        ensures { result ≡ verdict_of self }
+    {
+        match self {
+            Progress::Unopened => Verdict::BadHeader,
+            Progress::Replaying(_market, entries) => Verdict::Legal(entries),
+            Progress::Faulty(verdict) => verdict,
+        }
+    }
+}
+
+/// Takes the lines of a journal, and answers none of them.
+#[derive(Drop)]
+pub(crate) struct Checker {
+    alloc: Global,
+    progress: Progress,
+}
+
+impl LineTaker for Checker {
+    ghost use Rattle.std.specs.Prelude.{⊤};
+    ghost use Rattle.journal_replay.specs.declared.checker.Progress.{Progress};
+    ghost use Rattle.journal_replay.specs.Verdicts.{journal_rule, lines_taken, longest_line};
+
+    type Fault = AllocError;
+
+    const LONGEST: u32 = 65_536;
+
+    ghost LONGEST = { longest_line };
+
+    ghost State = { Progress };
+
+    ghost state = { λ c. c.progress };
+
+    ghost rule = { journal_rule };
+
+    ghost stops = { λ _ _ _. ⊤ };
+
+    ghost count = { λ c. lines_taken c.progress };
+
+    fn take_line(
+        &mut self,
+        line: &[u8],
+        form: LineForm,
+        _replies: &mut Vec<u8>,
+    ) -> Result<(), AllocError> {
+        let progress = mem::replace(&mut self.progress, Progress::Unopened);
+        self.progress = progress.after_line(self.alloc, line, form)?;
+        Ok(())
+    }
+}
+
+/// What is found of a journal's text, of whatever length: whether its calls, replayed on a new market, get the replies
+/// that it tells, as `Legal` with the number of entries, or the first line at which they don't. Journals of version 1, which
+/// have three levels and tell none, are read too. What a line is as JSON is serde_json's reading of it, so that other spacing
+/// and another order of keys are accepted. It asks for no free places. It takes the memory of the market, of a line and of
+/// its replies; out of memory is the `Err`.
+pub fn check(alloc: Global, text: &[u8]) -> Result<Verdict, AllocError>
+    ensures verdict { IfOk result (λ found. found ≡ verdict text.now) }
+{
+    let begun = Checker {
+        alloc,
+        progress: Progress::Unopened,
+    };
+    let Ok(checker) = take_text(alloc, begun, text) else {
+        return Err(AllocError);
+    };
+    Ok(checker.progress.into_verdict())
+}
