@@ -6,7 +6,8 @@
 mod journal;
 mod line;
 
-pub use journal::{OutFault, write_journal};
+pub use byte_devices::OutFault;
+pub use journal::write_journal;
 
 #[cfg(test)]
 mod tests;
