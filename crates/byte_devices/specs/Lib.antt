@@ -1,2 +1,3 @@
 pub mod Devices
+pub mod Output
 pub mod TestDevices

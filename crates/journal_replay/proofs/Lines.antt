@@ -10,7 +10,7 @@ use Rattle.market_types.specs.declared.reply.Entry.{Entry}
 use Rattle.market_types.specs.State.{State}
 use Rattle.edit_history.specs.Chronicled.{HasNumbersOf}
 use Rattle.journal_replay.specs.Journal.{entry_line, entry_lines, header_line, journal_text}
-use Rattle.journal_replay.specs.Output.{Fronts}
+use Rattle.byte_devices.specs.Output.{Fronts}
 
 -- an entry's line with its LF
 abbrev line : ℕ → Entry → List ℕ

@@ -1,5 +1,4 @@
 pub mod Journal
-pub mod Output
 pub mod Reading
 pub mod Verdicts
 pub mod VerdictTexts

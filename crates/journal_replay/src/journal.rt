@@ -2,50 +2,16 @@
 ghost use Rattle.std.specs.Prelude.{◌≡◌, ◌++◌, codes, true, false, OnOk, OnErr, IfErr};
 ghost use Rattle.std.specs.Io.KnownBytes.{Appends};
 ghost use Rattle.byte_devices.specs.Devices.{WritesFront};
+ghost use Rattle.byte_devices.specs.Output.{Fronts, IsOutFault};
 ghost use Rattle.journal_replay.specs.Journal.{entry_lines, journal_text};
-ghost use Rattle.journal_replay.specs.Output.{Fronts, IsOutFault};
 
 use crate::line::{entry_line, header_line};
-use byte_devices::{Sink, WriteFault, put_all};
+use byte_devices::{OutFault, Sink, put_all};
 use edit_history::Chronicle;
 use std::alloc::{AllocError, Global};
-use thiserror::Error;
 
 /// So many bytes that wait are handed over.
 const PIECE: usize = 65_536;
-
-/// Why a text was not written whole. What was written is then a prefix of it.
-#[derive(Clone, Copy, Debug, Error, PartialEq, Eq)]
-pub enum OutFault {
-    /// A write failed, or took 0 of some bytes.
-    #[error("write fault")]
-    Write,
-    /// Out of memory.
-    #[error("memory")]
-    Memory,
-}
-
-impl From<AllocError> for OutFault {
-    ghost use Rattle.std.specs.Prelude.{◌≡◌};
-    ghost use Rattle.journal_replay.specs.declared.journal.OutFault.TheVariants.{Memory};
-
-    ghost from_gives = { λ _ fault. fault ≡ Memory };
-
-    fn from(_error: AllocError) -> OutFault {
-        OutFault::Memory
-    }
-}
-
-impl From<WriteFault> for OutFault {
-    ghost use Rattle.std.specs.Prelude.{◌≡◌};
-    ghost use Rattle.journal_replay.specs.declared.journal.OutFault.TheVariants.{Write};
-
-    ghost from_gives = { λ _ fault. fault ≡ Write };
-
-    fn from(_fault: WriteFault) -> OutFault {
-        OutFault::Write
-    }
-}
 
 /// Puts a line and its LF at the end of what waits.
 fn push_line(waiting: &mut Vec<u8>, line: &str) -> Result<(), AllocError>

@@ -12,8 +12,9 @@ mod line;
 mod reading;
 mod verdict;
 
+pub use byte_devices::OutFault;
 pub use checker::check;
-pub use journal::{OutFault, write_journal};
+pub use journal::write_journal;
 pub use law::legal_journals_tell_legal_histories;
 pub use verdict::{DueReply, Verdict};
 

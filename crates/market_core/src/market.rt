@@ -5,6 +5,7 @@ ghost use Rattle.market_types.specs.State.{Arena, opening};
 ghost use Rattle.market_types.specs.Opening.{opened_market, MemoryAside};
 ghost use Rattle.market_types.specs.Allotment.{limit_of, bound_of};
 ghost use Rattle.market_types.specs.Step.{arena_at, limits_of};
+ghost use Rattle.allotment.specs.Levels.{IsLeveled};
 ghost use Rattle.market_core.specs.Allotted.{IsWithin, total_allotment};
 
 mod allot;
@@ -101,11 +102,12 @@ impl Market {
         self.roster.seats()
     }
 
-    /// How many levels there are, 1 to 8.
+    /// How many levels there are, 1 to 8. Each arena is at one of them.
     pub fn levels(&self) -> u32
         ensures exact { result ≡ self.now.levels }
         ensures low { 1 ≤ result }
         ensures high { result ≤ 8 }
+        ensures leveled { IsLeveled self.now }
     {
         self.opening.levels
     }

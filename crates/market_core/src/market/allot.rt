@@ -1,5 +1,5 @@
 //! What the market allots.
-ghost use Rattle.std.specs.Prelude.{◌≡◌, ℕ, ◌+◌, ◌-◌, ◌*◌, ◌≤◌, ◌<◌, Some, None, IfSome, length, slice_get, option_map, slice_index, slice_index_or, ◌==◌, if◌then◌else◌};
+ghost use Rattle.std.specs.Prelude.{◌≡◌, ℕ, ◌+◌, ◌-◌, ◌*◌, ◌≤◌, ◌<◌, Some, None, IfSome, OnSome, length, slice_get, option_map, slice_index, slice_index_or, ◌==◌, if◌then◌else◌};
 ghost use Rattle.market_types.specs.Allotment.{allotment_of, active, assigned, at_level, demand, is_top, limit_of};
 ghost use Rattle.market_types.specs.Step.{arena_at, view_of};
 ghost use Rattle.allotment.specs.Levels.{AreDemandsOf, ArePicksOf, IsLeveled, pick_of};
@@ -108,6 +108,7 @@ impl Market {
     pub(super) fn view_of(&self, stored: StoredArena) -> (ArenaView, u32)
         requires there { arena_at stored.number self.now.arenas ≡ Some stored }
         ensures exact { result.0 ≡ view_of self.now stored }
+        ensures small { result.0.request ≤ 65535 }
         ensures entered { 0 < request_of stored.claim → 1 ≤ result.1 }
         ensures visits { result.1 ≤ 2 * bits (length self.now.arenas) + extra_visits self.now }
     {
@@ -138,21 +139,27 @@ impl Market {
         Some(view)
     }
 
-    /// What is seen of the arena at an index, from 0 on, of a level; `None` beyond its last, and where the market has no such
-    /// level. It takes no memory.
+    /// What is seen of the arena at an index, from 0 on, of a level; `None` beyond its last, which is below 1,024, and where
+    /// the market has no such level. An arena asks for at most 65,535 workers. It takes no memory.
     pub fn row(&self, level: Level, index: usize) -> Option<ArenaView>
         ensures exact { result ≡ option_map (view_of self.now) (slice_get (at_level level self.now.arenas) index) }
         ensures within { IfSome (slice_get (at_level level self.now.arenas) index) (IsWithin self.now) }
+        ensures small { IfSome result (λ view. view.request ≤ 65535) }
+        ensures few { OnSome result (index < 1024) }
     {
         self.arenas_are_within();
+        // That there are at most 1,024 arenas is what this call promises.
+        let _ = self.arenas.len();
         let stored = self.arenas.nth_of(level, index)?;
         let (view, _) = self.view_of(stored);
         Some(view)
     }
 
-    /// What the arenas of a level ask for together; 0 where the market has no such level. It takes no memory.
+    /// What the arenas of a level ask for together, 0 to 67,107,840; 0 where the market has no such level. It takes no
+    /// memory.
     pub fn demand(&self, level: Level) -> u64
         ensures exact { result ≡ demand self.now level }
+        ensures small { result ≤ 1024 * 65535 }
     {
         self.arenas.demand(level)
     }

@@ -1,6 +1,6 @@
 use Rattle.std.proofs.Common.{◌≡◌, ◌++◌, false, take}
 use Rattle.journal_replay.specs.Journal.{entry_lines}
-use Rattle.journal_replay.specs.Output.{Fronts}
+use Rattle.byte_devices.specs.Output.{Fronts}
 use Rattle.journal_replay.proofs.journal.write_entries.Given as goal
 
 -- what was written and what waits are the lines so far

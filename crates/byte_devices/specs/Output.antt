@@ -1,8 +1,8 @@
 -- What was written of a text, and why no more.
 use Rattle.std.specs.Prelude.{◌≡◌, ℕ, Bool, true, false, List, ◌++◌, Option}
 use Rattle.std.specs.Io.KnownBytes.{Appends}
-use Rattle.journal_replay.specs.declared.journal.OutFault.{OutFault}
-use Rattle.journal_replay.specs.declared.journal.OutFault.TheVariants.{Write, Memory}
+use Rattle.byte_devices.specs.declared.out_fault.OutFault.{OutFault}
+use Rattle.byte_devices.specs.declared.out_fault.OutFault.TheVariants.{Write, Memory}
 
 -- a write failed, or none did
 abbrev pub IsOutFault : OutFault → Bool → Type 0
