@@ -4,15 +4,9 @@ ghost use Rattle.journal_replay.specs.Legality.{IsLegalJournal};
 ghost use Rattle.journal_replay.specs.Verdicts.{verdict};
 ghost use Rattle.journal_replay.specs.declared.verdict.Verdict.TheVariants.{Legal};
 
-use edit_history::a_call_moves_its_own_seat;
-use market_core::seats_stay;
-
 /// A text is found legal exactly where it reads as a header and a legal history, of at most 1,048,576 entries; so many are
 /// found.
 pub fn legal_journals_tell_legal_histories()
     ensures found { (text : List ℕ) (entries : ℕ) → verdict text ≡ Legal entries → IsLegalJournal text entries }
     ensures legal { (text : List ℕ) (entries : ℕ) → IsLegalJournal text entries → verdict text ≡ Legal entries }
-{
-    seats_stay();
-    a_call_moves_its_own_seat();
-}
+{}
