@@ -1,5 +1,6 @@
 //! Rows, seats and lists of counts.
-ghost use Rattle.std.specs.Prelude.{◌≡◌, ◌<◌, ◌≤◌, ◌∷◌, length, All, OnOk};
+ghost use Rattle.std.specs.Prelude.{◌≡◌, ◌<◌, ◌≤◌, ◌∷◌, length, false, IfOk, OnOk};
+ghost use Rattle.std.specs.List.{All};
 
 use level_list::LevelList;
 use market_types::{ArenaId, Lists, Row, SeatNo};
@@ -20,28 +21,28 @@ fn row(stamp: u32) -> Row
     }
 }
 
-/// Pushes a row, again where the first growth was refused: then the rows were as before.
-fn push(rt: &impl Abort, alloc: Global, rows: &mut LevelList, row: Row) -> Result<(), AllocError>
+/// Pushes the row of a stamp, again where the first growth was refused: then the rows were as before.
+fn push(rt: &impl Abort, alloc: Global, rows: &mut LevelList, stamp: u32) -> Result<(), AllocError>
     requires room { length rows.old < 1024 }
-    requires request { row.request ≤ 65535 }
-    requires newest { All (λ older. older.stamp < row.stamp) rows.old }
-    ensures rows { OnOk result (rows.new ≡ row ∷ rows.old) }
+    requires newest { All (λ older. older.stamp < stamp) rows.old }
+    ensures rows { OnOk result (rows.new ≡ record { stamp = stamp; arena = stamp; request = 5; mandated = false } ∷ rows.old) }
 {
-    let before = (rows.len(), rows.demand());
-    if rows.push(alloc, row).is_ok() {
+    let count = rows.len();
+    let demand = rows.demand();
+    let Err(_) = rows.push(alloc, row(stamp)) else {
         return Ok(());
-    }
-    assert!(rt; (rows.len(), rows.demand()) == before);
-    rows.push(alloc, row)?;
+    };
+    assert!(rt; rows.len() == count && rows.demand() == demand);
+    rows.push(alloc, row(stamp))?;
     Ok(())
 }
 
 /// Three arenas that ask for 5 workers each.
 fn three_arenas(rt: &impl Abort, alloc: Global) -> Result<LevelList, AllocError> {
     let mut rows = LevelList::new();
-    push(rt, alloc, &mut rows, row(1))?;
-    push(rt, alloc, &mut rows, row(2))?;
-    push(rt, alloc, &mut rows, row(3))?;
+    push(rt, alloc, &mut rows, 1)?;
+    push(rt, alloc, &mut rows, 2)?;
+    push(rt, alloc, &mut rows, 3)?;
     Ok(rows)
 }
 
@@ -59,7 +60,7 @@ fn a_refused_growth_leaves_the_rows(rt: HostRuntime) -> Result<(), AllocError> {
 fn seats(alloc: Global, count: u8) -> Result<Roster, AllocError>
     requires some { 1 ≤ count }
     requires few { count ≤ 64 }
-    ensures { OnOk result (length result.now ≡ count) }
+    ensures { IfOk result (λ roster. length roster ≡ count) }
 {
     match Roster::new(alloc, count) {
         Ok(roster) => Ok(roster),
