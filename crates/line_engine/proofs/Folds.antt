@@ -14,3 +14,9 @@ module _ {S : Type 0} (rule : LineRule S) where
       let next = rule.next s line in
       ap (λ t. rule.reply s line ++ t) (replies_to-append next xs ys)
       ∙ sym (append_assoc (rule.reply s line) (replies_to rule next xs) (replies_to rule (after rule next xs) ys))
+
+  -- lines that are each answered by nothing
+  pub replies_to-silent : ((s : S) (line : Line) → rule.reply s line ≡ []) → (s : S) (lines : List Line) → replies_to rule s lines ≡ []
+  replies_to-silent none s [] = refl
+  replies_to-silent none s (line ∷ lines) =
+      ap (λ t. t ++ replies_to rule (rule.next s line) lines) (none s line) ∙ replies_to-silent none (rule.next s line) lines

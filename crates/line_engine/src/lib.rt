@@ -4,12 +4,13 @@
 //!
 //! A taker says how long a line it needs: of a longer one it gets the first bytes, told as [`LineForm::TooLong`]. It
 //! learns whether the last line had its LF, it may stop with a fault of its own, and it may write nothing at all and
-//! keep what it has made of the lines until the end.
+//! keep what it has made of the lines until the end: then [`silence`] says that nothing is handed over.
 #![tactic(auto)]
 
 mod engine;
 mod fault;
 mod form;
+mod law;
 mod lines;
 mod taker;
 mod text;
@@ -17,6 +18,7 @@ mod text;
 pub use engine::take_lines;
 pub use fault::InputFault;
 pub use form::LineForm;
+pub use law::silence;
 pub use taker::LineTaker;
 pub use text::take_text;
 

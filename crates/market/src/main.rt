@@ -4,7 +4,9 @@
 use byte_devices::{ReadSource, WriteSink};
 use clap::Error;
 use clap::error::ErrorKind;
-use market_prog::{Choice, RunOptions, read_words, run_script, status_of_run};
+use market_prog::{
+    Choice, MarketOptions, RunFault, explain_script, read_words, run_script, status_of_run,
+};
 use std::fmt::Display;
 use std::process::ExitCode;
 use std::{env, io};
@@ -23,8 +25,8 @@ fn fail<T: Display + Drop>(rt: &HostRuntime, why: T, status: u8) -> u8 {
 }
 
 /// Answers the script on standard input.
-fn run(rt: &HostRuntime, options: RunOptions) -> u8 {
-    let RunOptions {
+fn run(rt: &HostRuntime, options: MarketOptions) -> u8 {
+    let MarketOptions {
         base,
         hard,
         seats,
@@ -41,6 +43,33 @@ fn run(rt: &HostRuntime, options: RunOptions) -> u8 {
         &mut input,
         &mut output,
     );
+    finish(rt, outcome)
+}
+
+/// Explains the market that the script on standard input leads to.
+fn explain(rt: &HostRuntime, options: MarketOptions) -> u8 {
+    let MarketOptions {
+        base,
+        hard,
+        seats,
+        levels,
+    } = options;
+    let mut input = ReadSource::new(rt.stdin());
+    let mut output = WriteSink::new(rt.stdout());
+    let outcome = explain_script(
+        rt.alloc(),
+        base,
+        hard,
+        seats,
+        levels,
+        &mut input,
+        &mut output,
+    );
+    finish(rt, outcome)
+}
+
+/// Tells the fault of a run, if there is one, and gives its status.
+fn finish(rt: &HostRuntime, outcome: Result<u64, RunFault>) -> u8 {
     let status = status_of_run(&outcome);
     match outcome {
         Ok(_) => status,
@@ -49,7 +78,7 @@ fn run(rt: &HostRuntime, options: RunOptions) -> u8 {
 }
 
 /// Prints the help that was asked for, or what is wrong with the words.
-fn explain(rt: &HostRuntime, error: &Error) -> u8 {
+fn print_help(rt: &HostRuntime, error: &Error) -> u8 {
     if error.kind() == ErrorKind::OutOfMemory {
         return fail(rt, "memory", SYSTEM_FAULT);
     }
@@ -71,7 +100,8 @@ fn obey(rt: &HostRuntime, words: &[String]) -> u8 {
     };
     match read_words(rt.alloc(), &texts) {
         Ok(Choice::Run(options)) => run(rt, options),
-        Err(error) => explain(rt, &error),
+        Ok(Choice::Explain(options)) => explain(rt, options),
+        Err(error) => print_help(rt, &error),
     }
 }
 

@@ -36,10 +36,13 @@ answer-heard Whole s line call e h is = ap (answer_to s) is ∙ sym (answer_of-h
 answer-heard WithoutLf s line call e h is = ap (answer_to s) is ∙ sym (answer_of-heard s line e h)
 answer-heard TooLong s line call e h is = ap (answer_to s) is ∙ sym (rw e refl)
 
+pub called-state : (q s : State) (m n : ℕ) (a b : Told) → q ≡ a.last → m ≡ n + a.unread → a ≡ b → ◌≡◌ {A = State × ℕ} (q, m) (b.last, n + b.unread)
+called-state q s m n a b e f is =
+    (let same : ◌≡◌ {A = State × ℕ} (q, m) (a.last, n + a.unread) = cc in same) ∙ ap (λ (t : Told). let x : State × ℕ = (t.last, n + t.unread) in x) is
+
 pub heard-state : {T E : Type 0} (r : Result T E) (q s : State) (m n : ℕ) (a b : Told) → OnOk r (q ≡ a.last) → OnOk r (m ≡ n + a.unread) → a ≡ b
     → OnOk r (◌≡◌ {A = State × ℕ} (q, m) (b.last, n + b.unread))
-heard-state (Ok x) q s m n a b e f is =
-    (let same : ◌≡◌ {A = State × ℕ} (q, m) (a.last, n + a.unread) = cc in same) ∙ ap (λ (t : Told). let x : State × ℕ = (t.last, n + t.unread) in x) is
+heard-state (Ok x) q s m n a b e f is = called-state q s m n a b e f is
 heard-state (Err x) q s m n a b e f is = tt
 
 pub heard-text : {T E : Type 0} (r : Result T E) (old new : List ℕ) (a b : Told) → OnOk r (new ≡ old ++ a.text) → a ≡ b → OnOk r (new ≡ old ++ b.text)

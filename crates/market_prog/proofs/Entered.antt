@@ -1,4 +1,4 @@
--- Words that clap takes name the subcommand `run`, with a number for each of its options.
+-- Words that clap takes name the subcommand `run` or `explain`, with a number for each of its options.
 use Rattle.std.proofs.Common.{◌≡◌, ◌∙◌, ◌&&◌, ◌||◌, cond, not, ℕ, Bool, true, false, refl, sym, subst, List, [], ◌∷◌, Option, Some, None, is_some, option_map, inl, inr, true≢false, codes, pos, bytes_eq, drop, find, fold, slice_get}
 use Rattle.std.specs.List.{list_any}
 use Rattle.std.specs.Option.{option_map_or}
@@ -14,8 +14,8 @@ use Rattle.clap.specs.ValueTests.{is_signed_in}
 use Rattle.clap.specs.declared.builder.value_parser.ValueParser.TheVariants.{Signed}
 use Rattle.clap.proofs.ValueTestLemmas.{accepts-Accepts}
 use Rattle.market_prog.specs.Words.{market_app}
-use Rattle.market_prog.specs.Passed.{HasNumber, HasRunNumbers, NamesRun}
-use Rattle.market_prog.proofs.Rows.{Holds, Only, and_true, is_at, no_kind, or_else_nil, row_fits}
+use Rattle.market_prog.specs.Passed.{HasNumber, HasMarketNumbers, NamesSubcommand}
+use Rattle.market_prog.proofs.Rows.{HasRule, Holds, Only, and_true, is_at, no_kind, or_else_nil, row_fits}
 use Rattle.market_prog.proofs.Walked.{level_holds}
 
 -- ---- no call for help
@@ -102,7 +102,7 @@ module _ (s : Shape) (helps : s.disable_help_subcommand ≡ false) where
       let parts = or_else_nil (turn_fault s names w word) _ e in
       walk_no_help names (walked s.rules names w word) rest parts.1 (turn_no_help names w word parts.0 ok)
 
--- ---- the options of `run`
+-- ---- the options
 
 abbrev market : App
 market = built market_app
@@ -111,9 +111,12 @@ abbrev first_shape : List Shape → Shape
 first_shape [] = market_app.top
 first_shape (s ∷ rest) = s
 
--- the subcommand `run` as it is built
+-- the subcommands as they are built
 abbrev run : Shape
 run = first_shape market.subs
+
+abbrev explain : Shape
+explain = first_shape (drop 1 market.subs)
 
 other : {X : Type 0} → false ≡ true → X
 other e = absurd (true≢false (sym e))
@@ -146,13 +149,20 @@ number_held name high rows h = go (find (is_at name) rows) refl h
     go None is fits = absurd (true≢false (sym fits))
     go (Some r) is fits = first r (slice_get r.values 0) is refl fits
 
-run_numbers : (words : List Text) → level_fault run [] nothing_held words false [] ≡ [] → HasRunNumbers (rows_after run.rules [] words)
-run_numbers words e = record {
-  base = number_held _ _ _ (level_holds (codes "base") (codes "8") 65536 run only_base refl words false [] refl (inl refl) e);
-  hard = number_held _ _ _ (level_holds (codes "hard") (codes "64") 65535 run only_hard refl words false [] refl (inr (inl refl)) e);
-  seats = number_held _ _ _ (level_holds (codes "seats") (codes "4") 64 run only_seats refl words false [] refl (inr (inr (inl refl))) e);
-  levels = number_held _ _ _ (level_holds (codes "levels") (codes "3") 8 run only_levels refl words false [] refl (inr (inr (inr (inl refl)))) e);
-}
+-- a subcommand with the options of `run`
+module _ (s : Shape) (same : s.rules ≡ run.rules) (single : s.args_override_self ≡ false) where
+  option_held : (name default : Text) (high : ℕ) → Only name default high run.rules → HasRule name default high run.rules → is_signed_in (pos 1) (pos high) default ≡ true
+      → (words : List Text) → level_fault s [] nothing_held words false [] ≡ [] → HasNumber name high (rows_after s.rules [] words)
+  option_held name default high only has passes words e =
+      number_held name high _ (level_holds name default high s (subst (Only name default high) (sym same) only) single words false [] passes (subst (HasRule name default high) (sym same) has) e)
+
+  numbers : (words : List Text) → level_fault s [] nothing_held words false [] ≡ [] → HasMarketNumbers (rows_after s.rules [] words)
+  numbers words e = record {
+    base = option_held (codes "base") (codes "8") 65536 only_base (inl refl) refl words e;
+    hard = option_held (codes "hard") (codes "64") 65535 only_hard (inr (inl refl)) refl words e;
+    seats = option_held (codes "seats") (codes "4") 64 only_seats (inr (inr (inl refl))) refl words e;
+    levels = option_held (codes "levels") (codes "3") 8 only_levels (inr (inr (inr (inl refl)))) refl words e;
+  }
 
 -- ---- the subcommand
 
@@ -175,28 +185,30 @@ not_help name e = go (bytes_eq (codes "help") name) refl
         let is : codes "help" ≡ name = (bytes_eq-Decides (codes "help") name).0 same in
         absurd (true≢false (sym ((bytes_eq-Decides name (codes "help")).1 (sym is)) ∙ e))
 
-enters_run : (stop : Option (Text × List Text)) → NoHelp stop → is_some (entered market stop) ≡ true → entered_fault market stop ≡ []
-    → (found : Text × List Row) × (entered market stop ≡ Some found) × NamesRun found
-enters_run None no_help some e = absurd (true≢false (sym some))
-enters_run (Some p) no_help some e = go (bytes_eq (codes "run") p.0) (bytes_eq (codes "help") p.0) (not_help p.0 no_help) some e
+enters_one : (stop : Option (Text × List Text)) → NoHelp stop → is_some (entered market stop) ≡ true → entered_fault market stop ≡ []
+    → (found : Text × List Row) × (entered market stop ≡ Some found) × NamesSubcommand found
+enters_one None no_help some e = absurd (true≢false (sym some))
+enters_one (Some p) no_help some e = go (bytes_eq (codes "run") p.0) (bytes_eq (codes "explain") p.0) (bytes_eq (codes "help") p.0) (not_help p.0 no_help) some e
   where
     shape : Shape
-    shape = first_shape (drop 1 market.subs)
+    shape = first_shape (drop 2 market.subs)
 
-    met : Bool → Bool → Option Shape
-    met is_run is_help = cond (is_run || false) (Some run) (cond (is_help || false) (Some shape) None)
+    met : Bool → Bool → Bool → Option Shape
+    met is_run is_explain is_help =
+        cond (is_run || false) (Some run) (cond (is_explain || false) (Some explain) (cond (is_help || false) (Some shape) None))
 
-    go : (is_run is_help : Bool) → is_help ≡ false → is_some (option_map (λ s. rows_at s p.1) (met is_run is_help)) ≡ true
-        → option_map_or (λ s. level_fault s [] nothing_held p.1 false []) (met is_run is_help) [] ≡ []
-        → (found : Text × List Row) × (option_map (λ s. rows_at s p.1) (met is_run is_help) ≡ Some found) × NamesRun found
-    go true is_help none has free = (rows_at run p.1, refl, record { name = refl; numbers = run_numbers p.1 free })
-    go false false none has free = absurd (true≢false (sym has))
-    go false true none has free = absurd (true≢false none)
+    go : (is_run is_explain is_help : Bool) → is_help ≡ false → is_some (option_map (λ s. rows_at s p.1) (met is_run is_explain is_help)) ≡ true
+        → option_map_or (λ s. level_fault s [] nothing_held p.1 false []) (met is_run is_explain is_help) [] ≡ []
+        → (found : Text × List Row) × (option_map (λ s. rows_at s p.1) (met is_run is_explain is_help) ≡ Some found) × NamesSubcommand found
+    go true is_explain is_help none has free = (rows_at run p.1, refl, record { name = inl refl; numbers = numbers run refl refl p.1 free })
+    go false true is_help none has free = (rows_at explain p.1, refl, record { name = inr refl; numbers = numbers explain refl refl p.1 free })
+    go false false false none has free = absurd (true≢false (sym has))
+    go false false true none has free = absurd (true≢false none)
 
--- where clap finds no fault the words name `run`
-pub run_entered : (words : List Text) → fault_of market_app words ≡ []
-    → (found : Text × List Row) × (subcommand_of market_app words ≡ Some found) × NamesRun found
-run_entered words e =
+-- where clap finds no fault the words name a subcommand
+pub entered_one : (words : List Text) → fault_of market_app words ≡ []
+    → (found : Text × List Row) × (subcommand_of market_app words ≡ Some found) × NamesSubcommand found
+entered_one words e =
     let rest = argument_words market_app words in
     let names = names_of market in
     let w = walk market.top.rules names nothing_held rest in
@@ -205,4 +217,4 @@ run_entered words e =
     let settle_parts = or_else_nil (settle_fault market.top.rules market.top.args_override_self w.held) _ below_parts.1 in
     let default_parts = or_else_nil (defaults_fault (settled market.top.rules w.held).rows market.top.rules) _ settle_parts.1 in
     let has : is_some (entered market w.stopped) ≡ true = check_has (finished market.top.rules w.held) _ default_parts.1 in
-    enters_run w.stopped (walk_no_help market.top refl names (walk_from nothing_held) rest walk_parts.0 refl) has below_parts.0
+    enters_one w.stopped (walk_no_help market.top refl names (walk_from nothing_held) rest walk_parts.0 refl) has below_parts.0

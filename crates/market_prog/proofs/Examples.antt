@@ -50,6 +50,13 @@ past_the_ranges : (option_fault (codes "--base") (codes "0") ≡ ValueValidation
 unfolding clap_on_literals
 past_the_ranges = (refl, refl, refl, refl, refl, refl)
 
+explain_has_the_same_options : (chosen (line (codes "explain" ∷ [])) ≡ Some (codes "explain"))
+    × (word_of (codes "seats") (line (codes "explain" ∷ codes "--seats=2" ∷ [])) ≡ Some (Some (codes "2")))
+    × (word_of (codes "hard") (line (codes "explain" ∷ codes "--seats=2" ∷ [])) ≡ Some (Some (codes "64")))
+    × (fault (line (codes "explain" ∷ codes "--levels" ∷ codes "9" ∷ [])) ≡ ValueValidation ∷ [])
+unfolding clap_on_literals
+explain_has_the_same_options = (refl, refl, refl, refl)
+
 no_subcommand : (fault (line []) ≡ DisplayHelpOnMissingArgumentOrSubcommand ∷ []) × (fault (line (codes "fly" ∷ [])) ≡ UnknownArgument ∷ InvalidSubcommand ∷ [])
 unfolding clap_on_literals
 no_subcommand = (refl, refl)

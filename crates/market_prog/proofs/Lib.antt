@@ -7,3 +7,4 @@ pub mod Commands
 pub mod Told
 pub mod Answered
 pub mod Runs
+pub mod Explaining

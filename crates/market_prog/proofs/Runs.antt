@@ -14,7 +14,7 @@ use Rattle.market_prog.specs.Sessions.{script_rule}
 use Rattle.market_prog.proofs.Told.{replies-told, unread-told, replies-told_lines}
 
 -- the session begins with the market, and no unread line
-begun : (m s : State) (n : ℕ) → m ≡ s → n ≡ 0 → ◌≡◌ {A = State × ℕ} (m, n) (s, 0)
+pub begun : (m s : State) (n : ℕ) → m ≡ s → n ≡ 0 → ◌≡◌ {A = State × ℕ} (m, n) (s, 0)
 begun m s n e f = cc
 
 pub run-answers : (m s : State) (n : ℕ) (last : State × ℕ) (left left' taken taken' : Option (List ℕ)) → m ≡ s → n ≡ 0
@@ -27,7 +27,7 @@ run-answers m s n last left left' taken taken' e f h = let t = subst (λ (q : St
   count = ap (λ (q : State × ℕ). q.1) t.state ∙ unread-told s t.input;
 }
 
-cause-of : {F : Type 0} (stops : F → Type 0) (fault : InputFault F) (input : List ℕ) (source_failed sink_failed : Bool)
+pub cause-of : {F : Type 0} (stops : F → Type 0) (fault : InputFault F) (input : List ℕ) (source_failed sink_failed : Bool)
     → InputCauseOf stops fault input source_failed sink_failed → CauseOf (run_fault_of_input fault) input source_failed sink_failed
 cause-of stops ReadFault input x y c = c
 cause-of stops LongInput input x y c = c

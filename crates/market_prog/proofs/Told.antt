@@ -89,6 +89,10 @@ more-unread s (line ∷ ls) last =
     let rest = more-unread a.last ls last in
     omega arith
 
+more-last : (s : State) (ls : List (List ℕ)) (last : List (List ℕ)) → (told_lines s (ls ++ last)).last ≡ (told_lines (told_lines s ls).last last).last
+more-last s [] last = refl
+more-last s (line ∷ ls) last = more-last (answer_of s line).last ls last
+
 last-text : (s : State) (n : ℕ) (u : List ℕ) → replies_to script_rule (s, n) (last_line 256 u) ≡ (told_lines s (without_last_empty (u ∷ []))).text
 last-text s n [] = refl
 last-text s n (x ∷ u) =
@@ -102,6 +106,13 @@ last-unread s n (x ∷ u) =
     let is : answer_handed s (handed 256 WithoutLf (x ∷ u)) ≡ answer_of s (x ∷ u) = answer-handed s WithoutLf (x ∷ u) refl in
     let one : without_last_empty ((x ∷ u) ∷ []) ≡ (x ∷ u) ∷ [] = grind (arith, nat_tests) in
     ap (λ (t : Told). n + t.unread) is ∙ (ap (λ k. n + k) (sym (add-zero (answer_of s (x ∷ u)).unread)) ∙ sym (ap (λ ls. n + (told_lines s ls).unread) one))
+
+last-last : (s : State) (n : ℕ) (u : List ℕ) → (after script_rule (s, n) (last_line 256 u)).0 ≡ (told_lines s (without_last_empty (u ∷ []))).last
+last-last s n [] = refl
+last-last s n (x ∷ u) =
+    let is : answer_handed s (handed 256 WithoutLf (x ∷ u)) ≡ answer_of s (x ∷ u) = answer-handed s WithoutLf (x ∷ u) refl in
+    let one : without_last_empty ((x ∷ u) ∷ []) ≡ (x ∷ u) ∷ [] = grind (arith, nat_tests) in
+    ap (λ (t : Told). t.last) is ∙ sym (ap (λ ls. (told_lines s ls).last) one)
 
 -- the replies to the lines are what is told of the script
 pub replies-told : (s : State) (n : ℕ) (xs : List ℕ) → replies_to script_rule (s, n) (lines_of 256 xs) ≡ (told s xs).text
@@ -122,6 +133,15 @@ unread-told s xs =
     ∙ (last-unread before.last (0 + before.unread) u
     ∙ (let same = more-unread s ls (without_last_empty (u ∷ [])) in omega arith)
     ∙ sym (ap (λ (t : Told). t.unread) (told-cut s xs)))
+
+pub last-told : (s : State) (xs : List ℕ) → (after script_rule (s, 0) (lines_of 256 xs)).0 ≡ (told s xs).last
+last-told s xs =
+    let ls = ended_lines xs in
+    let u = unfinished_line xs in
+    let before = told_lines s ls in
+    ap (λ (q : State × ℕ). q.0) (after-ended s 0 ls (last_line 256 u))
+    ∙ (last-last before.last (0 + before.unread) u
+    ∙ (sym (more-last s ls (without_last_empty (u ∷ []))) ∙ sym (ap (λ (t : Told). t.last) (told-cut s xs))))
 
 pub replies-told_lines : (s : State) (n : ℕ) (xs : List ℕ) → replies_to script_rule (s, n) (whole_lines 256 xs) ≡ (told_lines s (ended_lines xs)).text
 replies-told_lines s n xs =

@@ -2,6 +2,8 @@
 use Rattle.std.specs.Prelude.{◌≡◌}
 use Rattle.market_types.specs.declared.reply.OpenFault.{OpenFault}
 use Rattle.market_types.specs.declared.reply.OpenFault.TheVariants.{BadBase, BadHard, BadSeats, BadPlaces, BadLevels, Memory as NoMemory}
+use Rattle.byte_devices.specs.declared.out_fault.OutFault.{OutFault}
+use Rattle.byte_devices.specs.declared.out_fault.OutFault.TheVariants.{Write as WriteFailed, Memory as OutMemory}
 use Rattle.market_prog.specs.declared.fault.RunFault.{RunFault}
 use Rattle.market_prog.specs.declared.fault.RunFault.TheVariants.{Open, Read, TooLong, Write, Memory}
 use Rattle.line_engine.specs.declared.fault.InputFault.{InputFault}
@@ -26,3 +28,8 @@ run_fault_of_input LongInput = TooLong
 run_fault_of_input WriteFault = Write
 run_fault_of_input InputMemory = Memory
 run_fault_of_input (Taker fault) = Memory
+
+-- a fault of a text's writing as a run's
+abbrev pub run_fault_of_output : OutFault → RunFault
+run_fault_of_output WriteFailed = Write
+run_fault_of_output OutMemory = Memory

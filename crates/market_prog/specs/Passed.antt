@@ -1,5 +1,5 @@
 -- What holds of matches that clap has passed.
-use Rattle.std.specs.Prelude.{◌≡◌, ℕ, List, Some, codes, pos}
+use Rattle.std.specs.Prelude.{◌≡◌, ◌⊎◌, ℕ, List, Some, codes, pos}
 use Rattle.clap.specs.Words.{IsSignedIn, Row, Text, first_of}
 
 -- the option has a word in these matches, which spells a number from 1 to high
@@ -8,14 +8,14 @@ pub record HasNumber (name : Text) (high : ℕ) (rows : List Row) : Type 0 where
   pub found : first_of name rows ≡ Some word
   pub within : IsSignedIn (pos 1) (pos high) word
 
--- each option of `run` has its number
-pub record HasRunNumbers (rows : List Row) : Type 0 where
+-- each of the market's options has its number
+pub record HasMarketNumbers (rows : List Row) : Type 0 where
   pub base : HasNumber (codes "base") 65536 rows
   pub hard : HasNumber (codes "hard") 65535 rows
   pub seats : HasNumber (codes "seats") 64 rows
   pub levels : HasNumber (codes "levels") 8 rows
 
--- clap's subcommand is `run`, with the numbers of its options
-pub record NamesRun (found : Text × List Row) : Type 0 where
-  pub name : found.0 ≡ codes "run"
-  pub numbers : HasRunNumbers found.1
+-- clap's subcommand is `run` or `explain`, with the numbers of its options
+pub record NamesSubcommand (found : Text × List Row) : Type 0 where
+  pub name : (found.0 ≡ codes "run") ⊎ (found.0 ≡ codes "explain")
+  pub numbers : HasMarketNumbers found.1

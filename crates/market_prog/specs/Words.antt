@@ -5,8 +5,8 @@ use Rattle.clap.specs.Words.{App, Row, Rule, Text, first_of, new_app, new_rule, 
 use Rattle.clap.specs.declared.builder.ArgAction.TheVariants.{Set}
 use Rattle.clap.specs.declared.builder.value_parser.ValueParser.TheVariants.{Signed}
 use Rattle.market_prog.specs.declared.words.Choice.{Choice}
-use Rattle.market_prog.specs.declared.words.Choice.TheVariants.{Run}
-use Rattle.market_prog.specs.declared.words.RunOptions.{RunOptions}
+use Rattle.market_prog.specs.declared.words.Choice.TheVariants.{Run, Explain}
+use Rattle.market_prog.specs.declared.words.MarketOptions.{MarketOptions}
 
 -- the option `--name` with a number from 1 to high
 abbrev pub number_rule : Text → Text → ℕ → Rule
@@ -18,9 +18,9 @@ number_rule name default high = record (new_rule name) {
   parser = Some (Signed (pos 1) (pos high));
 }
 
--- the subcommand `run` with its options
-abbrev pub run_app : App
-run_app = with_rule (with_rule (with_rule (with_rule (new_app (codes "run"))
+-- a subcommand that reads a script, with the market's options
+abbrev pub script_app : Text → App
+script_app name = with_rule (with_rule (with_rule (with_rule (new_app name)
     (number_rule (codes "base") (codes "8") 65536))
     (number_rule (codes "hard") (codes "64") 65535))
     (number_rule (codes "seats") (codes "4") 64))
@@ -33,7 +33,9 @@ with_choice_asked a =
 
 -- the program's command
 abbrev pub market_app : App
-market_app = with_subcommand (with_choice_asked (new_app (codes "market"))) run_app.top
+market_app = with_subcommand (with_subcommand (with_choice_asked (new_app (codes "market")))
+    (script_app (codes "run")).top)
+    (script_app (codes "explain")).top
 
 -- n, from 1 to high, is the number that the option's word spells in these matches
 pub record IsNumberOf (name : Text) (high : ℕ) (rows : List Row) (n : ℕ) : Type 0 where
@@ -43,8 +45,8 @@ pub record IsNumberOf (name : Text) (high : ℕ) (rows : List Row) (n : ℕ) : T
   pub least : 1 ≤ n
   pub most : n ≤ high
 
--- the options of `run` are those of these matches
-pub record IsRunOf (rows : List Row) (options : RunOptions) : Type 0 where
+-- the market's options are those of these matches
+pub record IsMarketOf (rows : List Row) (options : MarketOptions) : Type 0 where
   pub base : IsNumberOf (codes "base") 65536 rows options.base
   pub hard : IsNumberOf (codes "hard") 65535 rows options.hard
   pub seats : IsNumberOf (codes "seats") 64 rows options.seats
@@ -52,7 +54,8 @@ pub record IsRunOf (rows : List Row) (options : RunOptions) : Type 0 where
 
 -- the choice is the named subcommand with these matches
 abbrev pub IsChoiceOf : Text × List Row → Choice → Type 0
-IsChoiceOf found (Run options) = (found.0 ≡ codes "run") × IsRunOf found.1 options
+IsChoiceOf found (Run options) = (found.0 ≡ codes "run") × IsMarketOf found.1 options
+IsChoiceOf found (Explain options) = (found.0 ≡ codes "explain") × IsMarketOf found.1 options
 
 -- the choice is that of clap's subcommand for the words, with its matches
 pub record Chooses (words : List Text) (choice : Choice) : Type 0 where

@@ -3,6 +3,7 @@ ghost use Rattle.std.specs.Prelude.{◌≡◌};
 ghost use Rattle.market_types.specs.Texts.{open_fault_text};
 ghost use Rattle.market_prog.specs.Status.{status_of};
 
+use byte_devices::OutFault;
 use line_engine::InputFault;
 use market_types::{OpenFault, open_fault_text};
 use std::alloc::AllocError;
@@ -54,6 +55,20 @@ impl From<InputFault<AllocError>> for RunFault {
     }
 }
 
+impl From<OutFault> for RunFault {
+    ghost use Rattle.std.specs.Prelude.{◌≡◌};
+    ghost use Rattle.market_prog.specs.Faults.{run_fault_of_output};
+
+    ghost from_gives = { λ fault stop. stop ≡ run_fault_of_output fault };
+
+    fn from(fault: OutFault) -> RunFault {
+        match fault {
+            OutFault::Write => RunFault::Write,
+            OutFault::Memory => RunFault::Memory,
+        }
+    }
+}
+
 impl From<OpenFault> for RunFault {
     ghost use Rattle.market_prog.specs.Faults.{IsRunFaultOf};
 
@@ -67,8 +82,8 @@ impl From<OpenFault> for RunFault {
     }
 }
 
-/// The exit status of `market run`: 0 where all was done, 1 where a line was unread, 2 where the market was not opened,
-/// and 3 after any other fault. It takes no memory.
+/// The exit status of `market run` and of `market explain`: 0 where all was done, 1 where a line was unread, 2 where the
+/// market was not opened, and 3 after any other fault. It takes no memory.
 pub fn status_of_run(run: &Result<u64, RunFault>) -> u8
     ensures exact { result ≡ status_of run.now }
 {

@@ -3,7 +3,8 @@
 /// At the end of `market --help`.
 pub(crate) const OF_MARKET: &str = "\
 `market run` reads script lines from standard input, and answers each by a reply line on standard
-output. `market run --help` tells the commands.
+output. `market run --help` tells the commands. `market explain` reads the same lines, and writes
+how the workers of the market that they lead to are divided.
 
 Example:
   $ printf '0 open 8 1 normal\\n0 request 1 3\\n' | market run
@@ -59,6 +60,39 @@ Example:
   $ printf '0 open 8 1 normal\\n0 request 1 3\\n' | market run
   arena 1
   request 3
+
+Exit status:
+  0  done, or help was asked for
+  1  a line was unread
+  2  a bad command line, or a fault at opening
+  3  a read, write, memory or length fault; its text is on standard error";
+
+/// At the end of `market explain --help`.
+pub(crate) const OF_EXPLAIN: &str = "\
+Standard input holds script lines, as for `market run`, whose help tells the commands. None of them
+is answered. After the last one, standard output gets the explanation of the market that they lead
+to: how the workers of each level are divided among its arenas, in the order in which these are
+served. Its first line tells the limits, what all arenas ask for, and how many workers may be
+allotted. Then comes for each level a line
+
+  level NAME demand D assigned K left N
+
+what its arenas ask for, how many workers they are allotted, and how many are left to the levels
+after it; and for each of its arenas a line
+
+  arena A request Q carry C product P allot S rest E top T active N recall R hire H
+
+where P is Q * K + C, C being what the arenas before it left to carry: S is P divided by D, and the
+remainder E is left to the next. Where an arena asks for nothing, and where the limit is 0, these
+columns have a dash.
+
+Example:
+  $ printf '0 open 8 1 normal\\n0 request 1 3\\n' | market explain
+  value 8 limit 7 effective 7 demand 3 workers 3
+  level high   demand        0 assigned     0 left     3
+  level normal demand        3 assigned     3 left     0
+  arena       1 request     3 carry        0 product          9 allot     3 rest        0 top yes active     0 recall     0 hire     3
+  level low    demand        0 assigned     0 left     0
 
 Exit status:
   0  done, or help was asked for

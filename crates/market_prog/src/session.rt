@@ -1,12 +1,12 @@
 //! A market that a script speaks to.
-ghost use Rattle.std.specs.Prelude.{◌≡◌, ℕ, ◌+◌, ◌<◌, ◌≤◌, ◌^◌, ◌++◌, length, None, if◌then◌else◌, IfSome, OnOk};
+ghost use Rattle.std.specs.Prelude.{◌≡◌, ℕ, ◌+◌, ◌<◌, ◌≤◌, ◌^◌, ◌++◌, length, None, if◌then◌else◌, IfOk, IfSome, OnOk};
 ghost use Rattle.market_types.specs.Reading.{line_reading};
 ghost use Rattle.market_types.specs.Script.{answer_to, is_silent};
-ghost use Rattle.market_prog.specs.Sessions.{is_too_long};
+ghost use Rattle.market_prog.specs.Sessions.{answer_line, is_too_long};
 
 use line_engine::{LineForm, LineTaker};
 use market_core::Market;
-use market_types::{Cmd, SeatNo, push_reply, read_line};
+use market_types::{Cmd, Reply, SeatNo, push_reply, read_line};
 use std::alloc::{AllocError, Global};
 
 /// A market, and the number of unread lines.
@@ -18,7 +18,7 @@ pub struct Session {
 }
 
 /// The line is empty or begins with `#`.
-fn is_silent(line: &[u8]) -> bool
+pub(crate) fn is_silent(line: &[u8]) -> bool
     ensures { result ≡ is_silent line.now }
 {
     line.is_empty() || line[0] == b'#'
@@ -37,6 +37,13 @@ impl Session {
         }
     }
 
+    /// The market as the lines so far have made it.
+    pub fn market(&self) -> &Market
+        ensures { result.now ≡ self.now.market }
+    {
+        &self.market
+    }
+
     /// How many lines were unread.
     pub fn unread(&self) -> u64
         ensures { result ≡ self.now.unread }
@@ -45,7 +52,7 @@ impl Session {
     }
 
     /// The seat and the command that a line spells. One that is too long spells none.
-    fn read_call(&self, line: &[u8], form: LineForm) -> Option<(SeatNo, Cmd)>
+    pub(crate) fn read_call(&self, line: &[u8], form: LineForm) -> Option<(SeatNo, Cmd)>
         ensures exact { result ≡ (if is_too_long form then None else line_reading (length self.now.market.seats) self.now.market.levels line.now) }
         ensures seat { IfSome result (λ call. call.0 < length self.now.market.seats) }
     {
@@ -53,6 +60,22 @@ impl Session {
             return None;
         }
         read_line(line, self.market.seats(), self.market.levels())
+    }
+
+    /// Gives the call of a line that is not silent to the market: the reply, or `None` where the line was not read.
+    pub(crate) fn obey(&mut self, call: Option<(SeatNo, Cmd)>) -> Result<Option<Reply>, AllocError>
+        requires few { self.old.unread + 1 < 2 ^ 64 }
+        requires seat { IfSome call (λ c. c.0 < length self.old.market.seats) }
+        ensures told { IfOk result (λ reply. answer_line reply ≡ (answer_to self.old.market call).text) }
+        ensures market { OnOk result (self.new.market ≡ (answer_to self.old.market call).last) }
+        ensures unread { OnOk result (self.new.unread ≡ self.old.unread + (answer_to self.old.market call).unread) }
+    {
+        let Some((seat, cmd)) = call else {
+            self.unread += 1;
+            return Ok(None);
+        };
+        let reply = self.market.apply(self.alloc, seat, cmd)?;
+        Ok(Some(reply))
     }
 
     /// Answers a line that is not silent.
@@ -67,13 +90,12 @@ impl Session {
         ensures market { OnOk result (self.new.market ≡ (answer_to self.old.market call).last) }
         ensures unread { OnOk result (self.new.unread ≡ self.old.unread + (answer_to self.old.market call).unread) }
     {
-        let Some((seat, cmd)) = call else {
+        let answer = self.obey(call)?;
+        let Some(reply) = &answer else {
             replies.extend_from_slice(b"unread\n")?;
-            self.unread += 1;
             return Ok(());
         };
-        let reply = self.market.apply(self.alloc, seat, cmd)?;
-        push_reply(replies, &reply)?;
+        push_reply(replies, reply)?;
         replies.push(b'\n')?;
         Ok(())
     }

@@ -1,9 +1,9 @@
 //! The words of the command line.
 ghost use Rattle.std.specs.Prelude.{◌≡◌, ◌≤◌, ◌<◌, ◌^◌, IfOk, codes, false, map};
 ghost use Rattle.clap.specs.Words.{FailsBy, app_of, fault_of, found_of, rows_of, rule_of};
-ghost use Rattle.market_prog.specs.Words.{Chooses, IsChoiceOf, IsNumberOf, IsRunOf, market_app, number_rule, run_app};
+ghost use Rattle.market_prog.specs.Words.{Chooses, IsChoiceOf, IsNumberOf, IsMarketOf, market_app, number_rule, script_app};
 ghost use Rattle.market_prog.specs.Command.{IsCommandOf};
-ghost use Rattle.market_prog.specs.Passed.{HasNumber, HasRunNumbers, NamesRun};
+ghost use Rattle.market_prog.specs.Passed.{HasNumber, HasMarketNumbers, NamesSubcommand};
 
 use crate::help;
 use clap::{Arg, ArgAction, ArgMatches, Command, Error};
@@ -16,12 +16,14 @@ const VERSION: &str = "0.1.0";
 #[derive(Clone, Copy, Debug, PartialEq, Eq)]
 pub enum Choice {
     /// `market run`: answers a script's lines.
-    Run(RunOptions),
+    Run(MarketOptions),
+    /// `market explain`: explains the market that a script leads to.
+    Explain(MarketOptions),
 }
 
-/// The market that `market run` opens.
+/// The market that a script speaks to.
 #[derive(Clone, Copy, Debug, PartialEq, Eq)]
-pub struct RunOptions {
+pub struct MarketOptions {
     /// Parallelism while no control lives, 1 to 65,536: fewer workers than this are active.
     pub base: u32,
     /// How many workers there are at most, 1 to 65,535.
@@ -100,13 +102,18 @@ impl NumberOption {
     }
 }
 
-/// The subcommand `run`.
-fn run_command<'a>(alloc: Global) -> Result<Command<'a>, AllocError>
-    ensures { IfOk result (λ c. IsCommandOf c run_app) }
+/// A subcommand that reads a script.
+fn script_command<'a>(
+    alloc: Global,
+    name: &'static str,
+    about: &'static str,
+    help: &'static str,
+) -> Result<Command<'a>, AllocError>
+    ensures { IfOk result (λ c. IsCommandOf c (script_app name.now)) }
 {
-    Command::new(alloc, "run")
-        .about("Answers a script of commands, line by line")
-        .after_help(help::OF_RUN)
+    Command::new(alloc, name)
+        .about(about)
+        .after_help(help)
         .arg(BASE.arg(alloc))?
         .arg(HARD.arg(alloc))?
         .arg(SEATS.arg(alloc))?
@@ -117,6 +124,18 @@ fn run_command<'a>(alloc: Global) -> Result<Command<'a>, AllocError>
 fn market_command<'a>(alloc: Global) -> Result<Command<'a>, AllocError>
     ensures { IfOk result (λ c. app_of c ≡ market_app) }
 {
+    let run = script_command(
+        alloc,
+        "run",
+        "Answers a script of commands, line by line",
+        help::OF_RUN,
+    )?;
+    let explain = script_command(
+        alloc,
+        "explain",
+        "Explains how workers are divided after a script of commands",
+        help::OF_EXPLAIN,
+    )?;
     Command::new(alloc, "market")
         .about(
             "The worker market of a task runtime: who gets how many workers, by priority and demand",
@@ -125,15 +144,16 @@ fn market_command<'a>(alloc: Global) -> Result<Command<'a>, AllocError>
         .after_help(help::OF_MARKET)
         .arg_required_else_help(true)
         .subcommand_required(true)
-        .subcommand(run_command(alloc)?)
+        .subcommand(run)?
+        .subcommand(explain)
 }
 
-/// The options of `run` in matches that clap has passed.
-fn run_options(matches: &ArgMatches<'_>) -> RunOptions
-    requires { HasRunNumbers (rows_of (found_of matches.now)) }
-    ensures { IsRunOf (rows_of (found_of matches.now)) result }
+/// The market's options in matches that clap has passed.
+fn market_options(matches: &ArgMatches<'_>) -> MarketOptions
+    requires { HasMarketNumbers (rows_of (found_of matches.now)) }
+    ensures { IsMarketOf (rows_of (found_of matches.now)) result }
 {
-    RunOptions {
+    MarketOptions {
         base: BASE.number(matches),
         hard: HARD.number(matches),
         seats: SEATS.number(matches) as u8,
@@ -143,11 +163,13 @@ fn run_options(matches: &ArgMatches<'_>) -> RunOptions
 
 /// The choice of a subcommand that clap has passed.
 fn choice_of(name: &str, matches: &ArgMatches<'_>) -> Choice
-    requires { NamesRun (name.now, rows_of (found_of matches.now)) }
+    requires { NamesSubcommand (name.now, rows_of (found_of matches.now)) }
     ensures { IsChoiceOf (name.now, rows_of (found_of matches.now)) result }
 {
+    let options = market_options(matches);
     match name {
-        "run" => Choice::Run(run_options(matches)),
+        "run" => Choice::Run(options),
+        "explain" => Choice::Explain(options),
         _ => unreachable!(),
     }
 }

@@ -5,6 +5,8 @@
 #[cfg(test)]
 mod devices;
 #[cfg(test)]
+mod explanations;
+#[cfg(test)]
 mod limits;
 #[cfg(test)]
 mod scripts;

@@ -1,12 +1,12 @@
 //! Command lines, and what is said of them.
-use super::{Choice, RunOptions, read_words};
+use super::{Choice, MarketOptions, read_words};
 
 #[test]
 fn options_are_read_or_default(rt: HostRuntime) {
     let Ok(choice) = read_words(rt.alloc(), &["market", "run"]) else {
         panic!(&rt; "refused");
     };
-    let plain = RunOptions {
+    let plain = MarketOptions {
         base: 8,
         hard: 64,
         seats: 4,
@@ -26,18 +26,22 @@ fn options_are_read_or_default(rt: HostRuntime) {
     let Ok(choice) = read_words(rt.alloc(), &words) else {
         panic!(&rt; "refused");
     };
-    let most = RunOptions {
+    let most = MarketOptions {
         base: 65_536,
         hard: 65_535,
         seats: 64,
         levels: 8,
     };
     assert_eq!(&rt; choice, Choice::Run(most));
+    let Ok(choice) = read_words(rt.alloc(), &["market", "explain", "--base", "3"]) else {
+        panic!(&rt; "refused");
+    };
+    assert_eq!(&rt; choice, Choice::Explain(MarketOptions { base: 3, ..plain }));
 }
 
 #[test]
 fn help_is_no_mistake(rt: HostRuntime) {
-    let lines: [(&[&str], i32, &str); 6] = [
+    let lines: [(&[&str], i32, &str); 8] = [
         (&["market"], 2, "Usage: market <COMMAND>"),
         (
             &["market", "fly"],
@@ -51,6 +55,16 @@ fn help_is_no_mistake(rt: HostRuntime) {
             &["market", "run", "--help"],
             0,
             "the next line is waited for",
+        ),
+        (
+            &["market", "explain", "--hard=0"],
+            2,
+            "0 is not in 1..=65535",
+        ),
+        (
+            &["market", "explain", "--help"],
+            0,
+            "standard output gets the explanation of the market",
         ),
     ];
     for (words, status, text) in lines {

@@ -13,4 +13,5 @@ returns c =
     let after = command_with_setting _ _ _ (λ a. a) _ c.after_help.ensures refl refl version in
     let help = command_with_help_asked _ _ _ c.arg_required_else_help.ensures after in
     let asked = command_with_subcommand_asked _ _ _ c.subcommand_required.ensures help in
-    IfOk-weaker c.subcommand.result _ _ (λ r adds. (command_with_subcommand _ _ r _ _ adds c.in_ok-run_command.ensures asked).is) c.subcommand.ensures
+    let run = command_with_subcommand _ _ _ _ _ c.in_ok-subcommand.ensures c.in_ok-run.ensures asked in
+    IfOk-weaker c.subcommand-2.result _ _ (λ r adds. (command_with_subcommand _ _ r _ _ adds c.in_ok-explain.ensures run).is) c.subcommand-2.ensures

@@ -1,9 +1,9 @@
 use Rattle.std.proofs.Common.{◌≡◌, ◌∙◌, sym, ap, subst, map, Some}
 use Rattle.clap.specs.Words.{found_of, is_simple, rows_of, subcommand_of, subcommand_rows_of}
 use Rattle.clap.specs.Faults.{fault_of, is_simple_and_free}
-use Rattle.market_prog.specs.Passed.{NamesRun}
+use Rattle.market_prog.specs.Passed.{NamesSubcommand}
 use Rattle.market_prog.proofs.Commands.{market_is_free, market_is_simple, subcommand_found}
-use Rattle.market_prog.proofs.Entered.{run_entered}
+use Rattle.market_prog.proofs.Entered.{entered_one}
 use Rattle.market_prog.proofs.words.read_words.Goals as goal
 
 pub returns : goal.returns
@@ -31,8 +31,8 @@ choice_of-requires c =
     let fault = c.in_ok-matches.ensures.kinds (ap is_simple_and_free is ∙ market_is_free) in
     let met : subcommand_rows_of c.in_ok-matches.matches ≡ Some (c.in-Some.name.now, rows_of (found_of c.in-Some.found.now)) =
     subcommand_found _ _ _ _ _ c.in-Some.ensures.name c.in-Some.ensures.rows in
-    let run = run_entered words (ap (λ a. fault_of a words) (sym is) ∙ fault) in
+    let run = entered_one words (ap (λ a. fault_of a words) (sym is) ∙ fault) in
     let both : Some run.0 ≡ Some (c.in-Some.name.now, rows_of (found_of c.in-Some.found.now)) =
     sym run.1 ∙ (ap (λ a. subcommand_of a words) (sym is) ∙ sym rows.1 ∙ met) in
     let same : run.0 ≡ (c.in-Some.name.now, rows_of (found_of c.in-Some.found.now)) = cc in
-    subst NamesRun same run.2
+    subst NamesSubcommand same run.2

@@ -1,13 +1,13 @@
-use Rattle.std.proofs.Common.{codes, refl}
+use Rattle.std.proofs.Common.{refl}
 use Rattle.std.proofs.lemmas.Result.{IfOk-weaker}
 use Rattle.clap.specs.Simple.{new_app}
 use Rattle.market_prog.specs.Command.{IsCommandOf}
 use Rattle.market_prog.proofs.Commands.{command_with_arg, command_with_setting}
-use Rattle.market_prog.proofs.words.run_command.Goals as goal
+use Rattle.market_prog.proofs.words.script_command.Goals as goal
 
 pub returns : goal.returns
 returns c =
-    let start : IsCommandOf c.new.result (new_app (codes "run")) = record { is = c.new.ensures.app; local = c.new.ensures.local } in
+    let start : IsCommandOf c.new.result (new_app c.args.name.now) = record { is = c.new.ensures.app; local = c.new.ensures.local } in
     let about = command_with_setting _ _ _ (λ a. a) _ c.about.ensures refl refl start in
     let help = command_with_setting _ _ _ (λ a. a) _ c.after_help.ensures refl refl about in
     let base = command_with_arg _ _ _ _ _ c.in_ok-arg.ensures c.arg.ensures.rule c.arg.ensures.global help in
