@@ -1,3 +1,4 @@
 mod Lines
 mod Json
 mod Legal
+mod Told
