@@ -2,3 +2,5 @@ mod Lines
 mod Json
 mod Legal
 mod Told
+mod Few
+mod Short

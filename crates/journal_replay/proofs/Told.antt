@@ -1,16 +1,16 @@
 -- A journal that was written tells its history.
-use Rattle.std.specs.Prelude.{nat_lt, flat_map, ◌==◌, ◌||◌}
+use Rattle.std.specs.Prelude.{nat_lt, ◌==◌, ◌||◌}
 use Rattle.std.specs.List.{All}
 use Rattle.std.specs.Char.{digit_char}
 use Rattle.std.specs.Str.{all_ascii_digits}
 use Rattle.std.specs.Str.Parse.{AllDigits, digits_value}
-use Rattle.std.proofs.Common.{◌≡◌, ℕ, ◌+◌, ◌/◌, ◌%◌, ◌<◌, ◌≤◌, ◌^◌, ◌++◌, Bool, true, false, cond, eqb, List, [], ◌∷◌, length, take, map, Option, Some, None, option_and_then, codes, decimal, refl, sym, ap, ◌∙◌, subst, arith, append_assoc, length-append}
+use Rattle.std.proofs.Common.{◌≡◌, ℕ, ◌/◌, ◌%◌, ◌<◌, ◌≤◌, ◌^◌, ◌++◌, Bool, true, false, cond, List, [], ◌∷◌, length, map, Some, option_and_then, codes, decimal, refl, sym, ap, ◌∙◌, arith, append_assoc, length-append}
 use Rattle.std.proofs.lemmas.Bool.Decides.{nat_tests}
 use Rattle.std.proofs.lemmas.List.Elements.{All-nil, All-cons, All-head, All-tail}
 use Rattle.std.proofs.lemmas.Str.Parse.{IsNumeralModel, numerals_by_value, tells_all_ascii_digits, digit_from_value}
 use Rattle.std.proofs.lemmas.Fmt.{digits_decimal, length-decimal-le}
 use Rattle.json.specs.Print.{escape_letter, escape_byte, escape, quoted}
-use Rattle.line_engine.specs.Lines.{Line, is_lf, NoLf, ended_lines, unfinished_line, handed, whole_lines, last_line, lines_of}
+use Rattle.line_engine.specs.Lines.{Line, is_lf, NoLf, handed, last_line, lines_of}
 use Rattle.line_engine.specs.declared.form.LineForm.TheVariants.{Whole}
 use Rattle.line_engine.proofs.Cut.{ended_lines-first, unfinished_line-first, ended_lines-none, unfinished_line-none}
 use Rattle.market_types.specs.declared.command.Cmd.{Cmd}

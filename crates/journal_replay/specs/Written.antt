@@ -6,7 +6,7 @@ use Rattle.journal_replay.specs.Journal.{entry_data, entry_line}
 use Rattle.journal_replay.specs.Reading.{json_of}
 use Rattle.journal_replay.specs.Verdicts.{longest_line}
 
--- the entry's line has no more bytes than a line of a journal may have
+-- the line that is written of the entry has no more bytes than a line of a journal may have
 abbrev pub IsShort : ℕ → Entry → Type 0
 IsShort levels e = length (entry_line levels e) ≤ longest_line
 

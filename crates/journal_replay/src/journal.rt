@@ -5,10 +5,10 @@ ghost use Rattle.std.specs.Io.KnownBytes.{Appends};
 ghost use Rattle.byte_devices.specs.Devices.{WritesFront};
 ghost use Rattle.journal_replay.specs.Journal.{entry_lines, journal_text};
 ghost use Rattle.journal_replay.specs.Output.{Fronts, IsOutFault};
-ghost use Rattle.journal_replay.specs.Written.{IsReadBack, IsShort};
+ghost use Rattle.journal_replay.specs.Written.{IsReadBack};
 ghost use Rattle.journal_replay.specs.Verdicts.{most_entries, verdict};
 
-use crate::law::legal_journals_tell_legal_histories;
+use crate::law::{legal_journals_tell_legal_histories, written_lines_are_short};
 use crate::line::{entry_line, header_line};
 use crate::verdict::Verdict;
 use byte_devices::{Sink, WriteFault, put_all};
@@ -93,7 +93,7 @@ fn write_entries<W: Sink>(
 /// Writes the journal of a chronicle: a line for its opening, and one for each call with its reply. At the first write that
 /// fails it is `Write`, and out of memory is `Memory`; what was written is then a prefix of the journal. It is written in
 /// pieces of some 65,536 bytes, and takes the memory of one piece. The journal is found legal, with as many entries as the
-/// chronicle has, if no line is longer than a line of a journal may be.
+/// chronicle has.
 pub fn write_journal<W: Sink>(
     alloc: Global,
     chronicle: &Chronicle,
@@ -102,13 +102,14 @@ pub fn write_journal<W: Sink>(
     requires whole { chronicle.now.from ≡ 0 }
     requires working { W.failed sink.old ≡ false }
     ensures all { OnOk result (Appends (W.taken sink.old) (W.taken sink.new) (journal_text chronicle.now.start chronicle.now.log)) }
-    ensures legal { OnOk result (All (IsShort chronicle.now.start.levels) chronicle.now.log → verdict (journal_text chronicle.now.start chronicle.now.log) ≡ Verdict.Legal (length chronicle.now.log)) }
+    ensures legal { OnOk result (verdict (journal_text chronicle.now.start chronicle.now.log) ≡ Verdict.Legal (length chronicle.now.log)) }
     ensures working { OnOk result (W.failed sink.new ≡ false) }
     ensures prefix { OnErr result (WritesFront (W.taken sink.old) (W.taken sink.new) (journal_text chronicle.now.start chronicle.now.log)) }
     ensures cause { IfErr result (λ fault. IsOutFault fault (W.failed sink.new)) }
 {
     texts_spell_commands();
     legal_journals_tell_legal_histories();
+    written_lines_are_short();
     let mut waiting = Vec::new(alloc);
     let header = header_line(alloc, chronicle.market())?;
     push_line(&mut waiting, &header)?;

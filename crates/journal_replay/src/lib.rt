@@ -14,7 +14,7 @@ mod verdict;
 
 pub use checker::check;
 pub use journal::{OutFault, write_journal};
-pub use law::legal_journals_tell_legal_histories;
+pub use law::{legal_journals_tell_legal_histories, written_lines_are_short};
 pub use verdict::{DueReply, Verdict};
 
 #[cfg(test)]

@@ -27,11 +27,12 @@ returns-clause-all g c =
     (subst (λ xs. Appends (g.W.Sink.taken c.write_entries.new.sink) (g.W.Sink.taken c.put_all.new.sink) xs) c.deref-2.ensures.value c.in_ok-put_all.ensures.all)
 
 pub returns-clause-legal : goal.returns-clause-legal
-returns-clause-legal g c = λ shorts.
+returns-clause-legal g c =
     let start : State = c.args.chronicle.now.start in
     let s : State = c.market.result.now in
     let numbers = c.market.ensures.numbers in
     let text : c.deref.result.now ≡ header_line s.base s.hard s.levels (length s.seats) = c.deref.ensures ∙ c.in_ok-header.ensures.text in
+    let shorts = c.written_lines_are_short.ensures start c.args.chronicle.now.log c.market.ensures.opened c.market.ensures.legal in
     let header = header-back start s c.deref.result.now (string_bytes c.in_ok-header.header) numbers c.deref.ensures text c.deref.utf8 c.in_ok-header.ensures.reads_back in
     c.legal_journals_tell_legal_histories.ensures.legal _ _
     (journal-told start c.args.chronicle.now.log c.market.ensures.opened c.market.ensures.legal c.market.ensures.calls c.in_ok-write_entries.ensures.reads_back shorts header

@@ -1,4 +1,3 @@
-use Rattle.journal_replay.proofs.Told.{journal-told}
 use Rattle.journal_replay.proofs.Legal.{found-legal, legal-found}
 use Rattle.journal_replay.proofs.law.legal_journals_tell_legal_histories.Goals as goal
 
