@@ -18,7 +18,7 @@ pub use engine::take_lines;
 pub use fault::InputFault;
 pub use form::LineForm;
 pub use taker::LineTaker;
-pub use text::take_text;
+pub use text::{Nowhere, take_text};
 
 #[cfg(test)]
 mod tests;
