@@ -1,17 +1,16 @@
 -- A journal that is found legal tells a legal history, and the other way round.
-use Rattle.std.specs.Prelude.{nat_le, map}
+use Rattle.std.specs.Prelude.{nat_le}
 use Rattle.std.specs.Str.{bytes_eq}
-use Rattle.std.proofs.Common.{◌≡◌, ℕ, suc, ◌+◌, ◌<◌, ◌≤◌, Bool, true, false, cond, leb, List, [], ◌∷◌, length, Option, Some, None, option_and_then, refl, sym, ap, ◌∙◌, subst, arith}
+use Rattle.std.proofs.Common.{◌≡◌, ℕ, ◌+◌, ◌<◌, ◌≤◌, Bool, true, false, cond, List, [], ◌∷◌, length, Option, Some, None, option_and_then, refl, sym, ap, ◌∙◌, subst, arith}
 use Rattle.std.proofs.lemmas.Bool.Decides.{nat_tests}
 use Rattle.std.proofs.lemmas.Slice.Eq.{bytes_eq-Decides}
 use Rattle.serde_json.specs.Data.{Data}
 use Rattle.market_types.specs.declared.command.Cmd.{Cmd}
 use Rattle.market_types.specs.declared.reply.Entry.{Entry}
-use Rattle.market_types.specs.declared.reply.Reply.{Reply}
 use Rattle.market_types.specs.State.{State}
 use Rattle.market_types.specs.Step.{step}
 use Rattle.market_types.specs.Texts.{reply_text}
-use Rattle.market_types.specs.History.{IsLegal, calls_of, replies_to, state_after}
+use Rattle.market_types.specs.History.{IsLegal, calls_of, state_after}
 use Rattle.line_engine.specs.Lines.{Line, lines_of}
 use Rattle.line_engine.specs.Rule.{after}
 use Rattle.journal_replay.specs.declared.checker.Progress.{Progress}
@@ -19,8 +18,8 @@ use Rattle.journal_replay.specs.declared.checker.Progress.TheVariants.{Unopened,
 use Rattle.journal_replay.specs.declared.verdict.Verdict.{Verdict}
 use Rattle.journal_replay.specs.declared.verdict.Verdict.TheVariants.{Legal, BadHeader, BadJson, BadRecord, WrongReply}
 use Rattle.journal_replay.specs.Reading.{Recorded, header_of, entry_in}
-use Rattle.journal_replay.specs.Verdicts.{json_by, longest_line, most_entries, after_header, after_reply, after_entry, after_record, after_json, after_line, journal_rule, verdict_of, verdict}
-use Rattle.journal_replay.specs.Legality.{IsHeaderLine, IsEntryLine, AreEntryLines, Reads, IsLegalJournal}
+use Rattle.journal_replay.specs.Verdicts.{json_by, longest_line, most_entries, after_header, after_reply, after_entry, after_json, journal_rule, verdict_of, verdict}
+use Rattle.journal_replay.specs.Legality.{IsEntryLine, AreEntryLines, IsLegalJournal}
 
 -- no command changes how many seats and levels there are
 abbrev pub KeepsNumbers : Type 0

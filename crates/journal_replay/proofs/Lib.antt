@@ -1,3 +1,6 @@
 mod Lines
 mod Json
 mod Legal
+mod Told
+mod Few
+mod Short

@@ -3,3 +3,4 @@ pub mod Reading
 pub mod Verdicts
 pub mod VerdictTexts
 pub mod Legality
+pub mod Written

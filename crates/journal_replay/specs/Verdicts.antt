@@ -1,5 +1,6 @@
 -- What is found of a journal, line by line (own).
-use Rattle.std.specs.Prelude.{ℕ, ◌+◌, nat_le, if◌then◌else◌, List, [], length, Option, Some, None, option_and_then}
+use Rattle.std.specs.Prelude.{◌≡◌, ℕ, ◌+◌, ◌≤◌, nat_le, if◌then◌else◌, Bool, false, List, [], length, Option, Some, None, option_and_then, ⊤}
+use Rattle.std.specs.Io.KnownBytes.{Consumes}
 use Rattle.std.specs.Str.{bytes_eq}
 use Rattle.serde_json.specs.Data.{Data}
 use Rattle.market_types.specs.declared.reply.Reply.{Reply}
@@ -8,6 +9,8 @@ use Rattle.market_types.specs.Step.{step}
 use Rattle.market_types.specs.Texts.{reply_text}
 use Rattle.line_engine.specs.Lines.{Line, lines_of}
 use Rattle.line_engine.specs.Rule.{LineRule, after}
+use Rattle.line_engine.specs.Input.{CauseOf, longest_input}
+use Rattle.line_engine.specs.declared.fault.InputFault.{InputFault}
 use Rattle.line_engine.specs.declared.form.LineForm.{LineForm}
 use Rattle.line_engine.specs.declared.form.LineForm.TheVariants.{Whole, WithoutLf, TooLong}
 use Rattle.journal_replay.specs.declared.checker.Progress.{Progress}
@@ -77,6 +80,19 @@ verdict_of (Faulty verdict) = verdict
 -- the verdict of a text
 abbrev pub verdict : List ℕ → Verdict
 verdict text = verdict_of (after journal_rule Unopened (lines_of longest_line text))
+
+-- The text was read, and this is its verdict.
+pub record Finds (left left' : Option (List ℕ)) (found : Verdict) : Type 0 where
+  pub text : List ℕ
+  pub read : Consumes left left' text
+  pub within : length text ≤ longest_input
+  pub is : found ≡ verdict text
+
+-- Some text was read, and it was not found what it is, for this reason.
+pub record StopsReading {F : Type 0} (left left' : Option (List ℕ)) (source_failed : Bool) (fault : InputFault F) : Type 0 where
+  pub text : List ℕ
+  pub read : Consumes left left' text
+  pub cause : CauseOf (λ _. ⊤) fault text source_failed false
 
 -- how many lines of a legal journal were taken
 abbrev pub lines_taken : Progress → ℕ

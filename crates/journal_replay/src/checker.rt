@@ -1,12 +1,14 @@
 //! A journal, checked line by line.
-ghost use Rattle.std.specs.Prelude.{◌≡◌, ◌+◌, ◌<◌, ◌^◌, IfOk, option_map, option_and_then};
+ghost use Rattle.std.specs.Prelude.{◌≡◌, ◌+◌, ◌<◌, ◌^◌, true, false, IfOk, IfErr, OnOk, option_map, option_and_then};
+ghost use Rattle.std.specs.Io.KnownBytes.{IsAtEnd};
 ghost use Rattle.serde_json.specs.View.{view};
-ghost use Rattle.journal_replay.specs.Verdicts.{after_header, after_line, after_record, json_by, lines_taken, verdict, verdict_of};
+ghost use Rattle.journal_replay.specs.Verdicts.{Finds, StopsReading, after_header, after_line, after_record, json_by, lines_taken, verdict, verdict_of};
 ghost use Rattle.journal_replay.specs.Reading.{header_of};
 
 use crate::reading::{open_market, read_entry, read_json};
 use crate::verdict::{DueReply, Verdict};
-use line_engine::{LineForm, LineTaker, take_text};
+use byte_devices::Source;
+use line_engine::{InputFault, LineForm, LineTaker, Nowhere, take_lines, take_text};
 use market_core::Market;
 use market_types::reply_text;
 use serde_json::Value;
@@ -119,6 +121,18 @@ pub(crate) struct Checker {
     progress: Progress,
 }
 
+impl Checker {
+    /// Before the first line.
+    fn new(alloc: Global) -> Self
+        ensures { result.progress ≡ Progress.Unopened }
+    {
+        Checker {
+            alloc,
+            progress: Progress::Unopened,
+        }
+    }
+}
+
 impl LineTaker for Checker {
     ghost use Rattle.std.specs.Prelude.{⊤};
     ghost use Rattle.journal_replay.specs.declared.checker.Progress.{Progress};
@@ -160,12 +174,30 @@ impl LineTaker for Checker {
 pub fn check(alloc: Global, text: &[u8]) -> Result<Verdict, AllocError>
     ensures verdict { IfOk result (λ found. found ≡ verdict text.now) }
 {
-    let begun = Checker {
-        alloc,
-        progress: Progress::Unopened,
-    };
-    let Ok(checker) = take_text(alloc, begun, text) else {
+    let Ok(checker) = take_text(alloc, Checker::new(alloc), text) else {
         return Err(AllocError);
     };
+    Ok(checker.progress.into_verdict())
+}
+
+/// What is found of the journal that a source has left, as `check` finds it. It takes the memory of `check`, and of one piece
+/// of 65,536 bytes.
+///
+/// Whichever fault comes first stops it: a read that fails is `Read`, a journal of more than 268,435,456 bytes `TooLong`,
+/// and running out of memory `Memory`, or `Taker` where a line was replayed.
+pub fn check_source<R: Source>(
+    alloc: Global,
+    source: &mut R,
+) -> Result<Verdict, InputFault<AllocError>>
+    requires source_working { R.failed source.old ≡ false }
+    requires source_begins { R.ended source.old ≡ false }
+    ensures verdict { IfOk result (λ found. Finds (R.left source.old) (R.left source.new) found) }
+    ensures end { OnOk result (R.ended source.new ≡ true) }
+    ensures whole { OnOk result (IsAtEnd (R.left source.new)) }
+    ensures working { OnOk result (R.failed source.new ≡ false) }
+    ensures stops { IfErr result (λ fault. StopsReading (R.left source.old) (R.left source.new) (R.failed source.new) fault) }
+{
+    let mut nowhere = Nowhere;
+    let checker = take_lines(alloc, Checker::new(alloc), source, &mut nowhere)?;
     Ok(checker.progress.into_verdict())
 }

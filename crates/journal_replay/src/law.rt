@@ -1,7 +1,13 @@
-//! What is true of all journals. This function does nothing: what it ensures holds wherever it is called.
+//! What is true of all journals. These functions do nothing: what they ensure holds wherever they are called.
 ghost use Rattle.std.specs.Prelude.{◌≡◌, ℕ, List};
+ghost use Rattle.std.specs.List.{All};
+ghost use Rattle.market_types.specs.declared.reply.Entry.{Entry};
+ghost use Rattle.market_types.specs.State.{State};
+ghost use Rattle.market_types.specs.History.{IsLegal};
+ghost use Rattle.edit_history.specs.Chronicled.{IsOpening};
 ghost use Rattle.journal_replay.specs.Legality.{IsLegalJournal};
 ghost use Rattle.journal_replay.specs.Verdicts.{verdict};
+ghost use Rattle.journal_replay.specs.Written.{IsShort};
 ghost use Rattle.journal_replay.specs.declared.verdict.Verdict.TheVariants.{Legal};
 
 /// A text is found legal exactly where it reads as a header and a legal history, of at most 1,048,576 entries; so many are
@@ -9,4 +15,10 @@ ghost use Rattle.journal_replay.specs.declared.verdict.Verdict.TheVariants.{Lega
 pub fn legal_journals_tell_legal_histories()
     ensures found { (text : List ℕ) (entries : ℕ) → verdict text ≡ Legal entries → IsLegalJournal text entries }
     ensures legal { (text : List ℕ) (entries : ℕ) → IsLegalJournal text entries → verdict text ≡ Legal entries }
+{}
+
+/// No line that is written of a legal history has more bytes than a line of a journal may have. The longest tell the lists of
+/// 1,024 arenas.
+pub fn written_lines_are_short()
+    ensures { (start : State) (history : List Entry) → IsOpening start → IsLegal start history → All (IsShort start.levels) history }
 {}

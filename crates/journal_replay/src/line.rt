@@ -1,6 +1,8 @@
 //! The lines of a journal, without their LF.
-ghost use Rattle.std.specs.Prelude.{◌≡◌, IfOk, string_bytes, length};
+ghost use Rattle.std.specs.Prelude.{◌≡◌, Some, IfOk, string_bytes, length};
+ghost use Rattle.serde_json.specs.Read.{read};
 ghost use Rattle.serde_json.specs.View.{view};
+ghost use Rattle.market_types.specs.Texts.{cmd_text, reply_text};
 ghost use Rattle.journal_replay.specs.Journal.{header_data, entry_data, header_line, entry_line, fields_line};
 
 use market_core::Market;
@@ -10,7 +12,8 @@ use std::alloc::{AllocError, Global};
 
 /// The line of an opening.
 pub(crate) fn header_line(alloc: Global, market: &Market) -> Result<String, AllocError>
-    ensures { IfOk result (λ text. string_bytes text ≡ header_line market.now.base market.now.hard market.now.levels (length market.now.seats)) }
+    ensures text { IfOk result (λ text. string_bytes text ≡ header_line market.now.base market.now.hard market.now.levels (length market.now.seats)) }
+    ensures reads_back { IfOk result (λ text. read (string_bytes text) ≡ Some (header_data market.now.base market.now.hard market.now.levels (length market.now.seats))) }
 {
     let (base, hard) = (u64::from(market.base()), u64::from(market.hard()));
     let (levels, seats) = (u64::from(market.levels()), u64::from(market.seats()));
@@ -25,7 +28,8 @@ fn numbers_line(
     levels: u64,
     seats: u64,
 ) -> Result<String, AllocError>
-    ensures { IfOk result (λ text. string_bytes text ≡ header_line base hard levels seats) }
+    ensures text { IfOk result (λ text. string_bytes text ≡ header_line base hard levels seats) }
+    ensures reads_back { IfOk result (λ text. read (string_bytes text) ≡ Some (header_data base hard levels seats)) }
 {
     header_value(alloc, base, hard, levels, seats)?.to_string(alloc)
 }
@@ -45,7 +49,8 @@ fn header_value(
 
 /// The line of an entry, in a market of so many levels.
 pub(crate) fn entry_line(alloc: Global, levels: u32, entry: &Entry) -> Result<String, AllocError>
-    ensures { IfOk result (λ text. string_bytes text ≡ entry_line levels entry.now) }
+    ensures text { IfOk result (λ text. string_bytes text ≡ entry_line levels entry.now) }
+    ensures reads_back { IfOk result (λ text. read (string_bytes text) ≡ Some (entry_data (cmd_text levels entry.now.call.cmd) (reply_text entry.now.reply) entry.now.call.seat)) }
 {
     let cmd = cmd_text(alloc, &entry.call.cmd, levels)?;
     let reply = reply_text(alloc, &entry.reply)?;
@@ -54,7 +59,8 @@ pub(crate) fn entry_line(alloc: Global, levels: u32, entry: &Entry) -> Result<St
 
 /// The line of these fields.
 fn fields_line(alloc: Global, cmd: &str, reply: &str, seat: u64) -> Result<String, AllocError>
-    ensures { IfOk result (λ text. string_bytes text ≡ fields_line cmd.now reply.now seat) }
+    ensures text { IfOk result (λ text. string_bytes text ≡ fields_line cmd.now reply.now seat) }
+    ensures reads_back { IfOk result (λ text. read (string_bytes text) ≡ Some (entry_data cmd.now reply.now seat)) }
 {
     entry_value(alloc, cmd, reply, seat)?.to_string(alloc)
 }

@@ -63,6 +63,8 @@ fn a_journal_has_a_line_for_the_opening_and_one_for_each_call(rt: HostRuntime) {
     let written = write_journal(rt.alloc(), &chronicle, &mut sink);
     assert!(&rt; written == Ok(()));
     assert!(&rt; sink.taken() == JOURNAL);
+    let found = check(rt.alloc(), sink.taken());
+    assert!(&rt; matches!(&found, Ok(Verdict::Legal(3))));
 }
 
 #[test]

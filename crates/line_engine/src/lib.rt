@@ -20,7 +20,7 @@ pub use fault::InputFault;
 pub use form::LineForm;
 pub use law::silence;
 pub use taker::LineTaker;
-pub use text::take_text;
+pub use text::{Nowhere, take_text};
 
 #[cfg(test)]
 mod tests;

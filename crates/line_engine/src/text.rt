@@ -10,9 +10,9 @@ use crate::taker::LineTaker;
 use byte_devices::{DeviceFault, Sink};
 use std::alloc::Global;
 
-/// Takes all bytes, keeps none, and never fails.
+/// A sink that takes all bytes, keeps none, and never fails.
 #[derive(Drop)]
-struct Nowhere;
+pub struct Nowhere;
 
 impl Sink for Nowhere {
     ghost use Rattle.std.specs.Prelude.{None, false};

@@ -1,10 +1,11 @@
 //! Journals that are checked: legal ones, and each fault.
 ghost use Rattle.std.specs.Prelude.{◌+◌, ◌<◌, ◌^◌};
 
-use crate::check;
 use crate::checker::Progress;
 use crate::verdict::Verdict;
-use line_engine::LineForm;
+use crate::{check, check_source};
+use byte_devices::TestSource;
+use line_engine::{InputFault, LineForm};
 use market_core::Market;
 use std::alloc::{AllocError, Global};
 use std::process::Abort;
@@ -262,6 +263,37 @@ fn a_journal_has_1_048_576_entries_at_most(rt: HostRuntime) {
     assert!(&rt; matches!(&last, Progress::Replaying(_, 1_048_576)));
     let more = after_entries(&rt, rt.alloc(), 1_048_576);
     assert!(&rt; matches!(&more, Progress::Faulty(Verdict::BadRecord(1_048_578))));
+}
+
+#[test]
+fn a_journal_comes_in_pieces(rt: HostRuntime) -> Result<(), AllocError> {
+    let text = text_of(rt.alloc(), &[HEADER, OPEN, REQUEST, SHOW])?;
+    let broken = text_of(rt.alloc(), &[HEADER, OPEN, "{", SHOW])?;
+    for size in [1, 7, 43, 1000] {
+        let mut source = TestSource::new(&text).in_pieces_of(size);
+        let found = check_source(rt.alloc(), &mut source);
+        assert!(&rt; matches!(&found, Ok(Verdict::Legal(3))));
+        let mut source = TestSource::new(&broken).in_pieces_of(size);
+        let found = check_source(rt.alloc(), &mut source);
+        assert!(&rt; matches!(&found, Ok(Verdict::BadJson(3))));
+    }
+    Ok(())
+}
+
+#[test]
+fn a_failing_source_is_a_fault(rt: HostRuntime) -> Result<(), AllocError> {
+    let text = text_of(rt.alloc(), &[HEADER, OPEN, REQUEST, SHOW])?;
+    for reads in 0..4 {
+        let mut source = TestSource::new(&text)
+            .in_pieces_of(100)
+            .failing_after(reads);
+        let found = check_source(rt.alloc(), &mut source);
+        assert!(&rt; matches!(&found, Err(InputFault::Read)));
+    }
+    let mut source = TestSource::new(&text).in_pieces_of(100).failing_after(4);
+    let found = check_source(rt.alloc(), &mut source);
+    assert!(&rt; matches!(&found, Ok(Verdict::Legal(3))));
+    Ok(())
 }
 
 #[test]

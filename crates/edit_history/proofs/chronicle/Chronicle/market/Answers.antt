@@ -1,4 +1,4 @@
-use Rattle.std.proofs.Common.{◌≡◌, ◌++◌, sym, subst}
+use Rattle.std.proofs.Common.{◌++◌, sym, subst}
 use Rattle.market_types.specs.State.{State}
 use Rattle.edit_history.specs.Chronicled.{Chronicled, HasNumbersOf}
 use Rattle.edit_history.proofs.Placed.{numbers-after}
