@@ -76,6 +76,17 @@ fn a_refused_growth_leaves_a_roster_to_be_made(rt: HostRuntime) -> Result<(), Al
     Ok(())
 }
 
+/// Places a seat that the roster has, and that is not placed.
+fn place(roster: &mut Roster, seat: u8, arena: ArenaId) {
+    if seat >= roster.seats() {
+        return;
+    }
+    let seat = SeatNo::new(seat);
+    if roster.at(seat).is_none() {
+        roster.place(seat, arena);
+    }
+}
+
 /// What is listed where each arena is allotted all that it asks for.
 fn listed(rows: &LevelList, roster: &Roster, alloc: Global) -> Result<Lists, AllocError> {
     let mut lists = Lists {
@@ -96,8 +107,7 @@ fn a_refused_growth_leaves_arenas_to_be_listed(rt: HostRuntime) -> Result<(), Al
     let rows = three_arenas(&rt, rt.alloc())?;
     let mut roster = seats(rt.alloc(), 6)?;
     for seat in 0..6 {
-        let _ = roster.unplace(SeatNo::new(seat));
-        roster.place(SeatNo::new(seat), ArenaId::new(3));
+        place(&mut roster, seat, ArenaId::new(3));
     }
     let lists = match listed(&rows, &roster, rt.alloc()) {
         Ok(lists) => lists,
