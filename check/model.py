@@ -201,6 +201,31 @@ class Market:
         hires = ",".join(f"{n}:{k}" for n, k in more.items() if k > 0) or "-"
         return f"recall {recalls} hire {hires}"
 
+    def explanation(self):
+        """The table of docs/FORMATS.md, line by line."""
+        allotted = self.allotments()
+        bound = left = min(sum(a.request() for a in self.arenas), self.effective())
+        yield f"{self.limits(0)} demand {sum(a.request() for a in self.arenas)} workers {bound}"
+        carry = 0
+        for level in range(1, self.levels + 1):
+            arenas = [a for a in self.arenas if a.level == level]
+            demand, assigned = sum(a.request() for a in arenas), sum(allotted[a.number] for a in arenas)
+            left -= assigned
+            name = list(NAMES)[level - 1] if self.levels == 3 else str(level)
+            yield f"level {name:<6} demand {demand:>8} assigned {assigned:>5} left {left:>5}"
+            for a in arenas:
+                step = ["-", "-", "-"]
+                if a.request() > 0 and self.limit() > 0:
+                    product = a.request() * assigned + carry
+                    step = [carry, product, product % demand]
+                    carry = step[2]
+                fields = self.show(0, a.number).split(" ")
+                top, active, recall, hire = fields[7], fields[9], fields[11], fields[13]
+                yield (
+                    f"arena {a.number:>7} request {a.request():>5} carry {step[0]:>8} product {step[1]:>10} allot {allotted[a.number]:>5}"
+                    f" rest {step[2]:>8} top {top:<3} active {active:>5} recall {recall:>5} hire {hire:>5}"
+                )
+
     def limits(self, _seat):
         return f"value {self.value()} limit {self.limit()} effective {self.effective()}"
 

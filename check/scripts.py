@@ -1,6 +1,6 @@
 #!/usr/bin/env python3
-"""Random scripts, through `market run` and through the model beside this file: the first difference ends it, with status 1
-and the script on standard error.
+"""Random scripts, through `market run` and `market explain` and through the model beside this file: the first difference
+ends it, with status 1 and the script on standard error.
 
     check/scripts.py PROGRAM [COUNT [SEED]]        as check/scripts.py crates/market/out/market 1000
 """
@@ -51,14 +51,17 @@ def main():
         if rng.random() < 0.8:
             script += "\n"
         text = script.encode("latin-1")
-        words = ["run", "--base", base, "--hard", hard, "--seats", seats, "--levels", levels]
-        ran = subprocess.run([program, *map(str, words)], input=text, capture_output=True)
-        due = "".join(f"{reply}\n" for reply in answers(Market(base, hard, seats, levels), text)).encode("latin-1")
-        status = 1 if b"unread\n" in due else 0
-        if ran.stdout != due or ran.returncode != status:
-            sys.stderr.buffer.write(text)
-            print(f"\nscript {k} of seed {seed} ({words}) differs; status {ran.returncode}, due {status}", file=sys.stderr)
-            return 1
+        words = ["--base", base, "--hard", hard, "--seats", seats, "--levels", levels]
+        market = Market(base, hard, seats, levels)
+        replies = list(answers(market, text))
+        for word, due in (("run", replies), ("explain", list(market.explanation()))):
+            ran = subprocess.run([program, word, *map(str, words)], input=text, capture_output=True)
+            due = "".join(f"{line}\n" for line in due).encode("latin-1")
+            status = 1 if "unread" in replies else 0
+            if ran.stdout != due or ran.returncode != status:
+                sys.stderr.buffer.write(text)
+                print(f"\nscript {k} of seed {seed} ({word} {words}) differs; status {ran.returncode}, due {status}", file=sys.stderr)
+                return 1
         lines += text.count(b"\n")
     print(f"{count} scripts, {lines} lines, no difference")
     return 0
