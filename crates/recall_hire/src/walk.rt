@@ -1,5 +1,5 @@
 //! A walk through a level's arenas in order, with the carry going along.
-ghost use Rattle.std.specs.Prelude.{◌≡◌, ◌+◌, ◌*◌, ◌^◌, ◌<◌, ◌≤◌, length};
+ghost use Rattle.std.specs.Prelude.{◌≡◌, ℕ, None, ◌+◌, ◌*◌, ◌^◌, ◌<◌, ◌≤◌, length};
 ghost use Rattle.std.specs.Bool.{OnTrue, OnFalse};
 ghost use Rattle.std.specs.List.{count_by};
 ghost use Rattle.market_types.specs.Allotment.{is_just};
@@ -64,10 +64,7 @@ impl Walk<'_> {
         requires few { visits.old + length rows.0 < 2 ^ 31 }
         ensures { IsSearch self.now.workers self.now.demand self.now.roster.now rows.entry carry.old carry.new visits.old visits.new result }
     {
-        let due = self.workers * rows.requests() + *carry;
-        if due < self.demand {
-            // Nobody here is allotted a worker, and what is due to all of them is carried on.
-            *carry = due;
+        if self.passes(&rows, carry) {
             return None;
         }
         self.among(rows, carry, visits)
@@ -82,14 +79,38 @@ impl Walk<'_> {
         requires few { visits.old + length rows.0 < 2 ^ 31 }
         ensures { IsSearch self.now.workers self.now.demand self.now.roster.now rows.entry carry.old carry.new visits.old visits.new result }
     {
-        let parts = rows.enter(visits)?;
-        if let Some(arena) = self.in_need(parts.newer, carry, visits) {
-            return Some(arena);
+        let mut rest = rows;
+        loop {
+            let parts = rest.enter(visits)?;
+            if let Some(arena) = self.in_need(parts.newer, carry, visits) {
+                return Some(arena);
+            }
+            if self.lacks(parts.row, carry) {
+                return Some(parts.row.arena);
+            }
+            rest = parts.older;
+            if self.passes(&rest, carry) {
+                return None;
+            }
         }
-        if self.lacks(parts.row, carry) {
-            return Some(parts.row.arena);
+    }
+
+    /// Whether nobody in a stretch is allotted a worker. The carry goes on past such a stretch.
+    #[inline(always)]
+    fn passes(&self, rows: &Stretch, carry: &mut u64) -> bool
+        requires shared { CanShare self.now.workers self.now.demand carry.old }
+        requires part { requests rows.now.0 ≤ self.now.demand }
+        ensures none { OnTrue result ((visits : ℕ) → IsSearch self.now.workers self.now.demand self.now.roster.now rows.now carry.old carry.new visits visits None) }
+        ensures some { OnFalse result (self.now.demand ≤ carry.old + self.now.workers * requests rows.now.0) }
+        ensures stays { OnFalse result (carry.new ≡ carry.old) }
+    {
+        let due = self.workers * rows.requests() + *carry;
+        if due < self.demand {
+            // Nobody here is allotted a worker, and what is due to all of them is carried on.
+            *carry = due;
+            return true;
         }
-        self.in_need(parts.older, carry, visits)
+        false
     }
 
     /// Whether an arena is allotted more workers than it has. The carry goes on past it.
