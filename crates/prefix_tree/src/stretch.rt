@@ -22,7 +22,7 @@ pub struct Parts<'a> {
     /// The rows before the topmost node's.
     pub newer: Stretch<'a>,
     /// The topmost node's row.
-    pub row: Row,
+    pub row: &'a Row,
     /// The rows after it.
     pub older: Stretch<'a>,
 }
@@ -48,12 +48,22 @@ impl<'a> Stretch<'a> {
         u64::from(self.requests)
     }
 
+    /// The same rows, for a walk that takes its stretches by value. Enters no node.
+    pub fn again(&self) -> Stretch<'a>
+        ensures same { result ≡ self.now }
+    {
+        Stretch {
+            side: self.side,
+            requests: self.requests,
+        }
+    }
+
     /// Enters its topmost node, and counts it: the rows before that node's, its row, and the rows after it. None where
     /// there are no rows.
     pub fn enter(&self, visits: &mut u32) -> Option<Parts<'a>>
         requires few { visits.old < 2 ^ 31 }
         ensures none { IfNone result (self.now ≡ ([], 0)) }
-        ensures rows { IfSome result (λ parts. self.now.0 ≡ parts.newer.0 ++ parts.row ∷ parts.older.0) }
+        ensures rows { IfSome result (λ parts. self.now.0 ≡ parts.newer.0 ++ parts.row.now ∷ parts.older.0) }
         ensures lower { IfSome result (λ parts. (parts.newer.1 < self.now.1) × (parts.older.1 < self.now.1)) }
         ensures counted { IfSome result (λ _. visits.new ≡ visits.old + 1) }
         ensures uncounted { IfNone result (visits.new ≡ visits.old) }
@@ -69,7 +79,7 @@ impl<'a> Stretch<'a> {
         };
         Some(Parts {
             newer,
-            row: node.row,
+            row: &node.row,
             older,
         })
     }

@@ -58,7 +58,7 @@ impl Listing<'_> {
             None => Ok(()),
             Some(parts) => {
                 self.list(&parts.newer, carry, visits, lists)?;
-                self.add(&parts.row, carry, lists)?;
+                self.add(parts.row, carry, lists)?;
                 self.list(&parts.older, carry, visits, lists)
             }
         }

@@ -1,5 +1,5 @@
 //! A walk through a level's arenas in order, with the carry going along.
-ghost use Rattle.std.specs.Prelude.{◌≡◌, ◌+◌, ◌*◌, ◌^◌, ◌<◌, ◌≤◌, length};
+ghost use Rattle.std.specs.Prelude.{◌≡◌, ℕ, None, ◌+◌, ◌*◌, ◌^◌, ◌<◌, ◌≤◌, length};
 ghost use Rattle.std.specs.Bool.{OnTrue, OnFalse};
 ghost use Rattle.std.specs.List.{count_by};
 ghost use Rattle.market_types.specs.Allotment.{is_just};
@@ -41,7 +41,7 @@ pub fn first_in_need(
         demand,
     };
     let (mut carry, mut visits) = (0, 0);
-    let found = walk.in_need(rows, &mut carry, &mut visits);
+    let found = walk.in_need(rows.again(), &mut carry, &mut visits);
     (found, visits)
 }
 
@@ -56,36 +56,71 @@ struct Walk<'a> {
 impl Walk<'_> {
     /// The first arena of a stretch that is allotted more workers than it has. Where there is none, the carry has gone past
     /// all of them. Enters a node only where an arena at or below it is allotted a worker.
-    fn in_need(&self, rows: &Stretch, carry: &mut u64, visits: &mut u32) -> Option<ArenaId>
+    #[cycle(in_need)]
+    #[inline(always)]
+    fn in_need(&self, rows: Stretch<'_>, carry: &mut u64, visits: &mut u32) -> Option<ArenaId>
+        requires shared { CanShare self.now.workers self.now.demand carry.old }
+        requires part { requests rows.0 ≤ self.now.demand }
+        requires few { visits.old + length rows.0 < 2 ^ 31 }
+        ensures { IsSearch self.now.workers self.now.demand self.now.roster.now rows.entry carry.old carry.new visits.old visits.new result }
+    {
+        if self.passes(&rows, carry) {
+            return None;
+        }
+        self.among(rows, carry, visits)
+    }
+
+    /// The same for a stretch where some arena is allotted a worker.
+    #[cycle(in_need)]
+    fn among(&self, rows: Stretch<'_>, carry: &mut u64, visits: &mut u32) -> Option<ArenaId>
+        requires shared { CanShare self.now.workers self.now.demand carry.old }
+        requires part { requests rows.0 ≤ self.now.demand }
+        requires due { self.now.demand ≤ carry.old + self.now.workers * requests rows.0 }
+        requires few { visits.old + length rows.0 < 2 ^ 31 }
+        ensures { IsSearch self.now.workers self.now.demand self.now.roster.now rows.entry carry.old carry.new visits.old visits.new result }
+    {
+        let mut rest = rows;
+        loop {
+            let parts = rest.enter(visits)?;
+            if let Some(arena) = self.in_need(parts.newer, carry, visits) {
+                return Some(arena);
+            }
+            if self.lacks(parts.row, carry) {
+                return Some(parts.row.arena);
+            }
+            rest = parts.older;
+            if self.passes(&rest, carry) {
+                return None;
+            }
+        }
+    }
+
+    /// Whether nobody in a stretch is allotted a worker. The carry goes on past such a stretch.
+    #[inline(always)]
+    fn passes(&self, rows: &Stretch, carry: &mut u64) -> bool
         requires shared { CanShare self.now.workers self.now.demand carry.old }
         requires part { requests rows.now.0 ≤ self.now.demand }
-        requires few { visits.old + length rows.now.0 < 2 ^ 31 }
-        ensures { IsSearch self.now.workers self.now.demand self.now.roster.now rows.now carry.old carry.new visits.old visits.new result }
+        ensures none { OnTrue result ((visits : ℕ) → IsSearch self.now.workers self.now.demand self.now.roster.now rows.now carry.old carry.new visits visits None) }
+        ensures some { OnFalse result (self.now.demand ≤ carry.old + self.now.workers * requests rows.now.0) }
+        ensures stays { OnFalse result (carry.new ≡ carry.old) }
     {
         let due = self.workers * rows.requests() + *carry;
         if due < self.demand {
             // Nobody here is allotted a worker, and what is due to all of them is carried on.
             *carry = due;
-            return None;
+            return true;
         }
-        let parts = rows.enter(visits)?;
-        if let Some(arena) = self.in_need(&parts.newer, carry, visits) {
-            return Some(arena);
-        }
-        if self.lacks(parts.row, carry) {
-            return Some(parts.row.arena);
-        }
-        self.in_need(&parts.older, carry, visits)
+        false
     }
 
     /// Whether an arena is allotted more workers than it has. The carry goes on past it.
     #[inline(always)]
-    fn lacks(&self, row: Row, carry: &mut u64) -> bool
+    fn lacks(&self, row: &Row, carry: &mut u64) -> bool
         requires shared { CanShare self.now.workers self.now.demand carry.old }
-        requires part { row.request ≤ self.now.demand }
-        ensures yes { OnTrue result (count_by (is_just row.arena) self.now.roster.now < row_share (Carried self.now.workers self.now.demand) carry.old row) }
-        ensures no { OnFalse result (row_share (Carried self.now.workers self.now.demand) carry.old row ≤ count_by (is_just row.arena) self.now.roster.now) }
-        ensures carry { carry.new ≡ row_carry (Carried self.now.workers self.now.demand) carry.old row }
+        requires part { row.now.request ≤ self.now.demand }
+        ensures yes { OnTrue result (count_by (is_just row.now.arena) self.now.roster.now < row_share (Carried self.now.workers self.now.demand) carry.old row.now) }
+        ensures no { OnFalse result (row_share (Carried self.now.workers self.now.demand) carry.old row.now ≤ count_by (is_just row.now.arena) self.now.roster.now) }
+        ensures carry { carry.new ≡ row_carry (Carried self.now.workers self.now.demand) carry.old row.now }
         ensures low { carry.new < self.now.demand }
     {
         let due = u64::from(row.request) * self.workers + *carry;

@@ -1,38 +1,66 @@
-use Rattle.std.proofs.Common.{◌≡◌, ◌*◌, ap, arith}
+use Rattle.std.proofs.Common.{◌≡◌, ◌+◌, ◌<◌, ◌≤◌, ◌∷◌, ◌∙◌, ap, length, length-append, arith}
 use Rattle.level_list.specs.Rows.{requests}
-use Rattle.recall_hire.proofs.Searches.{IsOpened, passed-over, found-newer, found-here, goes-on}
+use Rattle.recall_hire.specs.Shared.{CanShare}
+use Rattle.recall_hire.proofs.Shares.{requests-parts}
+use Rattle.recall_hire.proofs.Searches.{IsOpened, found-newer, found-here, goes-on}
 use Rattle.recall_hire.proofs.walk.Walk.+in_need.Goals as goal
 
-pub returns-then-due-self : goal.returns-then-due-self
-returns-then-due-self t c =
-    passed-over c.args.self.now.workers c.args.self.now.demand c.args.self.now.roster.now c.args.rows.now c.args.carry.now c.requests.result c.args.visits.now c.requests.ensures.exact c.if-due-self.true
-
-pub returns-in-Some : goal.returns-in-Some
-returns-in-Some t c =
+pub among-returns-in-Some : goal.among-returns-in-Some
+among-returns-in-Some t c =
     let w = c.args.self.now in
     let p = c.in_ok-parts.parts in
-    let asked : w.workers * c.requests.result ≡ w.workers * requests c.args.rows.now.0 = ap (λ n. w.workers * n) c.requests.ensures.exact in
-    let opened : IsOpened w.workers w.demand c.args.carry.now c.args.rows.now p.newer p.row p.older =
-    record { rows_are = c.in_ok-parts.ensures.rows; left = c.in_ok-parts.ensures.lower.0; right = c.in_ok-parts.ensures.lower.1; below = c.requires.shared.carried; due = omega arith } in
-    found-newer w.workers w.demand w.roster.now c.args.rows.now p.newer p.row p.older c.args.carry.now c.in_need.new.carry c.args.visits.now c.enter.new.visits c.in_need.new.visits c.in-Some.arena
-    opened c.in_ok-parts.ensures.counted c.in-Some.ensures
+    let i = c.loop-parts.invariant in
+    let opened : IsOpened w.workers w.demand c.loop-parts.carry c.loop-parts.rest p.newer p.row.now p.older =
+    record { rows_are = c.in_ok-parts.ensures.rows; left = c.in_ok-parts.ensures.lower.0; right = c.in_ok-parts.ensures.lower.1; below = i.shared.carried; due = i.due } in
+    i.goes c.in_need.new.carry c.in_need.new.visits _
+    (found-newer w.workers w.demand w.roster.now c.loop-parts.rest p.newer p.row.now p.older c.loop-parts.carry c.in_need.new.carry c.loop-parts.visits c.enter.new.visits c.in_need.new.visits c.in-Some.arena
+    opened c.in_ok-parts.ensures.counted c.in-Some.ensures)
 
-pub returns-then-lacks : goal.returns-then-lacks
-returns-then-lacks t c =
+pub among-returns-then-lacks : goal.among-returns-then-lacks
+among-returns-then-lacks t c =
     let w = c.args.self.now in
     let p = c.in_ok-parts.parts in
-    let asked : w.workers * c.requests.result ≡ w.workers * requests c.args.rows.now.0 = ap (λ n. w.workers * n) c.requests.ensures.exact in
-    let opened : IsOpened w.workers w.demand c.args.carry.now c.args.rows.now p.newer p.row p.older =
-    record { rows_are = c.in_ok-parts.ensures.rows; left = c.in_ok-parts.ensures.lower.0; right = c.in_ok-parts.ensures.lower.1; below = c.requires.shared.carried; due = omega arith } in
-    found-here w.workers w.demand w.roster.now c.args.rows.now p.newer p.row p.older c.args.carry.now c.in_need.new.carry c.lacks.new.carry c.args.visits.now c.enter.new.visits c.in_need.new.visits
-    opened c.in_ok-parts.ensures.counted c.in_default.ensures c.if-lacks.ensures.yes
+    let i = c.loop-parts.invariant in
+    let opened : IsOpened w.workers w.demand c.loop-parts.carry c.loop-parts.rest p.newer p.row.now p.older =
+    record { rows_are = c.in_ok-parts.ensures.rows; left = c.in_ok-parts.ensures.lower.0; right = c.in_ok-parts.ensures.lower.1; below = i.shared.carried; due = i.due } in
+    i.goes c.lacks.new.carry c.in_need.new.visits _
+    (found-here w.workers w.demand w.roster.now c.loop-parts.rest p.newer p.row.now p.older c.loop-parts.carry c.in_need.new.carry c.lacks.new.carry c.loop-parts.visits c.enter.new.visits c.in_need.new.visits
+    opened c.in_ok-parts.ensures.counted c.in_default.ensures c.if-lacks.ensures.yes)
 
-pub returns : goal.returns
-returns t c =
+pub among-returns-then-passes : goal.among-returns-then-passes
+among-returns-then-passes t c =
     let w = c.args.self.now in
     let p = c.in_ok-parts.parts in
-    let asked : w.workers * c.requests.result ≡ w.workers * requests c.args.rows.now.0 = ap (λ n. w.workers * n) c.requests.ensures.exact in
-    let opened : IsOpened w.workers w.demand c.args.carry.now c.args.rows.now p.newer p.row p.older =
-    record { rows_are = c.in_ok-parts.ensures.rows; left = c.in_ok-parts.ensures.lower.0; right = c.in_ok-parts.ensures.lower.1; below = c.requires.shared.carried; due = omega arith } in
-    goes-on w.workers w.demand w.roster.now c.args.rows.now p.newer p.row p.older c.args.carry.now c.in_need.new.carry c.lacks.new.carry c.in_need-2.new.carry c.args.visits.now c.enter.new.visits c.in_need.new.visits c.in_need-2.new.visits c.in_need-2.result
-    opened c.in_ok-parts.ensures.counted c.in_default.ensures c.if-lacks.ensures.no c.lacks.ensures.carry c.in_need-2.ensures
+    let i = c.loop-parts.invariant in
+    let opened : IsOpened w.workers w.demand c.loop-parts.carry c.loop-parts.rest p.newer p.row.now p.older =
+    record { rows_are = c.in_ok-parts.ensures.rows; left = c.in_ok-parts.ensures.lower.0; right = c.in_ok-parts.ensures.lower.1; below = i.shared.carried; due = i.due } in
+    i.goes c.passes.new.carry c.in_need.new.visits _
+    (goes-on w.workers w.demand w.roster.now c.loop-parts.rest p.newer p.row.now p.older c.loop-parts.carry c.in_need.new.carry c.lacks.new.carry c.passes.new.carry c.loop-parts.visits c.enter.new.visits c.in_need.new.visits c.in_need.new.visits _
+    opened c.in_ok-parts.ensures.counted c.in_default.ensures c.if-lacks.ensures.no c.lacks.ensures.carry (c.if-passes.ensures.none c.in_need.new.visits))
+
+pub among-loop-parts-preserved : goal.among-loop-parts-preserved
+among-loop-parts-preserved t c =
+    let w = c.args.self.now in
+    let p = c.in_ok-parts.parts in
+    let i = c.loop-parts.invariant in
+    let opened : IsOpened w.workers w.demand c.loop-parts.carry c.loop-parts.rest p.newer p.row.now p.older =
+    record { rows_are = c.in_ok-parts.ensures.rows; left = c.in_ok-parts.ensures.lower.0; right = c.in_ok-parts.ensures.lower.1; below = i.shared.carried; due = i.due } in
+    let sums : requests c.loop-parts.rest.0 ≡ requests p.newer.0 + p.row.now.request + requests p.older.0 = ap requests c.in_ok-parts.ensures.rows ∙ requests-parts p.newer.0 p.row.now p.older.0 in
+    let part : requests p.older.0 ≤ w.demand = omega (arith, sums, i.part) in
+    let lengths : length c.loop-parts.rest.0 ≡ length p.newer.0 + length (p.row.now ∷ p.older.0) = ap length c.in_ok-parts.ensures.rows ∙ length-append p.newer.0 (p.row.now ∷ p.older.0) in
+    let less : c.passes.new.carry < w.demand = omega (arith, c.if-passes.ensures.stays, c.lacks.ensures.low) in
+    let shared : CanShare w.workers w.demand c.passes.new.carry = record { within = i.shared.within; small = i.shared.small; carried = less } in
+    record {
+      shared = shared;
+      part = part;
+      due = omega (arith, c.if-passes.ensures.some, c.if-passes.ensures.stays);
+      few = omega (arith, lengths, i.few, c.in_ok-parts.ensures.counted, c.in_default.ensures.once);
+      lower = omega (arith, i.lower, c.in_ok-parts.ensures.lower.1);
+      goes = λ after end found rest.
+          i.goes after end found
+          (goes-on w.workers w.demand w.roster.now c.loop-parts.rest p.newer p.row.now p.older c.loop-parts.carry c.in_need.new.carry c.passes.new.carry after c.loop-parts.visits c.enter.new.visits c.in_need.new.visits end found
+          opened c.in_ok-parts.ensures.counted c.in_default.ensures c.if-lacks.ensures.no (c.if-passes.ensures.stays ∙ c.lacks.ensures.carry) rest);
+    }
+
+pub in_need-returns-then-passes : goal.in_need-returns-then-passes
+in_need-returns-then-passes t c = c.if-passes.ensures.none c.args.visits.now
