@@ -7,6 +7,8 @@ mod devices;
 #[cfg(test)]
 mod limits;
 #[cfg(test)]
+mod replays;
+#[cfg(test)]
 mod scripts;
 #[cfg(test)]
 mod texts;
