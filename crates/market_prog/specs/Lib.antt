@@ -2,6 +2,7 @@ pub mod Words
 pub mod Passed
 pub mod Command
 pub mod Faults
+pub mod Replay
 pub mod Run
 pub mod Explain
 pub mod Sessions

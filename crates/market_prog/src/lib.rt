@@ -1,5 +1,5 @@
-//! What the program `market` does: it reads the words of its command line, and runs scripts, or explains the markets that
-//! they lead to, from a source to a sink.
+//! What the program `market` does: it reads the words of its command line, and runs scripts, explains the markets that they
+//! lead to, or replays journals, from a source to a sink.
 #![tactic(auto)]
 
 mod engine;
@@ -7,10 +7,12 @@ mod explain;
 mod fault;
 mod help;
 mod quiet;
+mod replay;
 mod session;
 mod words;
 
 pub use engine::run_script;
 pub use explain::explain_script;
 pub use fault::{RunFault, status_of_run};
+pub use replay::{run_replay, status_of_replay};
 pub use words::{Choice, MarketOptions, read_words};

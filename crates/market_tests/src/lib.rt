@@ -9,6 +9,8 @@ mod explanations;
 #[cfg(test)]
 mod limits;
 #[cfg(test)]
+mod replays;
+#[cfg(test)]
 mod scripts;
 #[cfg(test)]
 mod texts;

@@ -1,0 +1,133 @@
+//! Journals that are replayed, with their statuses, over devices that give them in pieces and fail.
+ghost use Rattle.std.specs.Prelude.{◌≡◌, false};
+
+use byte_devices::{Refusal, TestSink, TestSource};
+use journal_replay::Verdict;
+use market_prog::{RunFault, run_replay, status_of_replay};
+use std::alloc::Global;
+use std::process::Abort;
+use std::rt::HostRuntime;
+
+const JOURNAL: &[u8] = b"\
+{\"base\":8,\"hard\":64,\"journal\":1,\"seats\":4}
+{\"cmd\":\"open 8 1 normal\",\"reply\":\"arena 1\",\"seat\":0}
+{\"cmd\":\"request 1 3 0\",\"reply\":\"request 3\",\"seat\":0}
+{\"cmd\":\"show 1\",\"reply\":\"arena 1 request 3 allot 3 top yes active 0 recall 0 hire 3\",\"seat\":0}
+";
+
+/// The same without its second line.
+const WITHOUT_ITS_OPEN: &[u8] = b"\
+{\"base\":8,\"hard\":64,\"journal\":1,\"seats\":4}
+{\"cmd\":\"request 1 3 0\",\"reply\":\"request 3\",\"seat\":0}
+{\"cmd\":\"show 1\",\"reply\":\"arena 1 request 3 allot 3 top yes active 0 recall 0 hire 3\",\"seat\":0}
+";
+
+const LEGAL: &[u8] = b"legal 3\n";
+
+const REFUSED: &[u8] = b"J4 wrong reply line 2 due F05 no arena\n";
+
+fn new_sink(rt: &impl Abort, alloc: Global) -> TestSink
+    ensures { result.failed ≡ false }
+{
+    let Ok(memory) = Vec::with_capacity(alloc, 4096) else {
+        panic!(rt; "no memory");
+    };
+    TestSink::new(memory)
+}
+
+#[test]
+fn a_legal_journal_is_told_with_its_entries(rt: HostRuntime) {
+    let mut source = TestSource::new(JOURNAL);
+    let mut sink = new_sink(&rt, rt.alloc());
+    let told = run_replay(rt.alloc(), &mut source, &mut sink);
+    assert!(&rt; sink.taken() == LEGAL);
+    assert!(&rt; matches!(&told, Ok(Verdict::Legal(3))));
+    assert!(&rt; status_of_replay(&told) == 0);
+}
+
+#[test]
+fn a_changed_journal_is_told_by_its_first_fault(rt: HostRuntime) {
+    let mut source = TestSource::new(WITHOUT_ITS_OPEN);
+    let mut sink = new_sink(&rt, rt.alloc());
+    let told = run_replay(rt.alloc(), &mut source, &mut sink);
+    assert!(&rt; sink.taken() == REFUSED);
+    assert!(&rt; matches!(&told, Ok(Verdict::WrongReply(2, _))));
+    assert!(&rt; status_of_replay(&told) == 1);
+}
+
+/// The line of the verdict of the first bytes of the journal, and its status.
+fn told_of_front(bytes: usize) -> (&'static [u8], u8) {
+    match bytes {
+        43 => (b"legal 0\n", 0),
+        60 => (b"J2 bad json line 2\n", 1),
+        _ => (b"J1 bad header\n", 1),
+    }
+}
+
+#[test]
+fn a_front_of_a_journal_is_told(rt: HostRuntime) {
+    for bytes in [0, 42, 43, 60] {
+        let mut source = TestSource::new(&JOURNAL[..bytes]);
+        let mut sink = new_sink(&rt, rt.alloc());
+        let told = run_replay(rt.alloc(), &mut source, &mut sink);
+        let (line, status) = told_of_front(bytes);
+        assert!(&rt; sink.taken() == line, "{bytes} bytes");
+        assert!(&rt; status_of_replay(&told) == status, "{bytes} bytes");
+    }
+}
+
+#[test]
+fn after_each_read_that_fails_nothing_is_written(rt: HostRuntime) {
+    for size in [1, 7, 43, 244] {
+        // The journal takes so many reads, and one that finds its end.
+        let reads = JOURNAL.len().div_ceil(size) + 1;
+        for good in 0..reads {
+            let mut source = TestSource::new(JOURNAL)
+                .in_pieces_of(size)
+                .failing_after(good as u64);
+            let mut sink = new_sink(&rt, rt.alloc());
+            let told = run_replay(rt.alloc(), &mut source, &mut sink);
+            assert!(&rt;
+                matches!(&told, Err(RunFault::Read)),
+                "{good} reads of {size} bytes"
+            );
+            assert!(&rt; status_of_replay(&told) == 3);
+            assert!(&rt; sink.taken().is_empty());
+        }
+        let mut source = TestSource::new(JOURNAL)
+            .in_pieces_of(size)
+            .failing_after(reads as u64);
+        let mut sink = new_sink(&rt, rt.alloc());
+        let told = run_replay(rt.alloc(), &mut source, &mut sink);
+        assert!(&rt; sink.taken() == LEGAL);
+        assert!(&rt; status_of_replay(&told) == 0);
+    }
+}
+
+#[test]
+fn after_each_write_that_fails_a_front_of_the_line_is_written(rt: HostRuntime) {
+    for refusal in [Refusal::Fault, Refusal::NoneTaken] {
+        for size in [1, 7, 100] {
+            for room in 0..REFUSED.len() {
+                let mut source = TestSource::new(WITHOUT_ITS_OPEN);
+                let mut sink = new_sink(&rt, rt.alloc())
+                    .in_pieces_of(size)
+                    .refusing_after(room, refusal);
+                let told = run_replay(rt.alloc(), &mut source, &mut sink);
+                assert!(&rt;
+                    matches!(&told, Err(RunFault::Write)),
+                    "room for {room} bytes"
+                );
+                assert!(&rt; status_of_replay(&told) == 3);
+                assert!(&rt; sink.taken() == &REFUSED[..room]);
+            }
+            let mut source = TestSource::new(WITHOUT_ITS_OPEN);
+            let mut sink = new_sink(&rt, rt.alloc())
+                .in_pieces_of(size)
+                .refusing_after(REFUSED.len(), refusal);
+            let told = run_replay(rt.alloc(), &mut source, &mut sink);
+            assert!(&rt; sink.taken() == REFUSED);
+            assert!(&rt; status_of_replay(&told) == 1);
+        }
+    }
+}
