@@ -6,11 +6,14 @@ mod engine;
 mod explain;
 mod fault;
 mod help;
+mod journal;
 mod quiet;
+mod recording;
 mod session;
 mod words;
 
 pub use engine::run_script;
 pub use explain::explain_script;
 pub use fault::{RunFault, status_of_run};
+pub use journal::run_journal;
 pub use words::{Choice, MarketOptions, read_words};
