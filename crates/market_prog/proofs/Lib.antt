@@ -8,3 +8,5 @@ pub mod Told
 pub mod Answered
 pub mod Runs
 pub mod Explaining
+pub mod History
+pub mod Journaling

@@ -66,7 +66,7 @@ after-ended s n (line ∷ ls) more =
 
 -- ---- the whole script
 
-lines-cut : (ps : List (List ℕ)) → without_last_empty ps ≡ without_last ps ++ without_last_empty (last_part ps ∷ [])
+pub lines-cut : (ps : List (List ℕ)) → without_last_empty ps ≡ without_last ps ++ without_last_empty (last_part ps ∷ [])
 lines-cut [] = refl
 lines-cut (p ∷ []) = refl
 lines-cut (p ∷ q ∷ ps) = ap (λ t. p ∷ t) (lines-cut (q ∷ ps))

@@ -4,8 +4,10 @@ use Rattle.market_types.specs.declared.reply.OpenFault.{OpenFault}
 use Rattle.market_types.specs.declared.reply.OpenFault.TheVariants.{BadBase, BadHard, BadSeats, BadPlaces, BadLevels, Memory as NoMemory}
 use Rattle.byte_devices.specs.declared.out_fault.OutFault.{OutFault}
 use Rattle.byte_devices.specs.declared.out_fault.OutFault.TheVariants.{Write as WriteFailed, Memory as OutMemory}
+use Rattle.edit_history.specs.declared.fault.CallFault.{CallFault}
+use Rattle.edit_history.specs.declared.fault.CallFault.TheVariants.{Memory as CallMemory, HistoryFull as NoPlace}
 use Rattle.market_prog.specs.declared.fault.RunFault.{RunFault}
-use Rattle.market_prog.specs.declared.fault.RunFault.TheVariants.{Open, Read, TooLong, Write, Memory}
+use Rattle.market_prog.specs.declared.fault.RunFault.TheVariants.{Open, Read, TooLong, Write, Memory, HistoryFull}
 use Rattle.line_engine.specs.declared.fault.InputFault.{InputFault}
 use Rattle.line_engine.specs.declared.fault.InputFault.TheVariants.{Read as ReadFault, TooLong as LongInput, Write as WriteFault, Memory as InputMemory, Taker}
 
@@ -28,6 +30,15 @@ run_fault_of_input LongInput = TooLong
 run_fault_of_input WriteFault = Write
 run_fault_of_input InputMemory = Memory
 run_fault_of_input (Taker fault) = Memory
+
+-- so where the lines are recorded: the history may also have no place
+abbrev pub run_fault_of_recording : InputFault CallFault → RunFault
+run_fault_of_recording ReadFault = Read
+run_fault_of_recording LongInput = TooLong
+run_fault_of_recording WriteFault = Write
+run_fault_of_recording InputMemory = Memory
+run_fault_of_recording (Taker CallMemory) = Memory
+run_fault_of_recording (Taker NoPlace) = HistoryFull
 
 -- a fault of a text's writing as a run's
 abbrev pub run_fault_of_output : OutFault → RunFault

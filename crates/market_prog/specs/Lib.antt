@@ -7,3 +7,6 @@ pub mod Run
 pub mod Explain
 pub mod Sessions
 pub mod Status
+pub mod Recorded
+pub mod Recording
+pub mod Journal

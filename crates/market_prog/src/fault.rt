@@ -4,6 +4,7 @@ ghost use Rattle.market_types.specs.Texts.{open_fault_text};
 ghost use Rattle.market_prog.specs.Status.{status_of};
 
 use byte_devices::OutFault;
+use edit_history::CallFault;
 use line_engine::InputFault;
 use market_types::{OpenFault, open_fault_text};
 use std::alloc::AllocError;
@@ -51,6 +52,23 @@ impl From<InputFault<AllocError>> for RunFault {
             InputFault::TooLong => RunFault::TooLong,
             InputFault::Write => RunFault::Write,
             InputFault::Memory | InputFault::Taker(_) => RunFault::Memory,
+        }
+    }
+}
+
+impl From<InputFault<CallFault>> for RunFault {
+    ghost use Rattle.std.specs.Prelude.{◌≡◌};
+    ghost use Rattle.market_prog.specs.Faults.{run_fault_of_recording};
+
+    ghost from_gives = { λ fault stop. stop ≡ run_fault_of_recording fault };
+
+    fn from(fault: InputFault<CallFault>) -> RunFault {
+        match fault {
+            InputFault::Read => RunFault::Read,
+            InputFault::TooLong => RunFault::TooLong,
+            InputFault::Write => RunFault::Write,
+            InputFault::Memory | InputFault::Taker(CallFault::Memory) => RunFault::Memory,
+            InputFault::Taker(CallFault::HistoryFull) => RunFault::HistoryFull,
         }
     }
 }

@@ -24,6 +24,17 @@ pub(crate) fn is_silent(line: &[u8]) -> bool
     line.is_empty() || line[0] == b'#'
 }
 
+/// The seat and the command that a line spells in this market. One that is too long spells none.
+pub(crate) fn call_in(market: &Market, line: &[u8], form: LineForm) -> Option<(SeatNo, Cmd)>
+    ensures exact { result ≡ (if is_too_long form then None else line_reading (length market.now.seats) market.now.levels line.now) }
+    ensures seat { IfSome result (λ call. call.0 < length market.now.seats) }
+{
+    if form == LineForm::TooLong {
+        return None;
+    }
+    read_line(line, market.seats(), market.levels())
+}
+
 impl Session {
     /// The session of a market, before the first line.
     pub fn new(alloc: Global, market: Market) -> Self
@@ -56,10 +67,7 @@ impl Session {
         ensures exact { result ≡ (if is_too_long form then None else line_reading (length self.now.market.seats) self.now.market.levels line.now) }
         ensures seat { IfSome result (λ call. call.0 < length self.now.market.seats) }
     {
-        if form == LineForm::TooLong {
-            return None;
-        }
-        read_line(line, self.market.seats(), self.market.levels())
+        call_in(&self.market, line, form)
     }
 
     /// Gives the call of a line that is not silent to the market: the reply, or `None` where the line was not read.

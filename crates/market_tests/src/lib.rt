@@ -7,6 +7,8 @@ mod devices;
 #[cfg(test)]
 mod explanations;
 #[cfg(test)]
+mod journals;
+#[cfg(test)]
 mod limits;
 #[cfg(test)]
 mod replays;
