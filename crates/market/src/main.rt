@@ -5,7 +5,8 @@ use byte_devices::{ReadSource, WriteSink};
 use clap::Error;
 use clap::error::ErrorKind;
 use market_prog::{
-    Choice, MarketOptions, RunFault, explain_script, read_words, run_script, status_of_run,
+    Choice, MarketOptions, RunFault, explain_script, read_words, run_journal, run_script,
+    status_of_run,
 };
 use std::fmt::Display;
 use std::process::ExitCode;
@@ -35,6 +36,28 @@ fn run(rt: &HostRuntime, options: MarketOptions) -> u8 {
     let mut input = ReadSource::new(rt.stdin());
     let mut output = WriteSink::new(rt.stdout());
     let outcome = run_script(
+        rt.alloc(),
+        base,
+        hard,
+        seats,
+        levels,
+        &mut input,
+        &mut output,
+    );
+    finish(rt, outcome)
+}
+
+/// Writes the journal of the script on standard input.
+fn journal(rt: &HostRuntime, options: MarketOptions) -> u8 {
+    let MarketOptions {
+        base,
+        hard,
+        seats,
+        levels,
+    } = options;
+    let mut input = ReadSource::new(rt.stdin());
+    let mut output = WriteSink::new(rt.stdout());
+    let outcome = run_journal(
         rt.alloc(),
         base,
         hard,
@@ -100,6 +123,7 @@ fn obey(rt: &HostRuntime, words: &[String]) -> u8 {
     };
     match read_words(rt.alloc(), &texts) {
         Ok(Choice::Run(options)) => run(rt, options),
+        Ok(Choice::Journal(options)) => journal(rt, options),
         Ok(Choice::Explain(options)) => explain(rt, options),
         Err(error) => print_help(rt, &error),
     }

@@ -121,17 +121,40 @@ explain = first_shape (drop 1 market.subs)
 other : {X : Type 0} → false ≡ true → X
 other e = absurd (true≢false (sym e))
 
-only_base : Only (codes "base") (codes "8") 65536 run.rules
-only_base = ((λ _. refl), (other, (other, (other, (other, tt)))))
+-- each of the market's options has its rule, and no other rule has its name
+record HasMarketRules (rules : List Rule) : Type 0 where
+  pub only_base : Only (codes "base") (codes "8") 65536 rules
+  pub only_hard : Only (codes "hard") (codes "64") 65535 rules
+  pub only_seats : Only (codes "seats") (codes "4") 64 rules
+  pub only_levels : Only (codes "levels") (codes "3") 8 rules
+  pub has_base : HasRule (codes "base") (codes "8") 65536 rules
+  pub has_hard : HasRule (codes "hard") (codes "64") 65535 rules
+  pub has_seats : HasRule (codes "seats") (codes "4") 64 rules
+  pub has_levels : HasRule (codes "levels") (codes "3") 8 rules
 
-only_hard : Only (codes "hard") (codes "64") 65535 run.rules
-only_hard = (other, ((λ _. refl), (other, (other, (other, tt)))))
+run_rules : HasMarketRules run.rules
+run_rules = record {
+  only_base = ((λ _. refl), (other, (other, (other, (other, (other, tt))))));
+  only_hard = (other, ((λ _. refl), (other, (other, (other, (other, tt))))));
+  only_seats = (other, (other, ((λ _. refl), (other, (other, (other, tt))))));
+  only_levels = (other, (other, (other, ((λ _. refl), (other, (other, tt))))));
+  has_base = inl refl;
+  has_hard = inr (inl refl);
+  has_seats = inr (inr (inl refl));
+  has_levels = inr (inr (inr (inl refl)));
+}
 
-only_seats : Only (codes "seats") (codes "4") 64 run.rules
-only_seats = (other, (other, ((λ _. refl), (other, (other, tt)))))
-
-only_levels : Only (codes "levels") (codes "3") 8 run.rules
-only_levels = (other, (other, (other, ((λ _. refl), (other, tt)))))
+explain_rules : HasMarketRules explain.rules
+explain_rules = record {
+  only_base = ((λ _. refl), (other, (other, (other, (other, tt)))));
+  only_hard = (other, ((λ _. refl), (other, (other, (other, tt)))));
+  only_seats = (other, (other, ((λ _. refl), (other, (other, tt)))));
+  only_levels = (other, (other, (other, ((λ _. refl), (other, tt)))));
+  has_base = inl refl;
+  has_hard = inr (inl refl);
+  has_seats = inr (inr (inl refl));
+  has_levels = inr (inr (inr (inl refl)));
+}
 
 number_held : (name : Text) (high : ℕ) (rows : List Row) → Holds name high rows → HasNumber name high rows
 number_held name high rows h = go (find (is_at name) rows) refl h
@@ -149,19 +172,18 @@ number_held name high rows h = go (find (is_at name) rows) refl h
     go None is fits = absurd (true≢false (sym fits))
     go (Some r) is fits = first r (slice_get r.values 0) is refl fits
 
--- a subcommand with the options of `run`
-module _ (s : Shape) (same : s.rules ≡ run.rules) (single : s.args_override_self ≡ false) where
-  option_held : (name default : Text) (high : ℕ) → Only name default high run.rules → HasRule name default high run.rules → is_signed_in (pos 1) (pos high) default ≡ true
+-- a subcommand with the market's options
+module _ (s : Shape) (rules : HasMarketRules s.rules) (single : s.args_override_self ≡ false) where
+  option_held : (name default : Text) (high : ℕ) → Only name default high s.rules → HasRule name default high s.rules → is_signed_in (pos 1) (pos high) default ≡ true
       → (words : List Text) → level_fault s [] nothing_held words false [] ≡ [] → HasNumber name high (rows_after s.rules [] words)
-  option_held name default high only has passes words e =
-      number_held name high _ (level_holds name default high s (subst (Only name default high) (sym same) only) single words false [] passes (subst (HasRule name default high) (sym same) has) e)
+  option_held name default high only has passes words e = number_held name high _ (level_holds name default high s only single words false [] passes has e)
 
   numbers : (words : List Text) → level_fault s [] nothing_held words false [] ≡ [] → HasMarketNumbers (rows_after s.rules [] words)
   numbers words e = record {
-    base = option_held (codes "base") (codes "8") 65536 only_base (inl refl) refl words e;
-    hard = option_held (codes "hard") (codes "64") 65535 only_hard (inr (inl refl)) refl words e;
-    seats = option_held (codes "seats") (codes "4") 64 only_seats (inr (inr (inl refl))) refl words e;
-    levels = option_held (codes "levels") (codes "3") 8 only_levels (inr (inr (inr (inl refl)))) refl words e;
+    base = option_held (codes "base") (codes "8") 65536 rules.only_base rules.has_base refl words e;
+    hard = option_held (codes "hard") (codes "64") 65535 rules.only_hard rules.has_hard refl words e;
+    seats = option_held (codes "seats") (codes "4") 64 rules.only_seats rules.has_seats refl words e;
+    levels = option_held (codes "levels") (codes "3") 8 rules.only_levels rules.has_levels refl words e;
   }
 
 -- ---- the subcommand
@@ -200,8 +222,8 @@ enters_one (Some p) no_help some e = go (bytes_eq (codes "run") p.0) (bytes_eq (
     go : (is_run is_explain is_help : Bool) → is_help ≡ false → is_some (option_map (λ s. rows_at s p.1) (met is_run is_explain is_help)) ≡ true
         → option_map_or (λ s. level_fault s [] nothing_held p.1 false []) (met is_run is_explain is_help) [] ≡ []
         → (found : Text × List Row) × (option_map (λ s. rows_at s p.1) (met is_run is_explain is_help) ≡ Some found) × NamesSubcommand found
-    go true is_explain is_help none has free = (rows_at run p.1, refl, record { name = inl refl; numbers = numbers run refl refl p.1 free })
-    go false true is_help none has free = (rows_at explain p.1, refl, record { name = inr refl; numbers = numbers explain refl refl p.1 free })
+    go true is_explain is_help none has free = (rows_at run p.1, refl, record { name = inl refl; numbers = numbers run run_rules refl p.1 free })
+    go false true is_help none has free = (rows_at explain p.1, refl, record { name = inr refl; numbers = numbers explain explain_rules refl p.1 free })
     go false false false none has free = absurd (true≢false (sym has))
     go false false true none has free = absurd (true≢false none)
 

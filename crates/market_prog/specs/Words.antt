@@ -1,11 +1,12 @@
 -- What the words of the command line choose.
-use Rattle.std.specs.Prelude.{◌≡◌, ℕ, ◌≤◌, List, [], ◌∷◌, true, Some, Ok, codes, pos}
+use Rattle.std.specs.Prelude.{◌≡◌, ℕ, ◌≤◌, Bool, List, [], ◌∷◌, bytes_eq, false, true, Some, Ok, codes, pos}
+use Rattle.std.specs.Option.{option_map_or}
 use Rattle.std.specs.Str.Parse.{ParsesUnsigned}
 use Rattle.clap.specs.Words.{App, Row, Rule, Text, first_of, new_app, new_rule, with_rule, with_subcommand, subcommand_of}
-use Rattle.clap.specs.declared.builder.ArgAction.TheVariants.{Set}
+use Rattle.clap.specs.declared.builder.ArgAction.TheVariants.{Set, SetTrue}
 use Rattle.clap.specs.declared.builder.value_parser.ValueParser.TheVariants.{Signed}
 use Rattle.market_prog.specs.declared.words.Choice.{Choice}
-use Rattle.market_prog.specs.declared.words.Choice.TheVariants.{Run, Explain}
+use Rattle.market_prog.specs.declared.words.Choice.TheVariants.{Run, Journal, Explain}
 use Rattle.market_prog.specs.declared.words.MarketOptions.{MarketOptions}
 
 -- the option `--name` with a number from 1 to high
@@ -26,6 +27,14 @@ script_app name = with_rule (with_rule (with_rule (with_rule (new_app name)
     (number_rule (codes "seats") (codes "4") 64))
     (number_rule (codes "levels") (codes "3") 8)
 
+-- the option `--journal`
+abbrev pub journal_rule : Rule
+journal_rule = record (new_rule (codes "journal")) { long = Some (codes "journal"); action = Some SetTrue }
+
+-- the subcommand `run`
+abbrev pub run_app : App
+run_app = with_rule (script_app (codes "run")) journal_rule
+
 -- a command that tells its version, and is nothing without a subcommand
 abbrev pub with_choice_asked : App → App
 with_choice_asked a =
@@ -34,7 +43,7 @@ with_choice_asked a =
 -- the program's command
 abbrev pub market_app : App
 market_app = with_subcommand (with_subcommand (with_choice_asked (new_app (codes "market")))
-    (script_app (codes "run")).top)
+    run_app.top)
     (script_app (codes "explain")).top
 
 -- n, from 1 to high, is the number that the option's word spells in these matches
@@ -52,9 +61,14 @@ pub record IsMarketOf (rows : List Row) (options : MarketOptions) : Type 0 where
   pub seats : IsNumberOf (codes "seats") 64 rows options.seats
   pub levels : IsNumberOf (codes "levels") 8 rows options.levels
 
+-- `--journal` is among these matches
+abbrev pub asks_journal : List Row → Bool
+asks_journal rows = option_map_or (λ word. bytes_eq word (codes "true")) (first_of (codes "journal") rows) false
+
 -- the choice is the named subcommand with these matches
 abbrev pub IsChoiceOf : Text × List Row → Choice → Type 0
-IsChoiceOf found (Run options) = (found.0 ≡ codes "run") × IsMarketOf found.1 options
+IsChoiceOf found (Run options) = (found.0 ≡ codes "run") × (asks_journal found.1 ≡ false) × IsMarketOf found.1 options
+IsChoiceOf found (Journal options) = (found.0 ≡ codes "run") × (asks_journal found.1 ≡ true) × IsMarketOf found.1 options
 IsChoiceOf found (Explain options) = (found.0 ≡ codes "explain") × IsMarketOf found.1 options
 
 -- the choice is that of clap's subcommand for the words, with its matches

@@ -56,6 +56,9 @@ three levels one of high, normal and low; unless it is given it is the middle on
 command changes nothing and is answered by its fault, as `F05 no arena`. Any other line is answered
 `unread`. An empty line and one that begins with # are not answered.
 
+With --journal no line is answered. After the last one, standard output gets the journal of the
+commands: a line of JSON for the options, and one for each command that was read, with its reply.
+
 Example:
   $ printf '0 open 8 1 normal\\n0 request 1 3\\n' | market run
   arena 1
@@ -65,7 +68,8 @@ Exit status:
   0  done, or help was asked for
   1  a line was unread
   2  a bad command line, or a fault at opening
-  3  a read, write, memory or length fault; its text is on standard error";
+  3  a read, write, memory or length fault, or more than 1,048,576 commands for a journal; its
+     text is on standard error";
 
 /// At the end of `market explain --help`.
 pub(crate) const OF_EXPLAIN: &str = "\

@@ -1,7 +1,7 @@
 //! The words of the command line.
 ghost use Rattle.std.specs.Prelude.{◌≡◌, ◌≤◌, ◌<◌, ◌^◌, IfOk, codes, false, map};
 ghost use Rattle.clap.specs.Words.{FailsBy, app_of, fault_of, found_of, rows_of, rule_of};
-ghost use Rattle.market_prog.specs.Words.{Chooses, IsChoiceOf, IsNumberOf, IsMarketOf, market_app, number_rule, script_app};
+ghost use Rattle.market_prog.specs.Words.{Chooses, IsChoiceOf, IsNumberOf, IsMarketOf, asks_journal, journal_rule, market_app, number_rule, run_app, script_app};
 ghost use Rattle.market_prog.specs.Command.{IsCommandOf};
 ghost use Rattle.market_prog.specs.Passed.{HasNumber, HasMarketNumbers, NamesSubcommand};
 
@@ -17,6 +17,8 @@ const VERSION: &str = "0.1.0";
 pub enum Choice {
     /// `market run`: answers a script's lines.
     Run(MarketOptions),
+    /// `market run --journal`: writes a script's journal.
+    Journal(MarketOptions),
     /// `market explain`: explains the market that a script leads to.
     Explain(MarketOptions),
 }
@@ -120,16 +122,35 @@ fn script_command<'a>(
         .arg(LEVELS.arg(alloc))
 }
 
-/// The program's command.
-fn market_command<'a>(alloc: Global) -> Result<Command<'a>, AllocError>
-    ensures { IfOk result (λ c. app_of c ≡ market_app) }
+/// The option `--journal` as clap's.
+fn journal_arg<'a>(alloc: Global) -> Arg<'a>
+    ensures rule { rule_of result ≡ journal_rule }
+    ensures global { result.global ≡ false }
 {
-    let run = script_command(
+    Arg::new(alloc, "journal")
+        .long("journal")
+        .action(ArgAction::SetTrue)
+        .help("Writes the journal of the script's commands in place of the replies")
+}
+
+/// The subcommand `run`.
+fn run_command<'a>(alloc: Global) -> Result<Command<'a>, AllocError>
+    ensures { IfOk result (λ c. IsCommandOf c run_app) }
+{
+    script_command(
         alloc,
         "run",
         "Answers a script of commands, line by line",
         help::OF_RUN,
-    )?;
+    )?
+    .arg(journal_arg(alloc))
+}
+
+/// The program's command.
+fn market_command<'a>(alloc: Global) -> Result<Command<'a>, AllocError>
+    ensures { IfOk result (λ c. app_of c ≡ market_app) }
+{
+    let run = run_command(alloc)?;
     let explain = script_command(
         alloc,
         "explain",
@@ -161,6 +182,16 @@ fn market_options(matches: &ArgMatches<'_>) -> MarketOptions
     }
 }
 
+/// `--journal` is among matches that clap has passed.
+fn asks_journal(matches: &ArgMatches<'_>) -> bool
+    ensures { result ≡ asks_journal (rows_of (found_of matches.now)) }
+{
+    let Some(word) = matches.get_str("journal") else {
+        return false;
+    };
+    word == "true"
+}
+
 /// The choice of a subcommand that clap has passed.
 fn choice_of(name: &str, matches: &ArgMatches<'_>) -> Choice
     requires { NamesSubcommand (name.now, rows_of (found_of matches.now)) }
@@ -168,6 +199,7 @@ fn choice_of(name: &str, matches: &ArgMatches<'_>) -> Choice
 {
     let options = market_options(matches);
     match name {
+        "run" if asks_journal(matches) => Choice::Journal(options),
         "run" => Choice::Run(options),
         "explain" => Choice::Explain(options),
         _ => unreachable!(),

@@ -33,6 +33,10 @@ fn options_are_read_or_default(rt: HostRuntime) {
         levels: 8,
     };
     assert_eq!(&rt; choice, Choice::Run(most));
+    let Ok(choice) = read_words(rt.alloc(), &["market", "run", "--journal"]) else {
+        panic!(&rt; "refused");
+    };
+    assert_eq!(&rt; choice, Choice::Journal(plain));
     let Ok(choice) = read_words(rt.alloc(), &["market", "explain", "--base", "3"]) else {
         panic!(&rt; "refused");
     };
