@@ -10,8 +10,11 @@ ghost use Rattle.market_types.specs.State.{Claim};
 use market_types::Fault;
 use std::marker::Model;
 
-/// The most slots that an arena can have, and the most enqueued work that it can count.
-const MOST: u32 = 65535;
+/// The most slots that an arena can have.
+const MOST_SLOTS: u32 = 65535;
+
+/// The most enqueued work that an arena can count.
+const MOST_MANDATORY: u32 = 65535;
 
 /// The slots of an arena, and the running totals of its requests.
 #[derive(Clone, Copy, Debug, PartialEq, Eq)]
@@ -115,7 +118,7 @@ impl ArenaRecord {
         if count < 0 {
             return Err(Fault::MandatoryRange);
         }
-        if count > i64::from(MOST) {
+        if count > i64::from(MOST_MANDATORY) {
             return Err(Fault::MandatoryRange);
         }
         self.wanted = wanted;
@@ -142,7 +145,7 @@ fn check_slots(slots: u32, reserved: u32) -> Result<(), Fault>
     ensures ok { OnOk result ((c : Claim) → sized slots reserved c ≡ Ok c) }
     ensures fault { IfErr result (λ fault. (c : Claim) → sized slots reserved c ≡ Err fault) }
 {
-    if slots == 0 || slots > MOST {
+    if slots == 0 || slots > MOST_SLOTS {
         return Err(Fault::BadSlots);
     }
     if reserved > slots {

@@ -13,10 +13,10 @@ use std::alloc::{AllocError, Global};
 use std::marker::Model;
 
 /// The most controls that live at once.
-const MOST: usize = 256;
+const MOST_CONTROLS: usize = 256;
 
 /// The last number that a control gets.
-const LAST: u32 = 1_048_576;
+const LAST_NUMBER: u32 = 1_048_576;
 
 /// The controls that live, oldest first, and the number of the next.
 #[derive(Debug, Drop)]
@@ -66,10 +66,10 @@ impl ControlSet {
         if value == 0 || value > 65536 {
             return Ok(Err(Fault::BadValue));
         }
-        if self.controls.len() >= MOST {
+        if self.controls.len() >= MOST_CONTROLS {
             return Ok(Err(Fault::TooManyControls));
         }
-        if self.next > LAST {
+        if self.next > LAST_NUMBER {
             return Ok(Err(Fault::OutOfNumbers));
         }
         let id = ControlId::new(self.next);

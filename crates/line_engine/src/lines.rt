@@ -16,7 +16,7 @@ use memchr::memchr;
 use std::alloc::{AllocError, Global};
 
 /// Replies of so many bytes are handed over in the middle of a piece.
-const MUCH: usize = 65_536;
+const MOST_WAITING: usize = 65_536;
 
 /// The first line of a text, without its LF, and what follows it.
 fn cut_line(text: &[u8]) -> Option<(&[u8], &[u8])>
@@ -146,7 +146,7 @@ impl<A: LineTaker> Lines<A> {
         let mut rest = piece;
         while let Some((line, more)) = cut_line(rest) {
             self.end_line(line)?;
-            if self.answering.replies.len() >= MUCH {
+            if self.answering.replies.len() >= MOST_WAITING {
                 self.answering.hand_over(sink)?;
             }
             rest = more;

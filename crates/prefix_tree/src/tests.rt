@@ -29,7 +29,7 @@ fn insert(tree: &mut Tree, alloc: Global, row: Row) -> Result<bool, AllocError>
         tree.put_node(taken, row.stamp);
         return Ok(false);
     }
-    if tree.len() >= Tree::MOST {
+    if tree.len() >= Tree::MOST_ROWS {
         return Ok(false);
     }
     tree.insert(alloc, row)?;
@@ -74,7 +74,7 @@ fn visits_few_nodes_of_a_full_tree(rt: HostRuntime) -> Result<(), Fail> {
     for stamp in 2..=1024u32 {
         assert!(rt; insert(&mut tree, rt.alloc(), row(stamp, 65535, false))?);
     }
-    assert_eq!(rt; tree.len(), Tree::MOST);
+    assert_eq!(rt; tree.len(), Tree::MOST_ROWS);
     assert_eq!(rt; tree.total(), 1024 * 65535);
     for stamp in 1..=1024u32 {
         let (before, visits) = tree.sum_before(stamp);
@@ -165,7 +165,7 @@ impl Pair {
         let (other, _visits) = self.tree.take_node(new);
         if let Some(other) = other {
             self.tree.put_node(other, new);
-        } else if self.tree.len() < Tree::MOST {
+        } else if self.tree.len() < Tree::MOST_ROWS {
             self.tree.put_node(taken, new);
             self.list.push(Row { stamp: new, ..old })?;
         }

@@ -13,7 +13,7 @@ use std::alloc::{AllocError, Global};
 use std::marker::Model;
 use std::mem;
 
-/// Rows by descending stamp, at most [`Tree::MOST`] of them, each with a request of at most 65,535. Contracts see it
+/// Rows by descending stamp, at most [`Tree::MOST_ROWS`] of them, each with a request of at most 65,535. Contracts see it
 /// as the list of its rows, newest first.
 ///
 /// A call on `n` rows enters at most twice as many nodes as `n` has binary digits, and one more where it puts a row
@@ -37,11 +37,11 @@ impl Model for Tree {
     ghost invariant = { λ a. IsTree a.root };
 }
 
-const _: () = prove!(Tree::MOST == 1024);
+const _: () = prove!(Tree::MOST_ROWS == 1024);
 
 impl Tree {
     /// The most rows that a tree holds.
-    pub const MOST: usize = 1024;
+    pub const MOST_ROWS: usize = 1024;
 
     /// A tree with no rows, which takes no memory.
     pub fn new() -> Tree

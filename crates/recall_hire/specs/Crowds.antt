@@ -9,9 +9,9 @@ use Rattle.recall_hire.specs.Slots.{seats_in, in_slot}
 abbrev pub one_if : Bool → ℕ
 one_if b = if b then 1 else 0
 
--- the arena of the crowd at a place
+-- the arena of the crowd at an index
 abbrev pub arena_at : ℕ → List Crowd → Option ℕ
-arena_at place crowds = slice_get (map (λ (c : Crowd). c.arena) crowds) place
+arena_at index crowds = slice_get (map (λ (c : Crowd). c.arena) crowds) index
 
 -- how many seats are at an arena
 abbrev pub size_at : ℕ → List Crowd → ℕ

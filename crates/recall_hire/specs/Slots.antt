@@ -2,7 +2,7 @@
 use Rattle.std.specs.Prelude.{ℕ, ◌%◌, ◌==◌, Bool, false, List, Option, Some, None, slice_index_or}
 use Rattle.recall_hire.specs.declared.slots.Slot.{Slot}
 
--- the seats of the slot at a place
+-- the seats of the slot at an index
 abbrev pub seats_in : ℕ → List Slot → ℕ
 seats_in i slots = (slice_index_or slots i (record { seats = 0; hint = 0 })).seats
 

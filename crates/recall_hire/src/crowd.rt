@@ -15,11 +15,11 @@ pub struct Crowd {
     pub size: u32,
 }
 
-/// The place of an arena's crowd, if it has one. Looks at no crowd where the arena's slot has no seats, at one where the
+/// The index of an arena's crowd, if it has one. Looks at no crowd where the arena's slot has no seats, at one where the
 /// slot's hint is right, and else at all of them.
-fn place_of(crowds: &[Crowd], slot: Slot, arena: ArenaId) -> Option<usize>
+fn index_of(crowds: &[Crowd], slot: Slot, arena: ArenaId) -> Option<usize>
     requires counted { size_at arena crowds.now ≤ slot.seats }
-    ensures here { IfSome result (λ place. arena_at place crowds.now ≡ Some arena) }
+    ensures here { IfSome result (λ index. arena_at index crowds.now ≡ Some arena) }
     ensures nowhere { IfNone result (size_at arena crowds.now ≡ 0) }
 {
     if slot.seats == 0 {
@@ -32,14 +32,14 @@ fn place_of(crowds: &[Crowd], slot: Slot, arena: ArenaId) -> Option<usize>
     }
 }
 
-/// The place of an arena's crowd, if it has one, by a look at each crowd.
+/// The index of an arena's crowd, if it has one, by a look at each crowd.
 fn search(crowds: &[Crowd], arena: ArenaId) -> Option<usize>
-    ensures here { IfSome result (λ place. arena_at place crowds.now ≡ Some arena) }
+    ensures here { IfSome result (λ index. arena_at index crowds.now ≡ Some arena) }
     ensures nowhere { IfNone result (size_at arena crowds.now ≡ 0) }
 {
-    for place in 0..crowds.len() {
-        if crowds[place].arena == arena {
-            return Some(place);
+    for index in 0..crowds.len() {
+        if crowds[index].arena == arena {
+            return Some(index);
         }
     }
     None
@@ -51,8 +51,8 @@ pub fn size_of(crowds: &[Crowd], slot: Slot, arena: ArenaId) -> u32
     requires counted { size_at arena crowds.now ≤ slot.seats }
     ensures { result ≡ size_at arena crowds.now }
 {
-    match place_of(crowds, slot, arena) {
-        Some(place) => crowds[place].size,
+    match index_of(crowds, slot, arena) {
+        Some(index) => crowds[index].size,
         None => 0,
     }
 }
@@ -69,8 +69,8 @@ pub fn grow(crowds: &mut Vec<Crowd>, slots: &mut SlotTable, arena: ArenaId)
     ensures capacity { vec_capacity crowds.new ≡ vec_capacity crowds.old }
     ensures slots { (i : ℕ) → seats_in i slots.new ≡ seats_in i slots.old }
 {
-    match place_of(crowds, slots.slot_of(arena), arena) {
-        Some(place) => crowds[place].size += 1,
+    match index_of(crowds, slots.slot_of(arena), arena) {
+        Some(index) => crowds[index].size += 1,
         None => {
             slots.point(arena, crowds.len() as u8);
             crowds.push_reserved(Crowd { arena, size: 1 });
@@ -90,22 +90,22 @@ pub fn shrink(crowds: &mut Vec<Crowd>, slots: &mut SlotTable, arena: ArenaId)
     ensures capacity { vec_capacity crowds.new ≡ vec_capacity crowds.old }
     ensures slots { (i : ℕ) → seats_in i slots.new ≡ seats_in i slots.old }
 {
-    if let Some(place) = place_of(crowds, slots.slot_of(arena), arena) {
-        if crowds[place].size > 1 {
-            crowds[place].size -= 1;
+    if let Some(index) = index_of(crowds, slots.slot_of(arena), arena) {
+        if crowds[index].size > 1 {
+            crowds[index].size -= 1;
         } else {
-            crowds.swap_remove(place);
-            point_at(slots, crowds, place);
+            crowds.swap_remove(index);
+            point_at(slots, crowds, index);
         }
     }
 }
 
-/// Notes where the crowd at a place stands, if there is one.
-fn point_at(slots: &mut SlotTable, crowds: &[Crowd], place: usize)
+/// Notes where the crowd at an index stands, if there is one.
+fn point_at(slots: &mut SlotTable, crowds: &[Crowd], index: usize)
     requires few { length crowds.now ≤ 64 }
     ensures slots { (i : ℕ) → seats_in i slots.new ≡ seats_in i slots.old }
 {
-    if let Some(crowd) = crowds.get(place) {
-        slots.point(crowd.arena, place as u8);
+    if let Some(crowd) = crowds.get(index) {
+        slots.point(crowd.arena, index as u8);
     }
 }

@@ -69,8 +69,8 @@ impl Roster {
         requires unplaced { slice_get self.old seat ≡ Some None }
         ensures placed { self.new ≡ slice_set self.old seat (Some arena) }
     {
-        let place = usize::from(seat.get());
-        self.seats[place] = Some(arena);
+        let index = usize::from(seat.get());
+        self.seats[index] = Some(arena);
         self.placed += 1;
         grow(&mut self.crowds, &mut self.slots, arena);
         self.slots.add(arena);
@@ -82,10 +82,10 @@ impl Roster {
         ensures was { slice_get self.old seat ≡ Some result }
         ensures unplaced { self.new ≡ slice_set self.old seat None }
     {
-        let place = usize::from(seat.get());
-        let was = self.seats[place];
+        let index = usize::from(seat.get());
+        let was = self.seats[index];
         if let Some(arena) = was {
-            self.seats[place] = None;
+            self.seats[index] = None;
             self.placed -= 1;
             shrink(&mut self.crowds, &mut self.slots, arena);
             self.slots.remove(arena);

@@ -5,5 +5,5 @@ use Rattle.recall_hire.proofs.crowd.size_of.Goals as goal
 
 pub returns-in-Some : goal.returns-in-Some
 returns-in-Some c =
-    ap (λ (x : Crowd). x.size) (sym c.index-crowds-place.is)
-    ∙ size-here c.args.crowds.now c.in-Some.place c.args.arena c.index-crowds-place.result c.requires.kept c.in-Some.ensures.here c.index-crowds-place.is
+    ap (λ (x : Crowd). x.size) (sym c.index-crowds-index.is)
+    ∙ size-here c.args.crowds.now c.in-Some.index c.args.arena c.index-crowds-index.result c.requires.kept c.in-Some.ensures.here c.index-crowds-index.is

@@ -27,20 +27,20 @@ grow-requires-clause-few c =
 pub invariant_of-self : goal.invariant_of-self
 invariant_of-self c =
     let seats = c.self.inside.seats.items in
-    let k : c.from-place.result ≡ c.args.seat = omega arith in
-    let unplaced : slice_get seats c.from-place.result ≡ Some None = rw (k, c.self.view_is) c.requires.unplaced in
+    let k : c.from-index.result ≡ c.args.seat = omega arith in
+    let unplaced : slice_get seats c.from-index.result ≡ Some None = rw (k, c.self.view_is) c.requires.unplaced in
     record {
       placed_is =
-          let counts : count_by is_some (set seats c.from-place.result (Some c.args.arena)) + 0 ≡ count_by is_some seats + 1 = count-set is_some seats c.from-place.result None (Some c.args.arena) unplaced in
+          let counts : count_by is_some (set seats c.from-index.result (Some c.args.arena)) + 0 ≡ count_by is_some seats + 1 = count-set is_some seats c.from-index.result None (Some c.args.arena) unplaced in
           omega (arith, c.self.invariant.placed_is);
       table = c.grow.ensures.kept;
       sizes = λ a.
-          let counts : count_by (is_just a) (set seats c.from-place.result (Some c.args.arena)) + 0 ≡ count_by (is_just a) seats + one_if (eqb c.args.arena a) = count-set (is_just a) seats c.from-place.result None (Some c.args.arena) unplaced in
+          let counts : count_by (is_just a) (set seats c.from-index.result (Some c.args.arena)) + 0 ≡ count_by (is_just a) seats + one_if (eqb c.args.arena a) = count-set (is_just a) seats c.from-index.result None (Some c.args.arena) unplaced in
           omega (arith, c.grow.ensures.sizes a, c.self.invariant.sizes a);
       total = omega (arith, c.grow.ensures.total, c.self.invariant.total);
-      room = omega (arith, length-set seats c.from-place.result (Some c.args.arena), c.grow.ensures.capacity, c.self.invariant.room);
-      few = omega (arith, length-set seats c.from-place.result (Some c.args.arena), c.self.invariant.few);
+      room = omega (arith, length-set seats c.from-index.result (Some c.args.arena), c.grow.ensures.capacity, c.self.invariant.room);
+      few = omega (arith, length-set seats c.from-index.result (Some c.args.arena), c.self.invariant.few);
       slotted = λ i.
-          let counts : count_by (in_slot i) (set seats c.from-place.result (Some c.args.arena)) + 0 ≡ count_by (in_slot i) seats + one_if (eqb (c.args.arena % 1024) i) = count-set (in_slot i) seats c.from-place.result None (Some c.args.arena) unplaced in
+          let counts : count_by (in_slot i) (set seats c.from-index.result (Some c.args.arena)) + 0 ≡ count_by (in_slot i) seats + one_if (eqb (c.args.arena % 1024) i) = count-set (in_slot i) seats c.from-index.result None (Some c.args.arena) unplaced in
           omega (arith, c.add.ensures.seats i, c.grow.ensures.slots i, c.self.invariant.slotted i);
     }
