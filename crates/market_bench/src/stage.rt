@@ -171,7 +171,7 @@ impl Stage {
     {
         let mixed = turn.wrapping_mul(0x9E37_79B9_7F4A_7C15);
         let mixed = (mixed ^ (mixed >> 29)).wrapping_mul(0xBF58_476D_1CE4_E5B9);
-        let index = (mixed ^ (mixed >> 32)) % u64::from(self.arenas);
-        ArenaId::new(index as u32 + 1)
+        let place = (mixed ^ (mixed >> 32)) % u64::from(self.arenas);
+        ArenaId::new(place as u32 + 1)
     }
 }
