@@ -9,7 +9,7 @@ ghost use Rattle.journal_replay.specs.Written.{IsReadBack};
 ghost use Rattle.journal_replay.specs.Verdicts.{most_entries, verdict};
 
 use crate::law::{legal_journals_tell_legal_histories, written_lines_are_short};
-use crate::line::{entry_line, header_line};
+use crate::line::{blank_entry, entry_line, header_line};
 use crate::verdict::Verdict;
 use byte_devices::{OutFault, Sink, put_all};
 use edit_history::Chronicle;
@@ -20,10 +20,10 @@ use std::alloc::{AllocError, Global};
 const PIECE: usize = 65_536;
 
 /// Puts a line and its LF at the end of what waits.
-fn push_line(waiting: &mut Vec<u8>, line: &str) -> Result<(), AllocError>
+fn push_line(waiting: &mut Vec<u8>, line: &[u8]) -> Result<(), AllocError>
     ensures { OnOk result (waiting.new.items ≡ waiting.old.items ++ (line.now ++ codes "\n")) }
 {
-    waiting.extend_from_slice(line.as_bytes())?;
+    waiting.extend_from_slice(line)?;
     waiting.push(b'\n')?;
     Ok(())
 }
@@ -45,8 +45,9 @@ fn write_entries<W: Sink>(
     ensures cause { IfErr result (λ fault. IsOutFault fault (W.failed sink.new)) }
 {
     let levels = chronicle.market().levels();
+    let mut object = blank_entry(alloc)?;
     for index in 0..chronicle.len() {
-        let line = entry_line(alloc, levels, chronicle.entry(index))?;
+        let line = entry_line(alloc, levels, chronicle.entry(index), &mut object)?;
         push_line(waiting, &line)?;
         if waiting.len() >= PIECE {
             put_all(sink, waiting)?;

@@ -1,4 +1,4 @@
-use Rattle.std.specs.Prelude.{string_bytes}
+use Rattle.std.specs.Prelude.{IsUtf8}
 use Rattle.std.proofs.Common.{◌≡◌, ◌++◌, ◌+◌, codes, List, [], ℕ, take, ap, sym, subst, ◌∙◌, append_assoc}
 use Rattle.std.specs.Io.KnownBytes.{Appends}
 use Rattle.byte_devices.specs.Devices.{WritesFront}
@@ -12,7 +12,7 @@ use Rattle.journal_replay.proofs.journal.write_entries.Goals.{then-len-ge-PIECE+
 
 pub returns-in_err-line-clause-prefix : goal.returns-in_err-line-clause-prefix
 returns-in_err-line-clause-prefix g c =
-    at-err _ c.from_residual.result (front-of-whole _ _ c.loop-index.waiting.items c.args.waiting.now.items c.args.chronicle.now.start.levels c.loop-index.index c.args.chronicle.now.log c.loop-index.invariant.1)
+    at-err _ c.from_residual-in_err-line.result (front-of-whole _ _ c.loop-index.waiting.items c.args.waiting.now.items c.args.chronicle.now.start.levels c.loop-index.index c.args.chronicle.now.log c.loop-index.invariant.1)
 
 pub returns-in_err-push_line-clause-prefix : goal.returns-in_err-push_line-clause-prefix
 returns-in_err-push_line-clause-prefix g c =
@@ -25,7 +25,7 @@ returns-in_err-put_all-clause-prefix g c =
     let start : List ℕ = c.args.waiting.now.items in
     let e : Entry = c.entry.result.now in
     let its : c.levels-levels.result ≡ levels = c.levels-levels.ensures.exact ∙ c.market.ensures.numbers.levels in
-    let text : c.deref.result.now ≡ entry_line levels e = c.deref.ensures ∙ c.in_ok-line.ensures.text ∙ ap (λ n. entry_line n e) its in
+    let text : c.deref.result.now ≡ entry_line levels e = c.deref.ensures.value ∙ c.in_ok-line.ensures.text ∙ ap (λ n. entry_line n e) its in
     let more : c.push_line.new.waiting.items ≡ c.loop-index.waiting.items ++ (entry_line levels e ++ codes "\n") = c.in_ok-push_line.ensures ∙ ap (λ xs. c.loop-index.waiting.items ++ (xs ++ codes "\n")) text in
     let longer : start ++ entry_lines levels (take (c.loop-index.index + 1) log) ≡ (start ++ entry_lines levels (take c.loop-index.index log)) ++ (entry_line levels e ++ codes "\n") =
     ap (λ xs. start ++ xs) (lines-more levels c.loop-index.index log e c.entry.ensures.exact) ∙ sym (append_assoc start (entry_lines levels (take c.loop-index.index log)) (entry_line levels e ++ codes "\n")) in
@@ -40,12 +40,12 @@ loop-index-preserved g c =
     let start : List ℕ = c.args.waiting.now.items in
     let e : Entry = c.entry.result.now in
     let its : c.levels-levels.result ≡ levels = c.levels-levels.ensures.exact ∙ c.market.ensures.numbers.levels in
-    let text : c.deref.result.now ≡ entry_line levels e = c.deref.ensures ∙ c.in_ok-line.ensures.text ∙ ap (λ n. entry_line n e) its in
+    let text : c.deref.result.now ≡ entry_line levels e = c.deref.ensures.value ∙ c.in_ok-line.ensures.text ∙ ap (λ n. entry_line n e) its in
     let more : c.push_line.new.waiting.items ≡ c.loop-index.waiting.items ++ (entry_line levels e ++ codes "\n") = c.in_ok-push_line.ensures ∙ ap (λ xs. c.loop-index.waiting.items ++ (xs ++ codes "\n")) text in
     let longer : start ++ entry_lines levels (take (c.loop-index.index + 1) log) ≡ (start ++ entry_lines levels (take c.loop-index.index log)) ++ (entry_line levels e ++ codes "\n") =
     ap (λ xs. start ++ xs) (lines-more levels c.loop-index.index log e c.entry.ensures.exact) ∙ sym (append_assoc start (entry_lines levels (take c.loop-index.index log)) (entry_line levels e ++ codes "\n")) in
     let grown = fronts-more _ _ _ _ _ _ _ c.loop-index.invariant.1 more longer in
-    let back : IsReadBack levels e = read-back levels c.levels-levels.result e c.deref.result.now (string_bytes c.in_ok-line.line) c.deref.ensures text its c.deref.utf8 c.in_ok-line.ensures.reads_back in
+    let back : IsReadBack levels e = read-back levels c.levels-levels.result e c.deref.result.now c.in_ok-line.line.items c.deref.ensures.value text its (subst IsUtf8 (sym c.deref.ensures.value) c.in_ok-line.ensures.utf8) c.in_ok-line.ensures.reads_back in
     let backs = all-more (IsReadBack levels) log c.loop-index.index e c.entry.ensures.exact c.loop-index.invariant.2 back in
     elim c.if-len-ge-PIECE.branch [
       | then-len-ge-PIECE+in_ok-put_all w ↦
@@ -55,10 +55,12 @@ loop-index-preserved g c =
             ap g.W.Sink.failed w.sink-is ∙ w.in_ok-put_all.ensures.working ∙ c.loop-index.invariant.0,
             moved-fronts _ _ _ _ _ _ (ap g.W.Sink.taken w.sink-is) nothing (fronts-written _ _ _ _ _ grown all),
             backs,
+            c.in_ok-line.ensures.fields,
           )
       | else-len-ge-PIECE w ↦ (
         ap g.W.Sink.failed w.sink-is ∙ c.loop-index.invariant.0,
         moved-fronts _ _ _ _ _ _ (ap g.W.Sink.taken w.sink-is) (ap (λ v. v.items) w.waiting-is) grown,
         backs,
+        c.in_ok-line.ensures.fields,
       )
     ]

@@ -1,5 +1,5 @@
-use Rattle.std.specs.Prelude.{string_bytes}
-use Rattle.std.proofs.Common.{◌≡◌, ◌++◌, codes, length, ap, subst, ◌∙◌}
+use Rattle.std.specs.Prelude.{IsUtf8}
+use Rattle.std.proofs.Common.{◌≡◌, ◌++◌, codes, length, ap, sym, subst, ◌∙◌}
 use Rattle.std.specs.Io.KnownBytes.{Appends}
 use Rattle.byte_devices.specs.Devices.{WritesFront}
 use Rattle.journal_replay.specs.Journal.{header_line}
@@ -11,7 +11,7 @@ use Rattle.journal_replay.proofs.journal.write_journal.Goals as goal
 
 pub returns-in_err-put_all-clause-prefix : goal.returns-in_err-put_all-clause-prefix
 returns-in_err-put_all-clause-prefix g c =
-    let text : c.deref.result.now ≡ header_line c.market.result.now.base c.market.result.now.hard c.market.result.now.levels (length c.market.result.now.seats) = c.deref.ensures ∙ c.in_ok-header.ensures.text in
+    let text : c.deref.result.now ≡ header_line c.market.result.now.base c.market.result.now.hard c.market.result.now.levels (length c.market.result.now.seats) = c.deref.ensures.value ∙ c.in_ok-header.ensures.text in
     let waits : c.push_line.new.waiting.items ≡ c.deref.result.now ++ codes "\n" = c.in_ok-push_line.ensures ∙ ap (λ xs. xs ++ (c.deref.result.now ++ codes "\n")) c.new-waiting.ensures.items in
     let whole = header-is c.args.chronicle.now.start c.market.result.now c.args.chronicle.now.log c.deref.result.now c.push_line.new.waiting.items c.market.ensures.numbers text waits in
     at-err _ c.from_residual-in_err-put_all.result
@@ -20,7 +20,7 @@ returns-in_err-put_all-clause-prefix g c =
 
 pub returns-clause-all : goal.returns-clause-all
 returns-clause-all g c =
-    let text : c.deref.result.now ≡ header_line c.market.result.now.base c.market.result.now.hard c.market.result.now.levels (length c.market.result.now.seats) = c.deref.ensures ∙ c.in_ok-header.ensures.text in
+    let text : c.deref.result.now ≡ header_line c.market.result.now.base c.market.result.now.hard c.market.result.now.levels (length c.market.result.now.seats) = c.deref.ensures.value ∙ c.in_ok-header.ensures.text in
     let waits : c.push_line.new.waiting.items ≡ c.deref.result.now ++ codes "\n" = c.in_ok-push_line.ensures ∙ ap (λ xs. xs ++ (c.deref.result.now ++ codes "\n")) c.new-waiting.ensures.items in
     let whole = header-is c.args.chronicle.now.start c.market.result.now c.args.chronicle.now.log c.deref.result.now c.push_line.new.waiting.items c.market.ensures.numbers text waits in
     all-written _ _ _ _ _ _ whole c.in_ok-write_entries.ensures.all
@@ -31,9 +31,9 @@ returns-clause-legal g c =
     let start : State = c.args.chronicle.now.start in
     let s : State = c.market.result.now in
     let numbers = c.market.ensures.numbers in
-    let text : c.deref.result.now ≡ header_line s.base s.hard s.levels (length s.seats) = c.deref.ensures ∙ c.in_ok-header.ensures.text in
+    let text : c.deref.result.now ≡ header_line s.base s.hard s.levels (length s.seats) = c.deref.ensures.value ∙ c.in_ok-header.ensures.text in
     let shorts = c.written_lines_are_short.ensures start c.args.chronicle.now.log c.market.ensures.opened c.market.ensures.legal in
-    let header = header-back start s c.deref.result.now (string_bytes c.in_ok-header.header) numbers c.deref.ensures text c.deref.utf8 c.in_ok-header.ensures.reads_back in
+    let header = header-back start s c.deref.result.now c.in_ok-header.header.items numbers c.deref.ensures.value text (subst IsUtf8 (sym c.deref.ensures.value) c.in_ok-header.ensures.utf8) c.in_ok-header.ensures.reads_back in
     c.legal_journals_tell_legal_histories.ensures.legal _ _
     (journal-told start c.args.chronicle.now.log c.market.ensures.opened c.market.ensures.legal c.market.ensures.calls c.in_ok-write_entries.ensures.reads_back shorts header
     (λ cmd fits. c.texts_spell_commands.ensures.reads_back start.levels cmd fits) c.in_ok-write_entries.ensures.few)
