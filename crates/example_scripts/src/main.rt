@@ -1,29 +1,53 @@
-//! Answers the scripts of the folder `data`, and tells of each whether its replies are those that stand beside it.
+//! Works the scripts and the journals of the folder `data`, and tells of each whether what is written of it is what stands
+//! beside it.
 #![tactic(auto)]
 
 use anyhow::Result;
 use byte_devices::{TestSink, TestSource};
-use market_prog::run_script;
+use market_prog::{
+    ScriptTask, explain_script, run_journal, run_replay, run_script, status_of_replay,
+};
 use std::fs;
 
-/// Room for the replies to any of the scripts.
-const MOST_REPLIES: usize = 65_536;
+/// Room for what is written of any of the files.
+const MOST_WRITTEN: usize = 65_536;
 
-/// A script in `NAME.txt`, and its replies in `NAME.out`. The market has the usual hard limit and number of seats.
+/// A script in `NAME.txt`. The market has the usual hard limit and number of seats.
 #[derive(Clone, Copy)]
 struct Example {
-    name: &'static str,
     base: u32,
     levels: u32,
     /// How many of the script's lines are unread.
     unread: u64,
 }
 
-/// The scripts to a market of the usual numbers in which every line is read.
-const USUAL: [&str; 18] = [
+impl Example {
+    /// The script of this name.
+    fn named(name: &str) -> Self {
+        let usual = Example {
+            base: 8,
+            levels: 3,
+            unread: 0,
+        };
+        match name {
+            "a_high_arena_takes_a_worker" => Example { base: 3, ..usual },
+            "five_levels" => Example {
+                base: 4,
+                levels: 5,
+                unread: 2,
+            },
+            "unread_lines" => Example { unread: 2, ..usual },
+            _ => usual,
+        }
+    }
+}
+
+/// The scripts whose replies stand beside them, in `NAME.out`.
+const ANSWERED: [&str; 22] = [
     "nothing_to_do",
     "nobody_asks",
     "one_arena",
+    "one_arena_shown",
     "three_arenas_share_seven",
     "three_levels_in_order",
     "a_control_leaves_five",
@@ -39,65 +63,127 @@ const USUAL: [&str; 18] = [
     "numbers_out_of_range",
     "moved_down_and_closed",
     "resized_with_a_placed_seat",
+    "a_high_arena_takes_a_worker",
+    "five_levels",
+    "unread_lines",
 ];
 
-/// The other scripts.
-const OTHERS: [Example; 3] = [
-    Example {
-        name: "a_high_arena_takes_a_worker",
-        base: 3,
-        levels: 3,
-        unread: 0,
-    },
-    Example {
-        name: "five_levels",
-        base: 4,
-        levels: 5,
-        unread: 2,
-    },
-    Example {
-        name: "unread_lines",
-        base: 8,
-        levels: 3,
-        unread: 2,
-    },
+/// The scripts whose journals stand beside them, in `NAME.journal`.
+const RECORDED: [&str; 4] = [
+    "one_arena_shown",
+    "joins_and_a_recall",
+    "resized_with_a_placed_seat",
+    "five_levels",
 ];
 
-/// Answers the script, and tells whether it is answered as it should be.
-fn try_example(rt: &HostRuntime, example: Example) -> Result<()> {
+/// The scripts whose explanations stand beside them, in `NAME.explained`.
+const EXPLAINED: [&str; 4] = [
+    "nothing_to_do",
+    "a_control_leaves_five",
+    "enqueued_work_of_a_low_arena",
+    "resized_with_a_placed_seat",
+];
+
+/// The journals that are legal. The verdict of each stands beside it, in `NAME.verdict`.
+const LEGAL: [&str; 7] = [
+    "one_arena_shown",
+    "joins_and_a_recall",
+    "resized_with_a_placed_seat",
+    "five_levels",
+    "version_1",
+    "a_short_command",
+    "a_header_alone",
+];
+
+/// The journals that are not legal.
+const FAULTY: [&str; 11] = [
+    "a_reply_is_changed",
+    "an_unknown_command",
+    "a_seat_too_many",
+    "an_empty_line",
+    "version_3",
+    "a_line_is_missing",
+    "levels_in_version_1",
+    "no_levels_in_version_2",
+    "cut_in_a_line",
+    "a_header_without_its_end",
+    "no_line",
+];
+
+/// Tells whether a file holds what was written, and the work ended as it should.
+fn compare(rt: &HostRuntime, file: &str, written: &[u8], ended_well: bool) -> Result<()> {
+    let wanted = fs::read(rt, file)?;
+    let verdict = if ended_well && written == wanted.as_slice() {
+        "as written"
+    } else {
+        "otherwise"
+    };
+    println!(rt; "{file}: {verdict}")?;
+    Ok(())
+}
+
+/// Works the script, and tells whether what is written of it is as it should be.
+fn try_script(rt: &HostRuntime, task: ScriptTask, name: &str) -> Result<()> {
+    let Example {
+        base,
+        levels,
+        unread,
+    } = Example::named(name);
     let alloc = rt.alloc();
-    let name = example.name;
     let script = fs::read(rt, format!(in alloc; "{name}.txt")?)?;
-    let replies = fs::read(rt, format!(in alloc; "{name}.out")?)?;
-    let mut source = TestSource::new(&script);
-    let mut sink = TestSink::new(Vec::with_capacity(alloc, MOST_REPLIES)?);
-    let unread = run_script(
-        alloc,
-        example.base,
-        64,
-        4,
-        example.levels,
-        &mut source,
-        &mut sink,
-    );
-    let is_right = unread == Ok(example.unread) && sink.taken() == replies.as_slice();
-    let verdict = if is_right { "as written" } else { "otherwise" };
-    println!(rt; "{name}: {verdict}")?;
+    let source = &mut TestSource::new(&script);
+    let sink = &mut TestSink::new(Vec::with_capacity(alloc, MOST_WRITTEN)?);
+    let (outcome, ending) = match task {
+        ScriptTask::Answer => (run_script(alloc, base, 64, 4, levels, source, sink), "out"),
+        ScriptTask::Journal => (
+            run_journal(alloc, base, 64, 4, levels, source, sink),
+            "journal",
+        ),
+        ScriptTask::Explain => (
+            explain_script(alloc, base, 64, 4, levels, source, sink),
+            "explained",
+        ),
+    };
+    let file = format!(in alloc; "{name}.{ending}")?;
+    compare(rt, &file, sink.taken(), outcome == Ok(unread))
+}
+
+/// Replays the journal `NAME.journal`, and tells whether its verdict and its exit status are as they should be.
+fn try_journal(rt: &HostRuntime, name: &str, status: u8) -> Result<()> {
+    let alloc = rt.alloc();
+    let journal = fs::read(rt, format!(in alloc; "{name}.journal")?)?;
+    let mut source = TestSource::new(&journal);
+    let mut sink = TestSink::new(Vec::with_capacity(alloc, MOST_WRITTEN)?);
+    let outcome = run_replay(alloc, &mut source, &mut sink);
+    let file = format!(in alloc; "{name}.verdict")?;
+    compare(
+        rt,
+        &file,
+        sink.taken(),
+        status_of_replay(&outcome) == status,
+    )
+}
+
+/// Works the scripts, one after the other.
+fn try_scripts(rt: &HostRuntime, task: ScriptTask, names: &[&str]) -> Result<()> {
+    for name in names {
+        try_script(rt, task, name)?;
+    }
+    Ok(())
+}
+
+/// Replays the journals, one after the other.
+fn try_journals(rt: &HostRuntime, names: &[&str], status: u8) -> Result<()> {
+    for name in names {
+        try_journal(rt, name, status)?;
+    }
     Ok(())
 }
 
 fn main(rt: HostRuntime) -> Result<()> {
-    for name in USUAL {
-        let example = Example {
-            name,
-            base: 8,
-            levels: 3,
-            unread: 0,
-        };
-        try_example(&rt, example)?;
-    }
-    for example in OTHERS {
-        try_example(&rt, example)?;
-    }
-    Ok(())
+    try_scripts(&rt, ScriptTask::Answer, &ANSWERED)?;
+    try_scripts(&rt, ScriptTask::Journal, &RECORDED)?;
+    try_scripts(&rt, ScriptTask::Explain, &EXPLAINED)?;
+    try_journals(&rt, &LEGAL, 0)?;
+    try_journals(&rt, &FAULTY, 1)
 }

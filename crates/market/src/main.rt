@@ -5,8 +5,8 @@ use byte_devices::{ReadSource, WriteSink};
 use clap::Error;
 use clap::error::ErrorKind;
 use market_prog::{
-    Choice, MarketOptions, RunFault, explain_script, read_words, run_journal, run_script,
-    status_of_run,
+    Choice, MarketOptions, RunFault, ScriptTask, explain_script, read_words, run_journal,
+    run_replay, run_script, status_of_replay, status_of_run,
 };
 use std::fmt::Display;
 use std::process::ExitCode;
@@ -25,79 +25,41 @@ fn fail<T: Display + Drop>(rt: &HostRuntime, why: T, status: u8) -> u8 {
     status
 }
 
-/// Answers the script on standard input.
-fn run(rt: &HostRuntime, options: MarketOptions) -> u8 {
-    let MarketOptions {
-        base,
-        hard,
-        seats,
-        levels,
-    } = options;
-    let mut input = ReadSource::new(rt.stdin());
-    let mut output = WriteSink::new(rt.stdout());
-    let outcome = run_script(
-        rt.alloc(),
-        base,
-        hard,
-        seats,
-        levels,
-        &mut input,
-        &mut output,
-    );
-    finish(rt, outcome)
-}
-
-/// Writes the journal of the script on standard input.
-fn journal(rt: &HostRuntime, options: MarketOptions) -> u8 {
-    let MarketOptions {
-        base,
-        hard,
-        seats,
-        levels,
-    } = options;
-    let mut input = ReadSource::new(rt.stdin());
-    let mut output = WriteSink::new(rt.stdout());
-    let outcome = run_journal(
-        rt.alloc(),
-        base,
-        hard,
-        seats,
-        levels,
-        &mut input,
-        &mut output,
-    );
-    finish(rt, outcome)
-}
-
-/// Explains the market that the script on standard input leads to.
-fn explain(rt: &HostRuntime, options: MarketOptions) -> u8 {
-    let MarketOptions {
-        base,
-        hard,
-        seats,
-        levels,
-    } = options;
-    let mut input = ReadSource::new(rt.stdin());
-    let mut output = WriteSink::new(rt.stdout());
-    let outcome = explain_script(
-        rt.alloc(),
-        base,
-        hard,
-        seats,
-        levels,
-        &mut input,
-        &mut output,
-    );
-    finish(rt, outcome)
-}
-
-/// Tells the fault of a run, if there is one, and gives its status.
-fn finish(rt: &HostRuntime, outcome: Result<u64, RunFault>) -> u8 {
-    let status = status_of_run(&outcome);
+/// Tells the fault, if there is one, of what ends with this status.
+fn finish<T: Drop>(rt: &HostRuntime, outcome: Result<T, RunFault>, status: u8) -> u8 {
     match outcome {
         Ok(_) => status,
         Err(fault) => fail(rt, fault, status),
     }
+}
+
+/// Writes what was chosen of the script on standard input.
+fn work_script(rt: &HostRuntime, task: ScriptTask, options: MarketOptions) -> u8 {
+    let MarketOptions {
+        base,
+        hard,
+        seats,
+        levels,
+    } = options;
+    let alloc = rt.alloc();
+    let input = &mut ReadSource::new(rt.stdin());
+    let output = &mut WriteSink::new(rt.stdout());
+    let outcome = match task {
+        ScriptTask::Answer => run_script(alloc, base, hard, seats, levels, input, output),
+        ScriptTask::Journal => run_journal(alloc, base, hard, seats, levels, input, output),
+        ScriptTask::Explain => explain_script(alloc, base, hard, seats, levels, input, output),
+    };
+    let status = status_of_run(&outcome);
+    finish(rt, outcome, status)
+}
+
+/// Replays the journal on standard input.
+fn replay(rt: &HostRuntime) -> u8 {
+    let mut input = ReadSource::new(rt.stdin());
+    let mut output = WriteSink::new(rt.stdout());
+    let outcome = run_replay(rt.alloc(), &mut input, &mut output);
+    let status = status_of_replay(&outcome);
+    finish(rt, outcome, status)
 }
 
 /// Prints the help that was asked for, or what is wrong with the words.
@@ -122,9 +84,8 @@ fn obey(rt: &HostRuntime, words: &[String]) -> u8 {
         return fail(rt, "memory", SYSTEM_FAULT);
     };
     match read_words(rt.alloc(), &texts) {
-        Ok(Choice::Run(options)) => run(rt, options),
-        Ok(Choice::Journal(options)) => journal(rt, options),
-        Ok(Choice::Explain(options)) => explain(rt, options),
+        Ok(Choice::Script(task, options)) => work_script(rt, task, options),
+        Ok(Choice::Replay) => replay(rt),
         Err(error) => print_help(rt, &error),
     }
 }

@@ -1,4 +1,4 @@
--- Words that clap takes name the subcommand `run` or `explain`, with a number for each of its options.
+-- Words that clap takes name the subcommand `run` or `explain`, with a number for each of its options, or `replay`.
 use Rattle.std.proofs.Common.{◌≡◌, ◌∙◌, ◌&&◌, ◌||◌, cond, not, ℕ, Bool, true, false, refl, sym, subst, List, [], ◌∷◌, Option, Some, None, is_some, option_map, inl, inr, true≢false, codes, pos, bytes_eq, drop, find, fold, slice_get}
 use Rattle.std.specs.List.{list_any}
 use Rattle.std.specs.Option.{option_map_or}
@@ -118,6 +118,9 @@ run = first_shape market.subs
 abbrev explain : Shape
 explain = first_shape (drop 1 market.subs)
 
+abbrev replay : Shape
+replay = first_shape (drop 2 market.subs)
+
 other : {X : Type 0} → false ≡ true → X
 other e = absurd (true≢false (sym e))
 
@@ -210,22 +213,26 @@ not_help name e = go (bytes_eq (codes "help") name) refl
 enters_one : (stop : Option (Text × List Text)) → NoHelp stop → is_some (entered market stop) ≡ true → entered_fault market stop ≡ []
     → (found : Text × List Row) × (entered market stop ≡ Some found) × NamesSubcommand found
 enters_one None no_help some e = absurd (true≢false (sym some))
-enters_one (Some p) no_help some e = go (bytes_eq (codes "run") p.0) (bytes_eq (codes "explain") p.0) (bytes_eq (codes "help") p.0) (not_help p.0 no_help) some e
+enters_one (Some p) no_help some e =
+    go (bytes_eq (codes "run") p.0) (bytes_eq (codes "explain") p.0) (bytes_eq (codes "replay") p.0) (bytes_eq (codes "help") p.0) (not_help p.0 no_help) some e
   where
-    shape : Shape
-    shape = first_shape (drop 2 market.subs)
+    help : Shape
+    help = first_shape (drop 3 market.subs)
 
-    met : Bool → Bool → Bool → Option Shape
-    met is_run is_explain is_help =
-        cond (is_run || false) (Some run) (cond (is_explain || false) (Some explain) (cond (is_help || false) (Some shape) None))
+    met : Bool → Bool → Bool → Bool → Option Shape
+    met is_run is_explain is_replay is_help =
+        cond (is_run || false) (Some run) (cond (is_explain || false) (Some explain) (cond (is_replay || false) (Some replay) (cond (is_help || false) (Some help) None)))
 
-    go : (is_run is_explain is_help : Bool) → is_help ≡ false → is_some (option_map (λ s. rows_at s p.1) (met is_run is_explain is_help)) ≡ true
-        → option_map_or (λ s. level_fault s [] nothing_held p.1 false []) (met is_run is_explain is_help) [] ≡ []
-        → (found : Text × List Row) × (option_map (λ s. rows_at s p.1) (met is_run is_explain is_help) ≡ Some found) × NamesSubcommand found
-    go true is_explain is_help none has free = (rows_at run p.1, refl, record { name = inl refl; numbers = numbers run run_rules refl p.1 free })
-    go false true is_help none has free = (rows_at explain p.1, refl, record { name = inr refl; numbers = numbers explain explain_rules refl p.1 free })
-    go false false false none has free = absurd (true≢false (sym has))
-    go false false true none has free = absurd (true≢false none)
+    go : (is_run is_explain is_replay is_help : Bool) → is_help ≡ false → is_some (option_map (λ s. rows_at s p.1) (met is_run is_explain is_replay is_help)) ≡ true
+        → option_map_or (λ s. level_fault s [] nothing_held p.1 false []) (met is_run is_explain is_replay is_help) [] ≡ []
+        → (found : Text × List Row) × (option_map (λ s. rows_at s p.1) (met is_run is_explain is_replay is_help) ≡ Some found) × NamesSubcommand found
+    go true is_explain is_replay is_help none has free =
+        (rows_at run p.1, refl, inl (record { name = inl refl; numbers = numbers run run_rules refl p.1 free }))
+    go false true is_replay is_help none has free =
+        (rows_at explain p.1, refl, inl (record { name = inr refl; numbers = numbers explain explain_rules refl p.1 free }))
+    go false false true is_help none has free = (rows_at replay p.1, refl, inr refl)
+    go false false false false none has free = absurd (true≢false (sym has))
+    go false false false true none has free = absurd (true≢false none)
 
 -- where clap finds no fault the words name a subcommand
 pub entered_one : (words : List Text) → fault_of market_app words ≡ []

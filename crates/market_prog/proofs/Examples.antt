@@ -57,6 +57,13 @@ explain_has_the_same_options : (chosen (line (codes "explain" ∷ [])) ≡ Some 
 unfolding clap_on_literals
 explain_has_the_same_options = (refl, refl, refl, refl)
 
+replay_has_no_options : (chosen (line (codes "replay" ∷ [])) ≡ Some (codes "replay")) × (fault (line (codes "replay" ∷ [])) ≡ [])
+    × (fault (line (codes "replay" ∷ codes "--base=8" ∷ [])) ≡ UnknownArgument ∷ [])
+    × (fault (line (codes "replay" ∷ codes "--journal" ∷ [])) ≡ UnknownArgument ∷ [])
+    × (fault (line (codes "replay" ∷ codes "first.journal" ∷ [])) ≡ UnknownArgument ∷ [])
+unfolding clap_on_literals
+replay_has_no_options = (refl, refl, refl, refl, refl)
+
 no_subcommand : (fault (line []) ≡ DisplayHelpOnMissingArgumentOrSubcommand ∷ []) × (fault (line (codes "fly" ∷ [])) ≡ UnknownArgument ∷ InvalidSubcommand ∷ [])
 unfolding clap_on_literals
 no_subcommand = (refl, refl)

@@ -16,6 +16,10 @@ pub record HasMarketNumbers (rows : List Row) : Type 0 where
   pub levels : HasNumber (codes "levels") 8 rows
 
 -- clap's subcommand is `run` or `explain`, with the numbers of its options
-pub record NamesSubcommand (found : Text × List Row) : Type 0 where
+pub record NamesScript (found : Text × List Row) : Type 0 where
   pub name : (found.0 ≡ codes "run") ⊎ (found.0 ≡ codes "explain")
   pub numbers : HasMarketNumbers found.1
+
+-- that, or `replay`
+abbrev pub NamesSubcommand : Text × List Row → Type 0
+NamesSubcommand found = NamesScript found ⊎ (found.0 ≡ codes "replay")

@@ -6,7 +6,9 @@ use Rattle.clap.specs.Words.{App, Row, Rule, Text, first_of, new_app, new_rule, 
 use Rattle.clap.specs.declared.builder.ArgAction.TheVariants.{Set, SetTrue}
 use Rattle.clap.specs.declared.builder.value_parser.ValueParser.TheVariants.{Signed}
 use Rattle.market_prog.specs.declared.words.Choice.{Choice}
-use Rattle.market_prog.specs.declared.words.Choice.TheVariants.{Run, Journal, Explain}
+use Rattle.market_prog.specs.declared.words.Choice.TheVariants.{Script, Replay}
+use Rattle.market_prog.specs.declared.words.ScriptTask.{ScriptTask}
+use Rattle.market_prog.specs.declared.words.ScriptTask.TheVariants.{Answer, Journal, Explain}
 use Rattle.market_prog.specs.declared.words.MarketOptions.{MarketOptions}
 
 -- the option `--name` with a number from 1 to high
@@ -35,6 +37,10 @@ journal_rule = record (new_rule (codes "journal")) { long = Some (codes "journal
 abbrev pub run_app : App
 run_app = with_rule (script_app (codes "run")) journal_rule
 
+-- the subcommand `replay`, which has no options
+abbrev pub replay_app : App
+replay_app = new_app (codes "replay")
+
 -- a command that tells its version, and is nothing without a subcommand
 abbrev pub with_choice_asked : App → App
 with_choice_asked a =
@@ -42,9 +48,10 @@ with_choice_asked a =
 
 -- the program's command
 abbrev pub market_app : App
-market_app = with_subcommand (with_subcommand (with_choice_asked (new_app (codes "market")))
+market_app = with_subcommand (with_subcommand (with_subcommand (with_choice_asked (new_app (codes "market")))
     run_app.top)
-    (script_app (codes "explain")).top
+    (script_app (codes "explain")).top)
+    replay_app.top
 
 -- n, from 1 to high, is the number that the option's word spells in these matches
 pub record IsNumberOf (name : Text) (high : ℕ) (rows : List Row) (n : ℕ) : Type 0 where
@@ -65,11 +72,16 @@ pub record IsMarketOf (rows : List Row) (options : MarketOptions) : Type 0 where
 abbrev pub asks_journal : List Row → Bool
 asks_journal rows = option_map_or (λ word. bytes_eq word (codes "true")) (first_of (codes "journal") rows) false
 
+-- the task is that of the named subcommand with these matches
+abbrev pub IsTaskOf : Text × List Row → ScriptTask → Type 0
+IsTaskOf found Answer = (found.0 ≡ codes "run") × (asks_journal found.1 ≡ false)
+IsTaskOf found Journal = (found.0 ≡ codes "run") × (asks_journal found.1 ≡ true)
+IsTaskOf found Explain = found.0 ≡ codes "explain"
+
 -- the choice is the named subcommand with these matches
 abbrev pub IsChoiceOf : Text × List Row → Choice → Type 0
-IsChoiceOf found (Run options) = (found.0 ≡ codes "run") × (asks_journal found.1 ≡ false) × IsMarketOf found.1 options
-IsChoiceOf found (Journal options) = (found.0 ≡ codes "run") × (asks_journal found.1 ≡ true) × IsMarketOf found.1 options
-IsChoiceOf found (Explain options) = (found.0 ≡ codes "explain") × IsMarketOf found.1 options
+IsChoiceOf found (Script task options) = IsTaskOf found task × IsMarketOf found.1 options
+IsChoiceOf found Replay = found.0 ≡ codes "replay"
 
 -- the choice is that of clap's subcommand for the words, with its matches
 pub record Chooses (words : List Text) (choice : Choice) : Type 0 where

@@ -4,7 +4,8 @@
 pub(crate) const OF_MARKET: &str = "\
 `market run` reads script lines from standard input, and answers each by a reply line on standard
 output. `market run --help` tells the commands. `market explain` reads the same lines, and writes
-how the workers of the market that they lead to are divided.
+how the workers of the market that they lead to are divided. `market replay` reads the journal that
+`market run --journal` writes of them, and tells whether each reply in it is the one that is due.
 
 Example:
   $ printf '0 open 8 1 normal\\n0 request 1 3\\n' | market run
@@ -13,9 +14,10 @@ Example:
 
 Exit status:
   0  done, or help or the version was asked for
-  1  a line was unread
+  1  a line was unread, or a journal is not legal
   2  a bad command line, or a fault at opening
-  3  a read, write, memory or length fault; its text is on standard error";
+  3  a read, write, memory or length fault, or more than 1,048,576 commands for a journal; its
+     text is on standard error";
 
 /// At the end of `market run --help`.
 pub(crate) const OF_RUN: &str = "\
@@ -58,6 +60,7 @@ command changes nothing and is answered by its fault, as `F05 no arena`. Any oth
 
 With --journal no line is answered. After the last one, standard output gets the journal of the
 commands: a line of JSON for the options, and one for each command that was read, with its reply.
+`market replay` reads it.
 
 Example:
   $ printf '0 open 8 1 normal\\n0 request 1 3\\n' | market run
@@ -102,4 +105,28 @@ Exit status:
   0  done, or help was asked for
   1  a line was unread
   2  a bad command line, or a fault at opening
+  3  a read, write, memory or length fault; its text is on standard error";
+
+/// At the end of `market replay --help`.
+pub(crate) const OF_REPLAY: &str = "\
+Standard input holds a journal, as `market run --journal` writes it: its header, a line of JSON for
+the options of a market, and one for each command, with its seat and its reply. The commands are
+given to a new market, and each reply is compared with the one that is due. When the journal has
+ended, standard output gets one line: that it is legal, or its first fault. The header is line 1.
+
+  legal N                         it is legal, and has N commands
+  J1 bad header                   line 1 is missing or no header
+  J2 bad json line N              line N is not JSON, has more than 65,536 bytes or no line end
+  J3 bad record line N            line N is JSON, but no command with its seat and its reply, or
+                                  1,048,576 commands are before it
+  J4 wrong reply line N due TEXT  the reply in line N is not TEXT, which is due there
+
+Example:
+  $ printf '0 open 8 1 normal\\n0 request 1 3\\n' | market run --journal | market replay
+  legal 2
+
+Exit status:
+  0  the journal is legal, or help was asked for
+  1  it is not legal
+  2  a bad command line
   3  a read, write, memory or length fault; its text is on standard error";

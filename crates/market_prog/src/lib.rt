@@ -18,4 +18,4 @@ pub use explain::explain_script;
 pub use fault::{RunFault, status_of_run};
 pub use journal::run_journal;
 pub use replay::{run_replay, status_of_replay};
-pub use words::{Choice, MarketOptions, read_words};
+pub use words::{Choice, MarketOptions, ScriptTask, read_words};

@@ -1,7 +1,7 @@
 //! The words of the command line.
 ghost use Rattle.std.specs.Prelude.{◌≡◌, ◌≤◌, ◌<◌, ◌^◌, IfOk, codes, false, map};
 ghost use Rattle.clap.specs.Words.{FailsBy, app_of, fault_of, found_of, rows_of, rule_of};
-ghost use Rattle.market_prog.specs.Words.{Chooses, IsChoiceOf, IsNumberOf, IsMarketOf, asks_journal, journal_rule, market_app, number_rule, run_app, script_app};
+ghost use Rattle.market_prog.specs.Words.{Chooses, IsChoiceOf, IsNumberOf, IsMarketOf, asks_journal, journal_rule, market_app, number_rule, replay_app, run_app, script_app};
 ghost use Rattle.market_prog.specs.Command.{IsCommandOf};
 ghost use Rattle.market_prog.specs.Passed.{HasNumber, HasMarketNumbers, NamesSubcommand};
 
@@ -15,12 +15,21 @@ const VERSION: &str = "0.1.0";
 /// A subcommand with its options.
 #[derive(Clone, Copy, Debug, PartialEq, Eq)]
 pub enum Choice {
-    /// `market run`: answers a script's lines.
-    Run(MarketOptions),
-    /// `market run --journal`: writes a script's journal.
-    Journal(MarketOptions),
-    /// `market explain`: explains the market that a script leads to.
-    Explain(MarketOptions),
+    /// `market run` and `market explain`: a script speaks to this market.
+    Script(ScriptTask, MarketOptions),
+    /// `market replay`: replays a journal.
+    Replay,
+}
+
+/// What is written of a script.
+#[derive(Clone, Copy, Debug, PartialEq, Eq)]
+pub enum ScriptTask {
+    /// `market run`: a reply to each of its lines.
+    Answer,
+    /// `market run --journal`: its journal.
+    Journal,
+    /// `market explain`: the explanation of the market that it leads to.
+    Explain,
 }
 
 /// The market that a script speaks to.
@@ -146,6 +155,15 @@ fn run_command<'a>(alloc: Global) -> Result<Command<'a>, AllocError>
     .arg(journal_arg(alloc))
 }
 
+/// The subcommand `replay`.
+fn replay_command<'a>(alloc: Global) -> Command<'a>
+    ensures { IsCommandOf result replay_app }
+{
+    Command::new(alloc, "replay")
+        .about("Replays a journal, and tells whether it is legal")
+        .after_help(help::OF_REPLAY)
+}
+
 /// The program's command.
 fn market_command<'a>(alloc: Global) -> Result<Command<'a>, AllocError>
     ensures { IfOk result (λ c. app_of c ≡ market_app) }
@@ -166,7 +184,8 @@ fn market_command<'a>(alloc: Global) -> Result<Command<'a>, AllocError>
         .arg_required_else_help(true)
         .subcommand_required(true)
         .subcommand(run)?
-        .subcommand(explain)
+        .subcommand(explain)?
+        .subcommand(replay_command(alloc))
 }
 
 /// The market's options in matches that clap has passed.
@@ -197,13 +216,17 @@ fn choice_of(name: &str, matches: &ArgMatches<'_>) -> Choice
     requires { NamesSubcommand (name.now, rows_of (found_of matches.now)) }
     ensures { IsChoiceOf (name.now, rows_of (found_of matches.now)) result }
 {
-    let options = market_options(matches);
-    match name {
-        "run" if asks_journal(matches) => Choice::Journal(options),
-        "run" => Choice::Run(options),
-        "explain" => Choice::Explain(options),
-        _ => unreachable!(),
+    if name == "replay" {
+        return Choice::Replay;
     }
+    let options = market_options(matches);
+    let task = match name {
+        "run" if asks_journal(matches) => ScriptTask::Journal,
+        "run" => ScriptTask::Answer,
+        "explain" => ScriptTask::Explain,
+        _ => unreachable!(),
+    };
+    Choice::Script(task, options)
 }
 
 /// What the words of a command line choose. The first word is the program's name.

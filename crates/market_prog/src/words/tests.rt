@@ -1,5 +1,5 @@
 //! Command lines, and what is said of them.
-use super::{Choice, MarketOptions, read_words};
+use super::{Choice, MarketOptions, ScriptTask, read_words};
 
 #[test]
 fn options_are_read_or_default(rt: HostRuntime) {
@@ -12,7 +12,7 @@ fn options_are_read_or_default(rt: HostRuntime) {
         seats: 4,
         levels: 3,
     };
-    assert_eq!(&rt; choice, Choice::Run(plain));
+    assert_eq!(&rt; choice, Choice::Script(ScriptTask::Answer, plain));
     let words = [
         "market",
         "run",
@@ -32,20 +32,25 @@ fn options_are_read_or_default(rt: HostRuntime) {
         seats: 64,
         levels: 8,
     };
-    assert_eq!(&rt; choice, Choice::Run(most));
+    assert_eq!(&rt; choice, Choice::Script(ScriptTask::Answer, most));
     let Ok(choice) = read_words(rt.alloc(), &["market", "run", "--journal"]) else {
         panic!(&rt; "refused");
     };
-    assert_eq!(&rt; choice, Choice::Journal(plain));
+    assert_eq!(&rt; choice, Choice::Script(ScriptTask::Journal, plain));
     let Ok(choice) = read_words(rt.alloc(), &["market", "explain", "--base", "3"]) else {
         panic!(&rt; "refused");
     };
-    assert_eq!(&rt; choice, Choice::Explain(MarketOptions { base: 3, ..plain }));
+    let three = MarketOptions { base: 3, ..plain };
+    assert_eq!(&rt; choice, Choice::Script(ScriptTask::Explain, three));
+    let Ok(choice) = read_words(rt.alloc(), &["market", "replay"]) else {
+        panic!(&rt; "refused");
+    };
+    assert_eq!(&rt; choice, Choice::Replay);
 }
 
 #[test]
 fn help_is_no_mistake(rt: HostRuntime) {
-    let lines: [(&[&str], i32, &str); 8] = [
+    let lines: [(&[&str], i32, &str); 10] = [
         (&["market"], 2, "Usage: market <COMMAND>"),
         (
             &["market", "fly"],
@@ -69,6 +74,16 @@ fn help_is_no_mistake(rt: HostRuntime) {
             &["market", "explain", "--help"],
             0,
             "standard output gets the explanation of the market",
+        ),
+        (
+            &["market", "replay", "--base=8"],
+            2,
+            "error: unexpected argument '--base' found",
+        ),
+        (
+            &["market", "replay", "--help"],
+            0,
+            "that it is legal, or its first fault",
         ),
     ];
     for (words, status, text) in lines {

@@ -1,0 +1,12 @@
+use Rattle.std.proofs.Common.{◌≡◌, ◌∙◌, sym, true, inl, inr, true≢false}
+use Rattle.std.proofs.lemmas.Slice.Eq.{bytes_eq-Decides}
+use Rattle.market_prog.proofs.words.choice_of.Goals as goal
+
+pub market_options-options-requires : goal.market_options-options-requires
+market_options-options-requires c =
+    elim c.requires [
+      | inl script ↦ script.numbers
+      | inr is ↦
+          let same : c.eq.result ≡ true = c.eq.ensures ∙ (bytes_eq-Decides _ _).1 is in
+          absurd (true≢false (sym same ∙ c.if-eq.false))
+    ]

@@ -1,0 +1,11 @@
+use Rattle.std.proofs.Common.{codes, refl}
+use Rattle.clap.specs.Simple.{new_app}
+use Rattle.market_prog.specs.Command.{IsCommandOf}
+use Rattle.market_prog.proofs.Commands.{command_with_setting}
+use Rattle.market_prog.proofs.words.replay_command.Goals as goal
+
+pub returns : goal.returns
+returns c =
+    let start : IsCommandOf c.new.result (new_app (codes "replay")) = record { is = c.new.ensures.app; local = c.new.ensures.local } in
+    let about = command_with_setting _ _ _ (λ a. a) _ c.about.ensures refl refl start in
+    command_with_setting _ _ _ (λ a. a) _ c.after_help.ensures refl refl about
