@@ -3,9 +3,9 @@ ghost use Rattle.std.specs.Prelude.{◌≡◌, false};
 
 use byte_devices::TestSink;
 use edit_history::{CallFault, Chronicle};
-use journal_replay::{OutFault, write_journal};
+use journal_replay::{OutFault, Verdict, check, write_journal};
 use market_types::{ArenaId, Cmd, Level, OpenFault, Reply, SeatNo};
-use std::alloc::Global;
+use std::alloc::{AllocError, Global};
 use std::process::Abort;
 use std::rt::HostRuntime;
 
@@ -111,4 +111,14 @@ fn a_refused_growth_leaves_a_prefix_of_the_journal(rt: HostRuntime) {
         return;
     }
     assert!(&rt; sink.taken() == JOURNAL);
+}
+
+#[test]
+fn a_refused_growth_leaves_a_journal_to_be_checked(rt: HostRuntime) -> Result<(), AllocError> {
+    let verdict = match check(rt.alloc(), JOURNAL) {
+        Ok(verdict) => verdict,
+        Err(_) => check(rt.alloc(), JOURNAL)?,
+    };
+    assert!(&rt; matches!(&verdict, Verdict::Legal(5)));
+    Ok(())
 }

@@ -1,72 +1,17 @@
-//! As long as this fails, a growth of the other tests was refused: all that each of them asks for and more, never asked for
-//! again.
+//! As long as one of these fails, a growth of the other tests was refused: whatever such a test asks for is asked for here too,
+//! and never again.
 ghost use Rattle.std.specs.Prelude.{◌≡◌, false, IfOk};
 
-use byte_devices::{TestSink, TestSource};
+use super::engines::{Engine, JOURNAL, replay};
+use byte_devices::TestSink;
 use edit_history::Chronicle;
-use journal_replay::write_journal;
+use journal_replay::{check, write_journal};
 use level_list::LevelList;
-use market_prog::run_script;
 use market_types::{ArenaId, Cmd, Level, Reply, Row, SeatNo, cmd_text, reply_text};
 use recall_hire::Roster;
 use std::alloc::{AllocError, Global};
 use std::process::Abort;
 use std::rt::HostRuntime;
-
-fn new_sink(alloc: Global) -> Result<TestSink, AllocError>
-    ensures { IfOk result (λ sink. sink.failed ≡ false) }
-{
-    let memory = Vec::with_capacity(alloc, 4096)?;
-    Ok(TestSink::new(memory))
-}
-
-fn new_chronicle(rt: &impl Abort, alloc: Global) -> Chronicle
-    ensures { result.from ≡ 0 }
-{
-    let Ok(chronicle) = Chronicle::new(alloc, 8, 64, 4, 100, 3) else {
-        panic!(rt; "no chronicle");
-    };
-    chronicle
-}
-
-/// Calls that take memory.
-fn record(rt: &impl Abort, alloc: Global) {
-    let mut chronicle = new_chronicle(rt, alloc);
-    let calls = [
-        Cmd::Open(8, 1, Level::from_index(1)),
-        Cmd::Request(ArenaId::new(1), 3, 0),
-        Cmd::Lists,
-        Cmd::Join,
-        Cmd::Leave,
-        Cmd::Control(8),
-    ];
-    for cmd in calls {
-        let _ = chronicle.market();
-        assert!(rt; chronicle.call(alloc, SeatNo::new(0), cmd).is_ok());
-    }
-}
-
-/// Journals of nothing, as many as another test has lines.
-fn write_journals(rt: &impl Abort, alloc: Global) -> Result<(), AllocError> {
-    for _ in 0..6 {
-        let chronicle = new_chronicle(rt, alloc);
-        let mut sink = new_sink(alloc)?;
-        assert!(rt; write_journal(alloc, &chronicle, &mut sink).is_ok());
-    }
-    Ok(())
-}
-
-/// Scripts in small pieces.
-fn run(rt: &impl Abort, alloc: Global) -> Result<(), AllocError> {
-    let script: &[u8] = b"0 open 8 1 normal\n0 request 1 3 0\n0 lists\n0 control 4\n# all\n";
-    for _ in 0..3 {
-        let mut source = TestSource::new(script).in_pieces_of(20);
-        let mut sink = new_sink(alloc)?;
-        let told = run_script(alloc, 8, 64, 4, 3, &mut source, &mut sink);
-        assert!(rt; told == Ok(0));
-    }
-    Ok(())
-}
 
 /// Rows, seats and texts.
 fn write(alloc: Global) -> Result<(), AllocError> {
@@ -89,9 +34,78 @@ fn write(alloc: Global) -> Result<(), AllocError> {
 }
 
 #[test]
-fn every_growth_is_granted(rt: HostRuntime) -> Result<(), AllocError> {
-    write(rt.alloc())?;
-    run(&rt, rt.alloc())?;
-    record(&rt, rt.alloc());
-    write_journals(&rt, rt.alloc())
+fn what_is_written_is_granted(rt: HostRuntime) -> Result<(), AllocError> {
+    write(rt.alloc())
+}
+
+/// A call of seat 0 is answered.
+fn call(rt: &impl Abort, alloc: Global, chronicle: &mut Chronicle, cmd: &Cmd)
+    ensures { chronicle.new.from ≡ chronicle.old.from }
+{
+    let _ = chronicle.market();
+    let told = chronicle.call(alloc, SeatNo::new(0), *cmd);
+    assert!(rt; told.is_ok());
+}
+
+fn recorded(rt: &impl Abort, alloc: Global) -> Chronicle
+    ensures { result.from ≡ 0 }
+{
+    let Ok(mut chronicle) = Chronicle::new(alloc, 8, 64, 4, 100, 3) else {
+        panic!(rt; "no chronicle");
+    };
+    let open = Cmd::Open(8, 1, Level::from_index(1));
+    call(rt, alloc, &mut chronicle, &open);
+    let request = Cmd::Request(ArenaId::new(1), 3, 0);
+    call(rt, alloc, &mut chronicle, &request);
+    call(rt, alloc, &mut chronicle, &Cmd::Lists);
+    call(rt, alloc, &mut chronicle, &Cmd::Join);
+    call(rt, alloc, &mut chronicle, &Cmd::Leave);
+    call(rt, alloc, &mut chronicle, &Cmd::Control(8));
+    chronicle
+}
+
+fn new_sink(alloc: Global) -> Result<TestSink, AllocError>
+    ensures { IfOk result (λ sink. sink.failed ≡ false) }
+{
+    let memory = Vec::with_capacity(alloc, 4096)?;
+    Ok(TestSink::new(memory))
+}
+
+#[test]
+fn what_is_recorded_is_granted(rt: HostRuntime) -> Result<(), AllocError> {
+    let chronicle = recorded(&rt, rt.alloc());
+    let mut sink = new_sink(rt.alloc())?;
+    assert!(&rt; write_journal(rt.alloc(), &chronicle, &mut sink) == Ok(()));
+    Ok(())
+}
+
+#[test]
+fn what_is_checked_is_granted(rt: HostRuntime) {
+    assert!(&rt; check(rt.alloc(), JOURNAL).is_ok());
+}
+
+fn is_granted(rt: &impl Abort, alloc: Global, engine: Engine) {
+    let (told, _sink) = engine.run(rt, alloc);
+    assert!(rt; told == Ok(0));
+}
+
+#[test]
+fn what_is_run_is_granted(rt: HostRuntime) {
+    is_granted(&rt, rt.alloc(), Engine::Run);
+}
+
+#[test]
+fn what_is_run_for_its_journal_is_granted(rt: HostRuntime) {
+    is_granted(&rt, rt.alloc(), Engine::Journal);
+}
+
+#[test]
+fn what_is_explained_is_granted(rt: HostRuntime) {
+    is_granted(&rt, rt.alloc(), Engine::Explain);
+}
+
+#[test]
+fn what_is_replayed_is_granted(rt: HostRuntime) {
+    let (told, _sink) = replay(&rt, rt.alloc(), JOURNAL);
+    assert!(&rt; told.is_ok());
 }

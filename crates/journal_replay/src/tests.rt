@@ -1,7 +1,8 @@
-//! The journal of a short history, and what a failing sink has of it.
+//! The journal of a short history, what is found of it, and what a failing sink has of it.
 ghost use Rattle.std.specs.Prelude.{◌≡◌, false};
 
 mod checking;
+mod histories;
 
 use super::*;
 use byte_devices::{Refusal, TestSink};
@@ -46,14 +47,25 @@ fn recorded(rt: &impl Abort, alloc: Global) -> Chronicle
     chronicle
 }
 
-/// A sink with room for the journal.
+/// A sink with room for a journal.
 fn new_sink(rt: &impl Abort, alloc: Global) -> TestSink
     ensures { result.failed ≡ false }
 {
-    let Ok(memory) = Vec::with_capacity(alloc, 4096) else {
+    let Ok(memory) = Vec::with_capacity(alloc, 16_384) else {
         panic!(rt; "no memory");
     };
     TestSink::new(memory)
+}
+
+/// The text is found so.
+fn finds(rt: &impl Abort, alloc: Global, text: &[u8], found: &str) {
+    let Ok(verdict) = check(alloc, text) else {
+        panic!(rt; "no memory");
+    };
+    let Ok(told) = verdict.to_string(alloc) else {
+        panic!(rt; "no memory");
+    };
+    assert!(rt; told.as_str() == found);
 }
 
 #[test]

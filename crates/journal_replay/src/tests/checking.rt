@@ -1,6 +1,7 @@
 //! Journals that are checked: legal ones, and each fault.
 ghost use Rattle.std.specs.Prelude.{◌+◌, ◌<◌, ◌^◌};
 
+use super::finds;
 use crate::checker::Progress;
 use crate::verdict::Verdict;
 use crate::{check, check_source};
@@ -22,17 +23,6 @@ const SHOW: &str =
 
 /// The header of three levels in version 2.
 const HEADER_2: &str = "{\"base\":8,\"hard\":64,\"journal\":2,\"levels\":3,\"seats\":4}";
-
-/// The text is found so.
-fn finds(rt: &impl Abort, alloc: Global, text: &[u8], found: &str) {
-    let Ok(verdict) = check(alloc, text) else {
-        panic!(rt; "no memory");
-    };
-    let Ok(told) = verdict.to_string(alloc) else {
-        panic!(rt; "no memory");
-    };
-    assert!(rt; told.as_str() == found);
-}
 
 /// The lines, each with an LF.
 fn text_of(alloc: Global, lines: &[&str]) -> Result<Vec<u8>, AllocError> {
