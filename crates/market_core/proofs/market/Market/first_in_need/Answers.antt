@@ -1,4 +1,4 @@
-use Rattle.std.proofs.Common.{arith, sym, ap, ◌∙◌, ◌≡◌, ◌≤◌, ◌<◌, ◌-◌, ◌+◌, ◌*◌, suc, length}
+use Rattle.std.proofs.Common.{ℕ, arith, sym, ap, ◌∙◌, ◌≡◌, ◌≤◌, ◌<◌, ◌-◌, ◌+◌, ◌*◌, suc, length}
 use Rattle.market_types.specs.State.{State}
 use Rattle.market_types.specs.Allotment.{at_level, limit_of}
 use Rattle.arena_store.specs.Bits.{bits}
@@ -9,6 +9,7 @@ use Rattle.market_core.proofs.InNeed.{need-found, need-later, need-done, needed-
 use Rattle.market_core.proofs.LevelWalk.{coming-length, extra-none}
 use Rattle.market_core.proofs.Order.{levels_from, in_order-length}
 use Rattle.market_core.proofs.market.Market.first_in_need.Goals as goal
+use Rattle.market_core.proofs.market.Market.first_in_need.Goals.{After-in_need_at-found}
 
 pub loop-level-init : goal.loop-level-init
 loop-level-init c =
@@ -26,61 +27,70 @@ loop-level-init c =
       once = omega (arith, lengths, c.divide.ensures.visits, extra-none s some);
     }
 
+-- what the search of one level gives
+module _ (c : After-in_need_at-found) where
+  abbrev s : State
+  s = c.args.self.now
+
+  abbrev level : ℕ
+  level = c.loop-level.level + 1
+
+  abbrev later : ℕ
+  later = s.levels - level
+
+  one : s.levels - c.loop-level.level ≡ suc later
+  one = omega (arith, ap (λ (t : State). t.levels) c.self.view_is, c.loop-level-test.true)
+
+  here : c.in_need_at-found.result.0 ≡ need_among s (at_level level s.arenas)
+  here = c.in_need_at-found.ensures.exact ∙ ap (λ n. need_among s (at_level n s.arenas)) c.from_index.ensures
+
+  looked : searches (rows_at s level) ≤ c.in_need_at-found.result.1
+  looked = rw c.from_index.ensures at c.in_need_at-found.ensures.looked
+
+  once : c.in_need_at-found.result.1 ≤ length (rows_at s level)
+  once = rw c.from_index.ensures at c.in_need_at-found.ensures.once
+
+  most : c.in_need_at-found.result.1 ≤ searches (rows_at s level) * (2 * bits (length s.arenas))
+  most = rw c.from_index.ensures at c.in_need_at-found.ensures.most
+
+  lengths : length (levels_from level (s.levels - c.loop-level.level) s.arenas) ≡ length (rows_at s level) + length (levels_from (level + 1) later s.arenas)
+  lengths = coming-length s level later (s.levels - c.loop-level.level) one
+
 pub overflow_add-visits : goal.overflow_add-visits
 overflow_add-visits c =
-    let s = c.args.self.now in
-    let level = c.loop-level.level in
-    let levels : c.self.inside.opening.levels ≡ s.levels = ap (λ (t : State). t.levels) c.self.view_is in
-    let one : s.levels - level ≡ suc (s.levels - (level + 1)) = omega (arith, levels, c.loop-level-test.true) in
-    let deep = 2 * bits (length s.arenas) in
-    let here : c.in_need_at-found.result.0 ≡ need_among s (at_level (level + 1) s.arenas) = c.in_need_at-found.ensures.exact ∙ ap (λ n. need_among s (at_level n s.arenas)) c.from_index.ensures in
-    let looked : searches (rows_at s (level + 1)) ≤ c.in_need_at-found.result.1 = rw c.from_index.ensures at c.in_need_at-found.ensures.looked in
-    let once : c.in_need_at-found.result.1 ≤ length (rows_at s (level + 1)) = rw c.from_index.ensures at c.in_need_at-found.ensures.once in
-    let most : c.in_need_at-found.result.1 ≤ searches (rows_at s (level + 1)) * deep = rw c.from_index.ensures at c.in_need_at-found.ensures.most in
-    let lengths = coming-length s (level + 1) (s.levels - (level + 1)) (s.levels - level) one in
-    omega (arith, lengths, once, c.loop-level.invariant.once, c.in_need_at-found.ensures.few)
+    let at = (goal.at.overflow_add-visits c).After-in_need_at-found in
+    omega (arith, lengths at, once at, c.loop-level.invariant.once, c.in_need_at-found.ensures.few)
 
 pub returns-then-is_some : goal.returns-then-is_some
 returns-then-is_some c =
+    let at = (goal.at.returns-then-is_some c).After-in_need_at-found in
     let s = c.args.self.now in
-    let level = c.loop-level.level in
-    let levels : c.self.inside.opening.levels ≡ s.levels = ap (λ (t : State). t.levels) c.self.view_is in
-    let one : s.levels - level ≡ suc (s.levels - (level + 1)) = omega (arith, levels, c.loop-level-test.true) in
-    let deep = 2 * bits (length s.arenas) in
-    let here : c.in_need_at-found.result.0 ≡ need_among s (at_level (level + 1) s.arenas) = c.in_need_at-found.ensures.exact ∙ ap (λ n. need_among s (at_level n s.arenas)) c.from_index.ensures in
-    let looked : searches (rows_at s (level + 1)) ≤ c.in_need_at-found.result.1 = rw c.from_index.ensures at c.in_need_at-found.ensures.looked in
-    let once : c.in_need_at-found.result.1 ≤ length (rows_at s (level + 1)) = rw c.from_index.ensures at c.in_need_at-found.ensures.once in
-    let most : c.in_need_at-found.result.1 ≤ searches (rows_at s (level + 1)) * deep = rw c.from_index.ensures at c.in_need_at-found.ensures.most in
-    let lengths = coming-length s (level + 1) (s.levels - (level + 1)) (s.levels - level) one in
+    let level = c.loop-level.level + 1 in
+    let all_later = s.levels - c.loop-level.level in
+    let visits = c.loop-level.visits + c.in_need_at-found.result.1 in
     let found = sym c.is_some.ensures ∙ c.if-is_some.true in
-    let all : searches (rows_among s (levels_from (level + 1) (s.levels - level) s.arenas)) ≡ searches (rows_at s (level + 1)) =
-    searches-found s (level + 1) (s.levels - (level + 1)) (s.levels - level) c.in_need_at-found.result.0 one found here in
+    let all : searches (rows_among s (levels_from level all_later s.arenas)) ≡ searches (rows_at s level) =
+    searches-found s level (s.levels - level) all_later c.in_need_at-found.result.0 (one at) found (here at) in
     record {
-      exact = need-found s (level + 1) (s.levels - (level + 1)) (s.levels - level) c.in_need_at-found.result.0 one found here ∙ sym c.loop-level.invariant.needed;
-      entered = found-some s (at_level (level + 1) s.arenas) c.in_need_at-found.result.0 (c.loop-level.visits + c.in_need_at-found.result.1) here (omega (arith, looked));
-      every_search = searched-within s (c.loop-level.visits + c.in_need_at-found.result.1) (omega (arith, all, c.loop-level.invariant.counted, looked));
-      most = omega (arith, ap (λ n. n * deep) all, lengths, once, c.loop-level.invariant.once, c.loop-level.invariant.bounded, most);
+      exact = need-found s level (s.levels - level) all_later c.in_need_at-found.result.0 (one at) found (here at) ∙ sym c.loop-level.invariant.needed;
+      entered = found-some s (at_level level s.arenas) c.in_need_at-found.result.0 visits (here at) (omega (arith, looked at));
+      every_search = searched-within s visits (omega (arith, all, c.loop-level.invariant.counted, looked at));
+      most = omega (arith, ap (λ n. n * (2 * bits (length s.arenas))) all, lengths at, once at, c.loop-level.invariant.once, c.loop-level.invariant.bounded, most at);
     }
 
 pub loop-level-preserved : goal.loop-level-preserved
 loop-level-preserved c =
+    let at = (goal.at.loop-level-preserved c).After-in_need_at-found in
     let s = c.args.self.now in
-    let level = c.loop-level.level in
-    let levels : c.self.inside.opening.levels ≡ s.levels = ap (λ (t : State). t.levels) c.self.view_is in
-    let one : s.levels - level ≡ suc (s.levels - (level + 1)) = omega (arith, levels, c.loop-level-test.true) in
-    let deep = 2 * bits (length s.arenas) in
-    let here : c.in_need_at-found.result.0 ≡ need_among s (at_level (level + 1) s.arenas) = c.in_need_at-found.ensures.exact ∙ ap (λ n. need_among s (at_level n s.arenas)) c.from_index.ensures in
-    let looked : searches (rows_at s (level + 1)) ≤ c.in_need_at-found.result.1 = rw c.from_index.ensures at c.in_need_at-found.ensures.looked in
-    let once : c.in_need_at-found.result.1 ≤ length (rows_at s (level + 1)) = rw c.from_index.ensures at c.in_need_at-found.ensures.once in
-    let most : c.in_need_at-found.result.1 ≤ searches (rows_at s (level + 1)) * deep = rw c.from_index.ensures at c.in_need_at-found.ensures.most in
-    let lengths = coming-length s (level + 1) (s.levels - (level + 1)) (s.levels - level) one in
+    let level = c.loop-level.level + 1 in
+    let all_later = s.levels - c.loop-level.level in
     let nobody = sym c.is_some.ensures ∙ c.if-is_some.false in
-    let later = searches-later s (level + 1) (s.levels - (level + 1)) (s.levels - level) c.in_need_at-found.result.0 one nobody here in
+    let apart = searches-later s level (s.levels - level) all_later c.in_need_at-found.result.0 (one at) nobody (here at) in
     record {
-      needed = c.loop-level.invariant.needed ∙ need-later s (level + 1) (s.levels - (level + 1)) (s.levels - level) c.in_need_at-found.result.0 one nobody here;
-      counted = omega (arith, later, c.loop-level.invariant.counted, looked);
-      bounded = omega (arith, ap (λ n. n * deep) later, c.loop-level.invariant.bounded, most);
-      once = omega (arith, lengths, once, c.loop-level.invariant.once);
+      needed = c.loop-level.invariant.needed ∙ need-later s level (s.levels - level) all_later c.in_need_at-found.result.0 (one at) nobody (here at);
+      counted = omega (arith, apart, c.loop-level.invariant.counted, looked at);
+      bounded = omega (arith, ap (λ n. n * (2 * bits (length s.arenas))) apart, c.loop-level.invariant.bounded, most at);
+      once = omega (arith, lengths at, once at, c.loop-level.invariant.once);
     }
 
 pub returns : goal.returns
