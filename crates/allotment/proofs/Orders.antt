@@ -1,11 +1,11 @@
 -- The carry before an arena in the whole order: the levels before its own leave none.
-use Rattle.std.proofs.Common.{◌≡◌, ◌≢◌, ℕ, zero, suc, ◌+◌, ◌*◌, ◌%◌, ◌<◌, ◌≤◌, Bool, true, false, eqb, List, [], ◌∷◌, ◌++◌, refl, sym, ap, ◌∙◌, arith, ◌⊎◌, inl, inr}
-use Rattle.std.specs.List.{filter, flat_map, range_with_len}
+use Rattle.std.proofs.Common.{◌≡◌, ◌≢◌, ℕ, zero, suc, ◌+◌, ◌*◌, ◌%◌, ◌≤◌, eqb, List, [], ◌∷◌, ◌++◌, refl, sym, ap, ◌∙◌, arith, ◌⊎◌, inl, inr}
+use Rattle.std.specs.List.{flat_map, range_with_len}
 use Rattle.std.proofs.lemmas.Bool.{cases_Bool, eq-eqb, ne_eqb, eqb-true}
 use Rattle.std.proofs.lemmas.List.Sums.{fold-append}
 use Rattle.std.proofs.lemmas.List.Elements.{filter-append}
 use Rattle.market_types.specs.State.{Arena, State}
-use Rattle.market_types.specs.Allotment.{total_request, at_level, levels_of, in_order, carry_past, carry_after, demand}
+use Rattle.market_types.specs.Allotment.{total_request, at_level, in_order, carry_past, carry_after, demand}
 use Rattle.allotment.proofs.Carries.{carry_after-before, carry_after-whole}
 
 -- an element of two lists, one after the other, stands in the first or in the second

@@ -1,5 +1,5 @@
 use Rattle.std.proofs.Common.{◌∙◌, ap, sym}
-use Rattle.market_types.specs.Allotment.{at_level, demand, share_of}
+use Rattle.market_types.specs.Allotment.{demand, share_of}
 use Rattle.allotment.proofs.Orders.{carry-in_order}
 use Rattle.allotment.proofs.Carries.{carry_after-before, carry_after-whole, carry_after-levels, share_of-before, share_of-difference, share_of-few}
 use Rattle.allotment.proofs.law.no_carry_to_keep.Goals as goal
