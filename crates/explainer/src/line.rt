@@ -1,11 +1,10 @@
 //! The lines of an explanation, each with its LF.
 ghost use Rattle.std.specs.Prelude.{◌≡◌, ◌++◌, OnOk, codes, decimal};
-ghost use Rattle.market_types.specs.Texts.{level_text, yes_no};
+ghost use Rattle.market_types.specs.Texts.{yes_no};
 ghost use Rattle.explainer.specs.Columns.{arena_line, level_line, market_line, seats_columns, share_columns};
 
 use crate::column::{push_left, push_number, push_number_or_dash, push_part, push_text};
-use itoa::Buffer;
-use market_types::{ArenaView, Level, LimitView, Reply, push_reply};
+use market_types::{ArenaView, Level, LimitView, Reply, level_text, push_reply};
 use std::alloc::AllocError;
 
 /// What is told of a level.
@@ -55,29 +54,11 @@ pub(crate) fn push_level_line(
 ) -> Result<(), AllocError>
     ensures { OnOk result (out.new.items ≡ out.old.items ++ (level_line levels view ++ codes "\n")) }
 {
-    let mut digits = Buffer::new();
-    push_left(
-        out,
-        "level ",
-        6,
-        level_text(view.level, levels, &mut digits),
-    )?;
+    push_left(out, "level ", 6, level_text(view.level, levels))?;
     push_number(out, " demand ", 8, view.demand)?;
     push_number(out, " assigned ", 5, view.assigned)?;
     push_number(out, " left ", 5, view.left)?;
     push_text(out, "\n")
-}
-
-/// A level's name where it has one, else its number.
-fn level_text<'a>(level: Level, levels: u32, digits: &'a mut Buffer) -> &'a str
-    ensures { result.now ≡ level_text levels level }
-{
-    match (levels, level.get()) {
-        (3, 1) => "high",
-        (3, 2) => "normal",
-        (3, 3) => "low",
-        (_, number) => digits.format(number),
-    }
 }
 
 /// Writes the line of an arena, by what is seen of it and by its step, if it has one.

@@ -70,7 +70,7 @@ fn recorded(rt: &impl Abort, alloc: Global) -> Chronicle
     );
     assert!(rt; matches!(&told, Reply::Requested(3)));
     let told = answer(rt, alloc, &mut chronicle, &Cmd::Lists);
-    assert!(rt; matches!(&told, Reply::Listed(lists) if lists.hires.len() == 1));
+    assert!(rt; matches!(&told, Reply::Listed(lists) if lists.len() == 1));
     let told = answer(rt, alloc, &mut chronicle, &Cmd::Join);
     assert!(rt; matches!(&told, Reply::Placed(arena) if arena.get() == 1));
     let told = answer(rt, alloc, &mut chronicle, &Cmd::Leave);

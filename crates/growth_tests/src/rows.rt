@@ -3,7 +3,7 @@ ghost use Rattle.std.specs.Prelude.{◌≡◌, ◌<◌, ◌≤◌, ◌∷◌, le
 ghost use Rattle.std.specs.List.{All};
 
 use level_list::LevelList;
-use market_types::{ArenaId, Lists, Row, SeatNo};
+use market_types::{ArenaId, Correction, Imbalance, Lists, Row, SeatNo};
 use recall_hire::{Roster, Sharing, list};
 use std::alloc::{AllocError, Global};
 use std::process::Abort;
@@ -90,8 +90,7 @@ fn place(roster: &mut Roster, seat: u8, arena: ArenaId) {
 /// What is listed where each arena is allotted all that it asks for.
 fn listed(rows: &LevelList, roster: &Roster, alloc: Global) -> Result<Lists, AllocError> {
     let mut lists = Lists {
-        recalls: Vec::new(alloc),
-        hires: Vec::new(alloc),
+        arenas: Vec::new(alloc),
     };
     let demand = rows.demand();
     let all = Sharing::Carried {
@@ -100,6 +99,15 @@ fn listed(rows: &LevelList, roster: &Roster, alloc: Global) -> Result<Lists, All
     };
     list(roster, &rows.whole(), all, &mut lists)?;
     Ok(lists)
+}
+
+/// An arena as it is listed.
+fn counted(arena: u32, correction: Correction, count: u32) -> Imbalance {
+    Imbalance {
+        arena: ArenaId::new(arena),
+        correction,
+        count,
+    }
 }
 
 #[test]
@@ -113,9 +121,11 @@ fn a_refused_growth_leaves_arenas_to_be_listed(rt: HostRuntime) -> Result<(), Al
         Ok(lists) => lists,
         Err(_) => listed(&rows, &roster, rt.alloc())?,
     };
-    let recalls = [(ArenaId::new(3), 1)];
-    let hires = [(ArenaId::new(2), 5), (ArenaId::new(1), 5)];
-    assert!(&rt; lists.recalls.as_slice() == recalls.as_slice());
-    assert!(&rt; lists.hires.as_slice() == hires.as_slice());
+    let due = [
+        counted(3, Correction::Recall, 1),
+        counted(2, Correction::Hire, 5),
+        counted(1, Correction::Hire, 5),
+    ];
+    assert!(&rt; lists.arenas.as_slice() == due.as_slice());
     Ok(())
 }

@@ -1,5 +1,7 @@
 //! Texts of commands and replies.
-use market_types::{ArenaId, Cmd, Lists, Reply, cmd_text, push_reply, reply_text};
+use market_types::{
+    ArenaId, Cmd, Correction, Imbalance, Lists, Reply, cmd_text, push_reply, reply_text,
+};
 use std::alloc::{AllocError, Global};
 use std::rt::HostRuntime;
 
@@ -22,10 +24,13 @@ fn a_refused_growth_leaves_a_command_to_be_written(rt: HostRuntime) -> Result<()
 
 /// An item with six digits and the colon, again and again.
 fn long_lists(alloc: Global, items: usize) -> Result<Lists, AllocError> {
-    let hires = vec![in alloc; (ArenaId::new(104_857), 65_535u32); items]?;
+    let item = Imbalance {
+        arena: ArenaId::new(104_857),
+        correction: Correction::Hire,
+        count: 65_535,
+    };
     Ok(Lists {
-        recalls: Vec::new(alloc),
-        hires,
+        arenas: vec![in alloc; item; items]?,
     })
 }
 

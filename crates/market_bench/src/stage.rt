@@ -38,9 +38,7 @@ fn number_in(reply: &Reply) -> Option<u64>
         Reply::Controlled(control) => Some(u64::from(control.get())),
         Reply::Resized(request) | Reply::Requested(request) => Some(u64::from(*request)),
         Reply::Shown(view) => Some(u64::from(view.allot)),
-        Reply::Listed(lists) => Some(
-            (lists.recalls.len() as u64).wrapping_add(lists.hires.len() as u64),
-        ),
+        Reply::Listed(lists) => Some(lists.len() as u64),
         Reply::Limits(limits) => Some(u64::from(limits.effective)),
         Reply::Closed | Reply::Moved | Reply::Uncontrolled | Reply::Idle => Some(1),
         Reply::Refused(_) => None,

@@ -4,7 +4,9 @@ ghost use Rattle.std.specs.List.{All};
 ghost use Rattle.market_types.specs.declared.command.Call.{Call};
 
 use market_core::{Market, apply_all};
-use market_types::{ArenaId, Call, Cmd, ControlId, Fault, Level, OpenFault, Reply, SeatNo};
+use market_types::{
+    ArenaId, Call, Cmd, ControlId, Correction, Fault, Level, OpenFault, Reply, SeatNo,
+};
 use std::alloc::{AllocError, Global};
 use std::process::Abort;
 use std::rt::HostRuntime;
@@ -85,9 +87,7 @@ fn joins_pass_over_idle_arenas(rt: HostRuntime) {
         assert!(&rt; visits >= 2 * passed && visits <= 44 * passed);
     }
     let lists = answer(&rt, rt.alloc(), &mut market, Cmd::Lists);
-    assert!(&rt;
-        matches!(&lists, Reply::Listed(lists) if lists.recalls.is_empty() && lists.hires.is_empty())
-    );
+    assert!(&rt; matches!(&lists, Reply::Listed(lists) if lists.arenas.is_empty()));
 }
 
 /// A Join that is placed at the last level has looked at every filled arena of the levels before it, and counts them all.
@@ -170,6 +170,20 @@ fn control_numbers_run_out(rt: HostRuntime) {
     assert!(&rt; matches!(refused, Reply::Refused(Fault::OutOfNumbers)));
 }
 
+/// Whether so many arenas are listed, and each needs this correction.
+fn all_need(reply: &Reply, correction: Correction, arenas: usize) -> bool {
+    match reply {
+        Reply::Listed(lists) => {
+            lists.len() == arenas
+                && lists
+                    .arenas
+                    .iter()
+                    .all(|arena| arena.correction == correction)
+        }
+        _ => false,
+    }
+}
+
 /// Where each of 1,024 arenas is hired for, Lists names all of them, and then the 64 that have a worker too many: no market can
 /// have more of either.
 #[test]
@@ -185,7 +199,7 @@ fn a_thousand_arenas_are_listed(rt: HostRuntime) {
         assert!(&rt; matches!(asked, Reply::Requested(1)));
     }
     let lists = answer(&rt, rt.alloc(), &mut market, Cmd::Lists);
-    assert!(&rt; matches!(&lists, Reply::Listed(lists) if lists.hires.len() == 1024));
+    assert!(&rt; all_need(&lists, Correction::Hire, 1024));
     for joining in 0..64_u8 {
         assert!(&rt; joining < market.seats());
         let seat = SeatNo::new(joining);
@@ -196,7 +210,7 @@ fn a_thousand_arenas_are_listed(rt: HostRuntime) {
     }
     let _ = answer(&rt, rt.alloc(), &mut market, Cmd::Control(1));
     let lists = answer(&rt, rt.alloc(), &mut market, Cmd::Lists);
-    assert!(&rt; matches!(&lists, Reply::Listed(lists) if lists.recalls.len() == 64));
+    assert!(&rt; all_need(&lists, Correction::Recall, 64));
 }
 
 #[test]

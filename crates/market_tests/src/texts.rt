@@ -1,8 +1,8 @@
 //! Texts of commands and replies.
 use market_prog::RunFault;
 use market_types::{
-    ArenaId, ArenaView, Fault, LimitView, Lists, OpenFault, Reply, cmd_text, open_fault_text,
-    push_reply, read_cmd, read_line, reply_text,
+    ArenaId, ArenaView, Correction, Fault, Imbalance, LimitView, Lists, OpenFault, Reply, cmd_text,
+    open_fault_text, push_reply, read_cmd, read_line, reply_text,
 };
 use std::test::Fail;
 
@@ -57,11 +57,17 @@ fn replies_are_written(rt: HostRuntime) -> Result<(), Fail> {
     let due = b"arena 1 request 3 allot 3 top yes active 0 recall 0 hire 3";
     assert_eq!(rt; out.as_slice(), due.as_slice());
 
-    let mut recalls = Vec::new(rt.alloc());
-    recalls.push((ArenaId::new(3), 1))?;
-    recalls.push((ArenaId::new(1), 2))?;
-    let hires = Vec::new(rt.alloc());
-    let listed = reply_text(rt.alloc(), &Reply::Listed(Lists { recalls, hires }))?;
+    let mut lists = Lists {
+        arenas: Vec::new(rt.alloc()),
+    };
+    for (arena, count) in [(3, 1), (1, 2)] {
+        lists.push(Imbalance {
+            arena: ArenaId::new(arena),
+            correction: Correction::Recall,
+            count,
+        })?;
+    }
+    let listed = reply_text(rt.alloc(), &Reply::Listed(lists))?;
     assert_eq!(rt; listed.as_str(), "recall 3:1,1:2 hire -");
 
     let limits = LimitView {

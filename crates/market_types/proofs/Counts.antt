@@ -1,28 +1,26 @@
 -- Counts joined by commas.
-use Rattle.std.proofs.Common.{◌≡◌, ℕ, List, [], ◌∷◌, ◌++◌, ap, sym, ◌∙◌, refl, append_assoc, append-nil, ◌+◌, ◌<◌, length, get_or, drop, drop-cons, add-one, codes}
+use Rattle.std.proofs.Common.{◌≡◌, ℕ, Bool, true, false, List, [], ◌∷◌, ◌++◌, ap, sym, ◌∙◌, refl, append_assoc, append-nil}
 use Rattle.market_types.specs.Texts.{count_text, counts_text}
-use Rattle.market_types.specs.Written.{more_counts_text}
+use Rattle.market_types.specs.Written.{more_counts_text, comma_if, counts_left}
 
 -- the first, and then each other behind a comma
-pub counts-first : (e : ℕ × ℕ) (es : List (ℕ × ℕ)) → counts_text (e ∷ es) ≡ count_text e ++ more_counts_text es
+counts-first : (e : ℕ × ℕ) (es : List (ℕ × ℕ)) → counts_text (e ∷ es) ≡ count_text e ++ more_counts_text es
 counts-first e [] = sym (append-nil (count_text e))
 counts-first e (f ∷ es) = ap (λ t. count_text e ++ (44 ∷ t)) (counts-first f es)
 
--- what stands after the first count, and what stands after the others
-pub counts-joined : (before middle : List ℕ) (counts : List (ℕ × ℕ)) (e : ℕ × ℕ) (es : List (ℕ × ℕ)) → counts ≡ e ∷ es → middle ≡ before ++ count_text e → before ++ counts_text counts ≡ middle ++ more_counts_text es
-counts-joined before middle counts e es split first =
-    ap (λ t. before ++ counts_text t) split
-    ∙ ap (λ t. before ++ t) (counts-first e es)
-    ∙ sym (append_assoc before (count_text e) (more_counts_text es))
-    ∙ ap (λ t. t ++ more_counts_text es) (sym first)
+-- the next, and then each other behind a comma
+counts-next : (begun : Bool) (e : ℕ × ℕ) (es : List (ℕ × ℕ)) → counts_left begun (e ∷ es) ≡ comma_if begun ++ (count_text e ++ more_counts_text es)
+counts-next true e es = refl
+counts-next false e es = counts-first e es
 
 -- one count more
-pub counts-step : (before comma after : List ℕ) (counts : List (ℕ × ℕ)) (i : ℕ) (e : ℕ × ℕ) → i < length counts → e ≡ get_or counts i e → comma ≡ before ++ codes "," → after ≡ comma ++ count_text e → after ++ more_counts_text (drop (i + 1) counts) ≡ before ++ more_counts_text (drop i counts)
-counts-step before comma after counts i e h is first second =
-    let next : drop i counts ≡ e ∷ drop (i + 1) counts = rw (add-one, drop-cons counts i e, ← is) refl in
-    let rest = more_counts_text (drop (i + 1) counts) in
+pub counts-step : (begun : Bool) (before comma after : List ℕ) (e : ℕ × ℕ) (now next : List (ℕ × ℕ)) → now ≡ e ∷ next → comma ≡ before ++ comma_if begun → after ≡ comma ++ count_text e
+    → after ++ counts_left true next ≡ before ++ counts_left begun now
+counts-step begun before comma after e now next split first second =
+    let rest = more_counts_text next in
     ap (λ t. t ++ rest) second
     ∙ append_assoc comma (count_text e) rest
     ∙ ap (λ t. t ++ (count_text e ++ rest)) first
-    ∙ append_assoc before (codes ",") (count_text e ++ rest)
-    ∙ ap (λ l. before ++ more_counts_text l) (sym next)
+    ∙ append_assoc before (comma_if begun) (count_text e ++ rest)
+    ∙ ap (λ t. before ++ t) (sym (counts-next begun e next))
+    ∙ ap (λ l. before ++ counts_left begun l) (sym split)

@@ -1,5 +1,6 @@
 pub mod Commands
 pub mod Counts
+pub mod Corrections
 pub mod Replies
 pub mod State
 pub mod Claims

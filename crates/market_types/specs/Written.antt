@@ -1,7 +1,7 @@
 -- What the writer's inner functions answer. No public clause has these words.
-use Rattle.std.specs.Prelude.{◌≡◌, ℕ, List, [], ◌∷◌, ◌++◌, IsUtf8, codes, decimal}
+use Rattle.std.specs.Prelude.{◌≡◌, ℕ, Bool, true, false, List, [], ◌∷◌, ◌++◌, IsUtf8, codes, decimal}
 use Rattle.market_types.specs.declared.reply.ArenaView.{ArenaView}
-use Rattle.market_types.specs.Texts.{count_text}
+use Rattle.market_types.specs.Texts.{count_text, counts_text}
 
 -- what stood still stands, and some text may follow it
 pub record Extends (before after : List ℕ) : Type 0 where
@@ -18,3 +18,13 @@ seats_text v =
 abbrev pub more_counts_text : List (ℕ × ℕ) → List ℕ
 more_counts_text [] = []
 more_counts_text (e ∷ es) = codes "," ++ (count_text e ++ more_counts_text es)
+
+-- a comma where something stands before it
+abbrev pub comma_if : Bool → List ℕ
+comma_if true = codes ","
+comma_if false = []
+
+-- what is still to be written of counts, where others were written before them or not
+abbrev pub counts_left : Bool → List (ℕ × ℕ) → List ℕ
+counts_left true es = more_counts_text es
+counts_left false es = counts_text es

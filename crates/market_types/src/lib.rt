@@ -9,6 +9,7 @@
 mod command;
 mod field;
 mod level;
+mod lists;
 mod number;
 mod reading;
 mod reply;
@@ -18,9 +19,10 @@ mod writing;
 
 pub use command::{Call, Cmd};
 pub use level::Level;
+pub use lists::{Correction, Imbalance, Lists};
 pub use number::{ArenaId, ControlId, SeatNo};
 pub use reading::{read_cmd, read_line};
-pub use reply::{ArenaView, Entry, Fault, LimitView, Lists, OpenFault, Reply};
+pub use reply::{ArenaView, Entry, Fault, LimitView, OpenFault, Reply};
 pub use row::Row;
 pub use spelling::{lines_spell_calls, texts_spell_commands};
-pub use writing::{cmd_text, open_fault_text, push_reply, reply_text};
+pub use writing::{cmd_text, level_text, open_fault_text, push_reply, reply_text};

@@ -3,9 +3,9 @@ ghost use Rattle.std.specs.Prelude.{◌≡◌, true, IfOk, OnErr};
 ghost use Rattle.market_types.specs.Replies.{is_listed};
 
 use crate::command::Call;
+use crate::lists::Lists;
 use crate::number::{ArenaId, ControlId};
 use std::alloc::{AllocError, Global};
-use std::marker::Model;
 use thiserror::Error;
 
 /// Why a command is refused. A refusal changes nothing.
@@ -91,34 +91,6 @@ pub struct LimitView {
     pub limit: u32,
     /// The limit, or 1 where it is 0 and some arena has enqueued work.
     pub effective: u32,
-}
-
-/// The arenas with recall counts above 0 and those with hire counts above 0, each with its count, in the order in which
-/// arenas are served.
-#[derive(Debug, Drop)]
-pub struct Lists {
-    pub recalls: Vec<(ArenaId, u32)>,
-    pub hires: Vec<(ArenaId, u32)>,
-}
-
-impl Model for Lists {
-    ghost use Rattle.market_types.specs.Counts.{Counts};
-
-    ghost Value = { Counts };
-
-    ghost view = { λ l. record { recalls = l.recalls.items; hires = l.hires.items } };
-}
-
-impl Lists {
-    /// The same lists, in memory of their own. Out of memory is the `Err`.
-    pub fn copied(&self, alloc: Global) -> Result<Lists, AllocError>
-        ensures exact { IfOk result (λ lists. lists ≡ self.now) }
-    {
-        Ok(Lists {
-            recalls: self.recalls.to_vec(alloc)?,
-            hires: self.hires.to_vec(alloc)?,
-        })
-    }
 }
 
 /// What the market answers a command.

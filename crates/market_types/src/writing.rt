@@ -2,13 +2,14 @@
 #![tactic(auto, using(crate::proofs::Written::extends_trans))]
 
 ghost use Rattle.std.specs.Prelude.{◌≡◌, ◌++◌, IfOk, IsUtf8, OnErr, OnOk, codes, decimal, string_bytes};
+ghost use Rattle.market_types.specs.Corrections.{counts_to};
 ghost use Rattle.market_types.specs.Texts.{cmd_text, count_text, counts_text, fault_text, level_text, limit_text, open_fault_text, reply_text, view_text, yes_no};
-ghost use Rattle.market_types.specs.Written.{Extends, more_counts_text, seats_text};
+ghost use Rattle.market_types.specs.Written.{Extends, comma_if, seats_text};
 
 use crate::command::Cmd;
 use crate::level::Level;
-use crate::number::ArenaId;
-use crate::reply::{ArenaView, Fault, LimitView, Lists, OpenFault, Reply};
+use crate::lists::{Correction, Imbalance, Lists};
+use crate::reply::{ArenaView, Fault, LimitView, OpenFault, Reply};
 use itoa::Buffer;
 use std::alloc::{AllocError, Global};
 
@@ -44,9 +45,9 @@ pub fn cmd_text(alloc: Global, cmd: &Cmd, levels: u32) -> Result<String, AllocEr
     }
 }
 
-/// A level's name where it has one, else its number.
-fn level_text(level: Level, levels: u32) -> &'static str
-    ensures { result.now ≡ level_text levels level }
+/// A level's name in a market of so many levels, as `high`, where it has one; else its number.
+pub fn level_text(level: Level, levels: u32) -> &'static str
+    ensures exact { result.now ≡ level_text levels level }
 {
     if levels == 3 {
         named_level(level)
@@ -187,41 +188,44 @@ fn push_lists(out: &mut Vec<u8>, lists: &Lists) -> Result<(), AllocError>
     ensures grows { Extends out.old.items out.new.items }
 {
     push_text(out, "recall ")?;
-    push_counts(out, &lists.recalls)?;
+    push_counts(out, &lists.arenas, Correction::Recall)?;
     push_text(out, " hire ")?;
-    push_counts(out, &lists.hires)
+    push_counts(out, &lists.arenas, Correction::Hire)
 }
 
-/// Arenas and their counts, joined by commas; of none a dash.
-fn push_counts(out: &mut Vec<u8>, counts: &[(ArenaId, u32)]) -> Result<(), AllocError>
-    ensures ok { OnOk result (out.new.items ≡ out.old.items ++ counts_text counts.now) }
+/// The arenas that need this correction with their counts, joined by commas; of none a dash.
+fn push_counts(
+    out: &mut Vec<u8>,
+    arenas: &[Imbalance],
+    correction: Correction,
+) -> Result<(), AllocError>
+    ensures ok { OnOk result (out.new.items ≡ out.old.items ++ counts_text (counts_to correction arenas.now)) }
     ensures grows { Extends out.old.items out.new.items }
 {
-    let Some((first, rest)) = counts.split_first() else {
-        return push_text(out, "-");
-    };
-    push_count(out, *first)?;
-    push_more_counts(out, rest)
-}
-
-/// Arenas and their counts, each behind a comma.
-fn push_more_counts(out: &mut Vec<u8>, counts: &[(ArenaId, u32)]) -> Result<(), AllocError>
-    ensures ok { OnOk result (out.new.items ≡ out.old.items ++ more_counts_text counts.now) }
-    ensures grows { Extends out.old.items out.new.items }
-{
-    for count in counts {
-        push_text(out, ",")?;
-        push_count(out, *count)?;
+    let mut begun = false;
+    for arena in arenas {
+        if arena.correction == correction {
+            push_text(out, comma_if(begun))?;
+            push_count(out, *arena)?;
+            begun = true;
+        }
     }
-    Ok(())
+    if begun { Ok(()) } else { push_text(out, "-") }
 }
 
-fn push_count(out: &mut Vec<u8>, count: (ArenaId, u32)) -> Result<(), AllocError>
-    ensures ok { OnOk result (out.new.items ≡ out.old.items ++ count_text count) }
+/// A comma where something stands before it.
+fn comma_if(begun: bool) -> &'static str
+    ensures { result.now ≡ comma_if begun }
+{
+    if begun { "," } else { "" }
+}
+
+fn push_count(out: &mut Vec<u8>, arena: Imbalance) -> Result<(), AllocError>
+    ensures ok { OnOk result (out.new.items ≡ out.old.items ++ count_text (arena.arena, arena.count)) }
     ensures grows { Extends out.old.items out.new.items }
 {
-    push_number(out, count.0.get())?;
-    push_part(out, ":", count.1)
+    push_number(out, arena.arena.get())?;
+    push_part(out, ":", arena.count)
 }
 
 fn push_fault(out: &mut Vec<u8>, fault: Fault) -> Result<(), AllocError>

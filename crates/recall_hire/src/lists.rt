@@ -1,15 +1,16 @@
 //! Where workers are too many or too few: a walk over all of a level's arenas.
-ghost use Rattle.std.specs.Prelude.{◌≡◌, ◌+◌, ◌^◌, ◌<◌, ◌≤◌, [], ◌∷◌, ◌++◌, length, IsOk, IfOk, OnOk};
+ghost use Rattle.std.specs.Prelude.{◌≡◌, ◌+◌, ◌^◌, ◌<◌, ◌≤◌, [], ◌∷◌, length, IsOk, IfOk, OnOk};
 ghost use Rattle.level_list.specs.Rows.{requests};
-ghost use Rattle.recall_hire.specs.Staffed.{listed, counts_in};
+ghost use Rattle.recall_hire.specs.Staffed.{counts_in};
 ghost use Rattle.recall_hire.specs.Shared.{CanShareAll, row_share, row_carry, staffed, carry_after, IsListed};
 
 use crate::roster::Roster;
-use crate::rows::{hire, recall};
+use crate::rows::{Staffing, hire, recall};
 use crate::sharing::{Sharing, whole};
 use level_list::Stretch;
-use market_types::{ArenaId, Lists, Row};
+use market_types::{Correction, Imbalance, Lists, Row};
 use std::alloc::AllocError;
+use std::cmp::Ordering;
 
 /// Puts a level's arenas, newest first, at the end of lists, each with how many workers it has too many or too few; and
 /// says how many nodes that entered: each once. Wants memory only for what it lists.
@@ -75,9 +76,12 @@ impl Listing<'_> {
         let arena = row.arena;
         let active = self.roster.active(arena);
         let allotted = self.allot(row, active, carry);
-        let Lists { recalls, hires } = lists;
-        put(recalls, arena, recall(active, allotted))?;
-        put(hires, arena, hire(active, allotted))
+        let staffing = Staffing {
+            arena,
+            allotted,
+            active,
+        };
+        put(lists, staffing)
     }
 
     /// How many workers an arena is allotted. The carry goes on past it.
@@ -103,14 +107,20 @@ impl Listing<'_> {
     }
 }
 
-/// Puts a count above 0 at the end of a list, which can want memory.
+/// Puts an arena at the end of the list that it belongs to, if any. Wants memory only where there is one.
 #[inline(always)]
-fn put(counts: &mut Vec<(ArenaId, u32)>, arena: ArenaId, count: u32) -> Result<(), AllocError>
-    ensures listed { OnOk result (counts.new.items ≡ counts.old.items ++ listed arena count) }
-    ensures succeeds { count ≡ 0 → IsOk result }
+fn put(lists: &mut Lists, row: Staffing) -> Result<(), AllocError>
+    ensures listed { OnOk result (IsListed (row ∷ []) lists.old lists.new) }
+    ensures succeeds { counts_in (row ∷ []) ≡ record { recalls = []; hires = [] } → IsOk result }
 {
-    if count > 0 {
-        counts.push((arena, count))?;
-    }
-    Ok(())
+    let (correction, count) = match row.active.cmp(&row.allotted) {
+        Ordering::Less => (Correction::Hire, hire(row.active, row.allotted)),
+        Ordering::Equal => return Ok(()),
+        Ordering::Greater => (Correction::Recall, recall(row.active, row.allotted)),
+    };
+    lists.push(Imbalance {
+        arena: row.arena,
+        correction,
+        count,
+    })
 }

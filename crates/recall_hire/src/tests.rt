@@ -3,7 +3,7 @@ ghost use Rattle.std.specs.Prelude.{◌≡◌};
 
 use crate::{Roster, Sharing, first_in_need, list};
 use level_list::LevelList;
-use market_types::{ArenaId, Lists, Row, SeatNo};
+use market_types::{ArenaId, Correction, Imbalance, Lists, Row, SeatNo};
 use std::alloc::{AllocError, Global};
 
 /// The row of an arena with the number of its stamp.
@@ -83,8 +83,7 @@ fn listed(alloc: Global, all: bool) -> Result<Lists, AllocError> {
     let rows = three_arenas(alloc)?;
     let roster = two_placed(alloc)?;
     let mut lists = Lists {
-        recalls: Vec::new(alloc),
-        hires: Vec::new(alloc),
+        arenas: Vec::new(alloc),
     };
     let demand = rows.demand();
     let sharing = if all {
@@ -102,15 +101,27 @@ fn listed(alloc: Global, all: bool) -> Result<Lists, AllocError> {
     Ok(lists)
 }
 
+/// An arena that has so many workers too few.
+fn hiring(arena: u32, count: u32) -> Imbalance {
+    Imbalance {
+        arena: ArenaId::new(arena),
+        correction: Correction::Hire,
+        count,
+    }
+}
+
 #[test]
 fn counts_are_listed_in_order(rt: HostRuntime) -> Result<(), AllocError> {
-    let third = [(ArenaId::new(3), 1)];
-    let others = [(ArenaId::new(2), 5), (ArenaId::new(1), 2)];
+    let third = Imbalance {
+        arena: ArenaId::new(3),
+        correction: Correction::Recall,
+        count: 1,
+    };
     let lists = listed(rt.alloc(), true)?;
-    assert_eq!(rt; lists.recalls.as_slice(), third.as_slice());
-    assert_eq!(rt; lists.hires.as_slice(), others.as_slice());
+    let due = [third, hiring(2, 5), hiring(1, 2)];
+    assert_eq!(rt; lists.arenas.as_slice(), due.as_slice());
+    assert_eq!(rt; lists.len(), 3);
     let lists = listed(rt.alloc(), false)?;
-    assert_eq!(rt; lists.recalls.as_slice(), third.as_slice());
-    assert!(rt; lists.hires.is_empty());
+    assert_eq!(rt; lists.arenas.as_slice(), [third].as_slice());
     Ok(())
 }

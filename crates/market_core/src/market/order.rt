@@ -99,8 +99,7 @@ impl Market {
         let division = &self.divide();
         let mut visits = division.visits;
         let mut lists = Lists {
-            recalls: Vec::new(alloc),
-            hires: Vec::new(alloc),
+            arenas: Vec::new(alloc),
         };
         for level in 0..self.opening.levels {
             visits += self.list_level(division, Level::from_index(level as usize), &mut lists)?;

@@ -91,7 +91,7 @@ fn a_refused_growth_leaves_the_market(rt: HostRuntime) {
     let alloc = rt.alloc();
     let mut market = with_arenas(&rt, alloc);
     let lists = answer(&rt, alloc, &mut market, &Cmd::Lists);
-    assert!(&rt; matches!(&lists, Reply::Listed(lists) if lists.hires.len() == 6));
+    assert!(&rt; matches!(&lists, Reply::Listed(lists) if lists.len() == 6));
     for number in 1..6 {
         let made = answer(&rt, alloc, &mut market, &Cmd::Control(64 - number));
         assert!(&rt; matches!(&made, Reply::Controlled(control) if control.get() == number));

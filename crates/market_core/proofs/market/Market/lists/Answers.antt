@@ -1,4 +1,6 @@
 use Rattle.std.proofs.Common.{arith, ap, ◌∙◌, ◌≡◌, ◌+◌, ◌-◌, suc, length}
+use Rattle.market_types.specs.declared.lists.Correction.TheVariants.{Recall, Hire}
+use Rattle.market_types.specs.Corrections.{counts_to}
 use Rattle.market_types.specs.State.{State}
 use Rattle.market_types.specs.Step.{counts_of}
 use Rattle.recall_hire.specs.Shared.{IsListed}
@@ -16,7 +18,7 @@ loop-level-init c =
     let sound : IsSound s = rw c.self.view_is at c.self.invariant.sound in
     let lengths : length (levels_from 1 (s.levels - 0) s.arenas) ≡ length s.arenas = ap (λ n. length (levels_from 1 n s.arenas)) all ∙ in_order-length s sound.leveled in
     record {
-      listed = listing-from s (s.levels - 0) c.new.result.items c.new-2.result.items all c.new.ensures.items c.new-2.ensures.items;
+      listed = listing-from s (s.levels - 0) (counts_to Recall c.new.result.items) (counts_to Hire c.new.result.items) all (ap (counts_to Recall) c.new.ensures.items) (ap (counts_to Hire) c.new.ensures.items);
       entered = omega (arith, lengths, in_order-length s sound.leveled);
       visits = omega (arith, lengths, c.divide.ensures.visits);
       few = omega (arith, lengths, c.divide.ensures.few);
