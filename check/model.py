@@ -1,14 +1,19 @@
 #!/usr/bin/env python3
 """An independent model of the market, written from docs/RULES.md and docs/FORMATS.md alone: it walks every arena, carry by
-carry, and shares no code with the crates. Like `market run` it reads a script and writes the replies.
+carry, and shares no code with the crates. Like `market` it reads a script and writes the replies, or the journal of its
+calls; or it reads a journal and writes what is found of it.
 
-    check/model.py [--base N] [--hard N] [--seats N] [--levels N] < script
+    check/model.py [--base N] [--hard N] [--seats N] [--levels N] [--journal] < script
+    check/model.py --replay < journal
 """
 import argparse
 import sys
 
+from json_reader import NotJson, json_of
+
 LAST = 1_048_576
 MOST_WANTED, LEAST_WANTED = 2**31 - 1, -(2**31)
+MOST_ENTRIES, LONGEST_LINE = 1_048_576, 65_536
 NAMES = {"high": 1, "normal": 2, "low": 3}
 
 
@@ -18,6 +23,10 @@ class Refusal(Exception):
 
 class Unread(Exception):
     """A line spells no command."""
+
+
+class NoRecord(Exception):
+    """A value is no header, or no entry."""
 
 
 class Arena:
@@ -88,6 +97,12 @@ class Market:
         raise Refusal("F05 no arena")
 
     # ---- commands
+
+    def answer(self, seat, name, arguments):
+        try:
+            return getattr(self, name)(seat, *arguments)
+        except Refusal as refusal:
+            return str(refusal)
 
     def check_slots(self, slots, reserved):
         if not 1 <= slots <= 65535:
@@ -211,8 +226,7 @@ class Market:
             arenas = [a for a in self.arenas if a.level == level]
             demand, assigned = sum(a.request() for a in arenas), sum(allotted[a.number] for a in arenas)
             left -= assigned
-            name = list(NAMES)[level - 1] if self.levels == 3 else str(level)
-            yield f"level {name:<6} demand {demand:>8} assigned {assigned:>5} left {left:>5}"
+            yield f"level {level_text(level, self.levels):<6} demand {demand:>8} assigned {assigned:>5} left {left:>5}"
             for a in arenas:
                 step = ["-", "-", "-"]
                 if a.request() > 0 and self.limit() > 0:
@@ -234,7 +248,7 @@ class Market:
 
 
 def number(field):
-    if not field.isdigit() or not field.isascii() or (field[0] == "0" and field != "0") or int(field) >= 2**32:
+    if not field.isdigit() or not field.isascii() or (field[0] == "0" and field != "0") or len(field) > 10 or int(field) >= 2**32:
         raise Unread
     return int(field)
 
@@ -260,29 +274,42 @@ def level(field, levels):
     return value
 
 
-def read(line, seats, levels):
-    """The seat, the command's name in Market, and its arguments."""
-    seat, *words = line.split(" ")
-    if number(seat) >= seats or not words:
-        raise Unread
-    word, *fields = words
+def level_text(level, levels):
+    return list(NAMES)[level - 1] if levels == 3 and level <= 3 else str(level)
+
+
+def read(text, levels):
+    """The command's name in Market, and its arguments."""
+    word, *fields = text.split(" ")
     count = len(fields)
     middle = (levels + 1) // 2
     if word == "open" and 1 <= count <= 3:
         slots = number(fields[0])
         reserved = number(fields[1]) if count > 1 else 1
-        return int(seat), "open", (slots, reserved, level(fields[2], levels) if count > 2 else middle)
+        return "open", (slots, reserved, level(fields[2], levels) if count > 2 else middle)
     if word == "priority" and count == 2:
-        return int(seat), word, (number(fields[0]), level(fields[1], levels))
+        return word, (number(fields[0]), level(fields[1], levels))
     if word == "request" and 2 <= count <= 3:
-        return int(seat), word, (number(fields[0]), signed(fields[1]), signed(fields[2]) if count > 2 else 0)
+        return word, (number(fields[0]), signed(fields[1]), signed(fields[2]) if count > 2 else 0)
     counts = {"close": 1, "resize": 3, "control": 1, "uncontrol": 1, "join": 0, "stay": 0, "leave": 0, "show": 1, "lists": 0, "limit": 0}
     if counts.get(word) != count:
         raise Unread
-    return int(seat), {"limit": "limits"}.get(word, word), tuple(number(field) for field in fields)
+    return {"limit": "limits"}.get(word, word), tuple(number(field) for field in fields)
 
 
-def answers(market, script):
+def canonical(name, arguments, levels):
+    """The text of a command, with every field."""
+    fields = [str(argument) for argument in arguments]
+    if name in ("open", "priority"):
+        fields[-1] = level_text(arguments[-1], levels)
+    return " ".join([{"limits": "limit"}.get(name, name), *fields])
+
+
+# ---- scripts
+
+
+def calls(market, script):
+    """Of each line that is answered the seat, the command's text and the reply; None of one that is unread."""
     lines = script.split(b"\n")
     if lines[-1] == b"":
         lines.pop()
@@ -290,24 +317,111 @@ def answers(market, script):
         if line == b"" or line.startswith(b"#"):
             continue
         try:
-            if len(line) > 256:
+            seat, space, text = line.decode("latin-1").partition(" ")
+            if len(line) > 256 or not space or number(seat) >= len(market.seats):
                 raise Unread
-            seat, name, arguments = read(line.decode("latin-1"), len(market.seats), market.levels)
-            yield getattr(market, name)(seat, *arguments)
+            name, arguments = read(text, market.levels)
         except Unread:
-            yield "unread"
-        except Refusal as refusal:
-            yield str(refusal)
+            yield None
+        else:
+            yield int(seat), canonical(name, arguments, market.levels), market.answer(int(seat), name, arguments)
+
+
+def replies(called):
+    return ["unread" if call is None else call[2] for call in called]
+
+
+# ---- journals
+
+
+def journal(market, called):
+    """The journal of the calls from the opening of this market on, line by line."""
+    lines = [f'{{"base":{market.base},"hard":{market.hard},"journal":2,"levels":{market.levels},"seats":{len(market.seats)}}}']
+    for call in called:
+        if call is not None:
+            seat, text, reply = call
+            lines.append(f'{{"cmd":"{text}","reply":"{reply}","seat":{seat}}}')
+    return lines
+
+
+def whole(value, key, least, most):
+    found = value.get(key)
+    if type(found) is not int or not least <= found <= most:
+        raise NoRecord
+    return found
+
+
+def opened(header):
+    """The market that a header opens."""
+    if type(header) is not dict:
+        raise NoRecord
+    version = whole(header, "journal", 1, 2)
+    if set(header) != {"base", "hard", "journal", "seats"} | ({"levels"} if version == 2 else set()):
+        raise NoRecord
+    levels = whole(header, "levels", 1, 8) if version == 2 else 3
+    return Market(whole(header, "base", 1, 65536), whole(header, "hard", 1, 65535), whole(header, "seats", 1, 64), levels)
+
+
+def recorded(entry, market):
+    """The call that an entry tells, and the text that is to be its reply."""
+    if type(entry) is not dict or set(entry) != {"cmd", "reply", "seat"}:
+        raise NoRecord
+    if type(entry["cmd"]) is not str or type(entry["reply"]) is not str:
+        raise NoRecord
+    try:
+        name, arguments = read(entry["cmd"], market.levels)
+    except Unread:
+        raise NoRecord from None
+    return whole(entry, "seat", 0, len(market.seats) - 1), name, arguments, entry["reply"]
+
+
+def value_of(line):
+    if len(line) > LONGEST_LINE:
+        raise NotJson
+    return json_of(line)
+
+
+def verdict(text):
+    """What is found of a journal, told by its first faulty line."""
+    *lines, left = text.split(b"\n")
+    try:
+        market = opened(value_of(lines[0]))
+    except (IndexError, NotJson, NoRecord):
+        return "J1 bad header"
+    for place, line in enumerate(lines[1:], 2):
+        try:
+            entry = value_of(line)
+        except NotJson:
+            return f"J2 bad json line {place}"
+        try:
+            if place - 2 >= MOST_ENTRIES:
+                raise NoRecord
+            seat, name, arguments, reply = recorded(entry, market)
+        except NoRecord:
+            return f"J3 bad record line {place}"
+        due = market.answer(seat, name, arguments)
+        if due != reply:
+            return f"J4 wrong reply line {place} due {due}"
+    return f"J2 bad json line {len(lines) + 1}" if left else f"legal {len(lines) - 1}"
 
 
 def main():
     parser = argparse.ArgumentParser()
     for name, default in (("base", 8), ("hard", 64), ("seats", 4), ("levels", 3)):
         parser.add_argument(f"--{name}", type=int, default=default)
+    parser.add_argument("--journal", action="store_true")
+    parser.add_argument("--replay", action="store_true")
     words = parser.parse_args()
-    replies = list(answers(Market(words.base, words.hard, words.seats, words.levels), sys.stdin.buffer.read()))
-    sys.stdout.write("".join(f"{reply}\n" for reply in replies))
-    return 1 if "unread" in replies else 0
+    text = sys.stdin.buffer.read()
+    if words.replay:
+        found = verdict(text)
+        print(found)
+        return 0 if found.startswith("legal ") else 1
+    market = Market(words.base, words.hard, words.seats, words.levels)
+    called = list(calls(market, text))
+    for line in journal(market, called) if words.journal else replies(called):
+        print(line)
+    return 1 if None in called else 0
 
 
 if __name__ == "__main__":

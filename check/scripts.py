@@ -4,11 +4,12 @@ ends it, with status 1 and the script on standard error.
 
     check/scripts.py PROGRAM [COUNT [SEED]]        as check/scripts.py crates/market/out/market 1000
 """
+import itertools
 import random
 import subprocess
 import sys
 
-from model import Market, answers
+from model import Market, calls, replies
 
 
 def a_number(rng, most):
@@ -39,28 +40,48 @@ def a_line(rng, seats, levels, arenas):
     return f"{seat} {command}" + ("\r" if rng.random() < 0.003 else "") + (" " * 260 if rng.random() < 0.002 else "")
 
 
+def a_script(rng):
+    """What a market is opened with, and a script for it."""
+    base, hard = rng.choice([1, 2, 3, 8, 40]), rng.choice([1, 5, 64, 65535])
+    seats, levels = rng.choice([1, 4, 16, 64]), rng.choice([1, 2, 3, 3, 5, 8])
+    arenas = rng.choice([2, 6, 30])
+    script = "\n".join(a_line(rng, seats, levels, arenas) for _ in range(rng.choice([20, 200, 600])))
+    if rng.random() < 0.8:
+        script += "\n"
+    return (base, hard, seats, levels), script.encode("latin-1")
+
+
+def options(opening):
+    words = zip(("--base", "--hard", "--seats", "--levels"), map(str, opening))
+    return [word for pair in words for word in pair]
+
+
+def differs(command, text, lines, status):
+    """Whether the command, given the text, writes anything but these lines, or ends with another status. Then it is told."""
+    ran = subprocess.run(command, input=text, capture_output=True)
+    due = "".join(f"{line}\n" for line in lines).encode("latin-1")
+    if ran.stdout == due and ran.returncode == status:
+        return False
+    sys.stderr.buffer.write(text)
+    print(f"\n{' '.join(command)} differs; status {ran.returncode}, due {status}", file=sys.stderr)
+    for said, due_line in itertools.zip_longest(ran.stdout.split(b"\n"), due.split(b"\n")):
+        if said != due_line:
+            print(f"written {said}, due {due_line}", file=sys.stderr)
+            break
+    return True
+
+
 def main():
     program, count, seed = sys.argv[1], int((sys.argv + [100])[2]), int((sys.argv + [0, 0])[3])
     lines = 0
     for k in range(count):
-        rng = random.Random(f"{seed}/{k}")
-        base, hard = rng.choice([1, 2, 3, 8, 40]), rng.choice([1, 5, 64, 65535])
-        seats, levels = rng.choice([1, 4, 16, 64]), rng.choice([1, 2, 3, 3, 5, 8])
-        arenas = rng.choice([2, 6, 30])
-        script = "\n".join(a_line(rng, seats, levels, arenas) for _ in range(rng.choice([20, 200, 600])))
-        if rng.random() < 0.8:
-            script += "\n"
-        text = script.encode("latin-1")
-        words = ["--base", base, "--hard", hard, "--seats", seats, "--levels", levels]
-        market = Market(base, hard, seats, levels)
-        replies = list(answers(market, text))
-        for word, due in (("run", replies), ("explain", list(market.explanation()))):
-            ran = subprocess.run([program, word, *map(str, words)], input=text, capture_output=True)
-            due = "".join(f"{line}\n" for line in due).encode("latin-1")
-            status = 1 if "unread" in replies else 0
-            if ran.stdout != due or ran.returncode != status:
-                sys.stderr.buffer.write(text)
-                print(f"\nscript {k} of seed {seed} ({word} {words}) differs; status {ran.returncode}, due {status}", file=sys.stderr)
+        opening, text = a_script(random.Random(f"{seed}/{k}"))
+        market = Market(*opening)
+        called = list(calls(market, text))
+        status = 1 if None in called else 0
+        for word, due in (("run", replies(called)), ("explain", market.explanation())):
+            if differs([program, word, *options(opening)], text, due, status):
+                print(f"script {k} of seed {seed}", file=sys.stderr)
                 return 1
         lines += text.count(b"\n")
     print(f"{count} scripts, {lines} lines, no difference")

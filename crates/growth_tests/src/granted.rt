@@ -60,7 +60,6 @@ fn recorded(rt: &impl Abort, alloc: Global) -> Chronicle
     call(rt, alloc, &mut chronicle, &Cmd::Lists);
     call(rt, alloc, &mut chronicle, &Cmd::Join);
     call(rt, alloc, &mut chronicle, &Cmd::Leave);
-    call(rt, alloc, &mut chronicle, &Cmd::Control(8));
     chronicle
 }
 

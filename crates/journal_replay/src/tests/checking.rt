@@ -119,6 +119,15 @@ fn a_line_has_65_536_bytes_at_most(rt: HostRuntime) -> Result<(), AllocError> {
     Ok(())
 }
 
+/// The header, and a line of so many arrays, one in the other.
+fn with_arrays(alloc: Global, depth: usize) -> Result<Vec<u8>, AllocError> {
+    let mut text = text_of(alloc, &[HEADER])?;
+    text.extend_from_slice(&vec![in alloc; b'['; depth]?)?;
+    text.extend_from_slice(&vec![in alloc; b']'; depth]?)?;
+    text.push(b'\n')?;
+    Ok(text)
+}
+
 #[test]
 fn a_line_is_utf8_and_nests_little(rt: HostRuntime) -> Result<(), AllocError> {
     let mut text = text_of(rt.alloc(), &[HEADER])?;
@@ -130,6 +139,10 @@ fn a_line_is_utf8_and_nests_little(rt: HostRuntime) -> Result<(), AllocError> {
     }
     text.push(b'\n')?;
     finds(&rt, rt.alloc(), &text, "J2 bad json line 3");
+    let text = with_arrays(rt.alloc(), 127)?;
+    finds(&rt, rt.alloc(), &text, "J3 bad record line 2");
+    let text = with_arrays(rt.alloc(), 128)?;
+    finds(&rt, rt.alloc(), &text, "J2 bad json line 2");
     Ok(())
 }
 
@@ -165,6 +178,34 @@ fn a_whole_number_is_written_as_one(rt: HostRuntime) {
             panic!(&rt; "no memory");
         };
         lines_find(&rt, alloc, &[&header], "J1 bad header");
+    }
+}
+
+#[test]
+fn what_is_no_json_is_faulty(rt: HostRuntime) {
+    for value in [
+        "1e400",
+        "01",
+        "+1",
+        ".5",
+        "NaN",
+        "nul",
+        "0 0",
+        "[0,]",
+        "\"\\ud800\"",
+        "\"\\udc00\\ud800\"",
+        "\"\\x41\"",
+        "\"\t\"",
+        "\"0",
+        "",
+    ] {
+        let alloc = rt.alloc();
+        let Ok(entry) = format!(in alloc;
+            "{{\"cmd\":\"limit\",\"reply\":\"value 8 limit 7 effective 7\",\"seat\":{value}}}"
+        ) else {
+            panic!(&rt; "no memory");
+        };
+        lines_find(&rt, alloc, &[HEADER, &entry], "J2 bad json line 2");
     }
 }
 
@@ -284,16 +325,4 @@ fn a_failing_source_is_a_fault(rt: HostRuntime) -> Result<(), AllocError> {
     let found = check_source(rt.alloc(), &mut source);
     assert!(&rt; matches!(&found, Ok(Verdict::Legal(3))));
     Ok(())
-}
-
-#[test]
-fn a_refused_growth_is_told(rt: HostRuntime) {
-    let alloc = rt.alloc();
-    let Ok(text) = text_of(alloc, &[HEADER, OPEN, REQUEST, SHOW]) else {
-        return;
-    };
-    let Ok(verdict) = check(alloc, &text) else {
-        return;
-    };
-    assert!(&rt; matches!(&verdict, Verdict::Legal(3)));
 }
