@@ -2,7 +2,7 @@
 -- names its section; all others are our own, among them the order, the carries, and that enqueued work is a mandatory count.
 use Rattle.std.specs.Prelude.{ℕ, ◌+◌, ◌-◌, ◌*◌, ◌/◌, ◌%◌, min, Bool, false, ◌&&◌, nat_lt, ◌==◌, if◌then◌else◌, List, [], ◌∷◌, map, Option, Some, None, unwrap_or, slice_index}
 use Rattle.std.specs.List.{filter, flat_map, sum_by, count_by, fold, find, list_any, position_from, range_with_len, reduce}
-use Rattle.market_types.specs.State.{Claim, Arena, Control, State}
+use Rattle.market_types.specs.State.{Arena, Control, State}
 use Rattle.market_types.specs.Claims.{request_of, is_mandated}
 
 -- ---- the limit

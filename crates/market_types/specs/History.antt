@@ -1,6 +1,6 @@
 -- Lists of commands, what they are answered, and what one seat sees of them.
-use Rattle.std.specs.Prelude.{◌≡◌, ℕ, ◌==◌, ◌+◌, ◌-◌, Bool, List, [], ◌∷◌, map, length, Option, Some, None, is_some}
-use Rattle.std.specs.List.{filter, fold, count_by}
+use Rattle.std.specs.Prelude.{◌≡◌, ℕ, ◌==◌, List, [], ◌∷◌, map, Option, Some, None}
+use Rattle.std.specs.List.{filter, fold}
 use Rattle.market_types.specs.declared.command.Call.{Call}
 use Rattle.market_types.specs.declared.reply.Entry.{Entry}
 use Rattle.market_types.specs.declared.reply.Reply.{Reply}

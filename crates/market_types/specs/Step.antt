@@ -1,10 +1,10 @@
 -- What each command is answered, and what the market is after it. The first refusal that applies is the answer (own).
-use Rattle.std.specs.Prelude.{ℕ, ◌+◌, ℤ, pos, negsuc, ◌+ℤ◌, ◌^◌, Bool, false, ◌||◌, not, nat_lt, nat_le, ◌==◌, if◌then◌else◌, List, [], ◌∷◌, ◌++◌, map, length, Option, Some, None, unwrap_or, slice_get, slice_set, Result, Ok, Err}
+use Rattle.std.specs.Prelude.{ℕ, ◌+◌, ℤ, ◌||◌, not, nat_lt, nat_le, ◌==◌, if◌then◌else◌, List, [], ◌∷◌, ◌++◌, map, length, Option, Some, None, unwrap_or, slice_get, slice_set, Result, Ok, Err}
 use Rattle.std.specs.List.{filter, find, list_any}
 use Rattle.market_types.specs.declared.command.Cmd.{Cmd}
 use Rattle.market_types.specs.declared.command.Cmd.TheVariants.{Open, Close, Priority, Resize, Request, Control as ControlBy, Uncontrol, Join, Stay, Leave, Show, Lists, Limit}
 use Rattle.market_types.specs.declared.reply.Fault.{Fault}
-use Rattle.market_types.specs.declared.reply.Fault.TheVariants.{BadSlots, BadReserve, TooManyArenas, OutOfNumbers, NoArena, Busy, WantedRange, MandatoryRange, BadValue, TooManyControls, NoControl, AlreadyPlaced, NotPlaced, BadLevel}
+use Rattle.market_types.specs.declared.reply.Fault.TheVariants.{TooManyArenas, OutOfNumbers, NoArena, Busy, BadValue, TooManyControls, NoControl, AlreadyPlaced, NotPlaced, BadLevel}
 use Rattle.market_types.specs.declared.reply.ArenaView.{ArenaView}
 use Rattle.market_types.specs.declared.reply.LimitView.{LimitView}
 use Rattle.market_types.specs.declared.reply.Reply.{Reply}

@@ -13,6 +13,9 @@ use crate::reply::{ArenaView, Fault, LimitView, OpenFault, Reply};
 use itoa::Buffer;
 use std::alloc::{AllocError, Global};
 
+/// Most replies are no longer than this.
+const USUAL_LENGTH: usize = 24;
+
 /// The canonical text of a command in a market of so many levels, as `open 8 1 normal`: every field is written, and a
 /// level by its name where it has one. `Err` says that memory ran out.
 pub fn cmd_text(alloc: Global, cmd: &Cmd, levels: u32) -> Result<String, AllocError>
@@ -101,7 +104,7 @@ pub fn open_fault_text(fault: OpenFault) -> &'static str
 pub fn reply_text(alloc: Global, reply: &Reply) -> Result<String, AllocError>
     ensures exact { IfOk result (λ text. string_bytes text ≡ reply_text reply.now) }
 {
-    let mut text = Vec::new(alloc);
+    let mut text = Vec::with_capacity(alloc, USUAL_LENGTH)?;
     push_reply(&mut text, reply)?;
     let Ok(text) = String::from_utf8(text) else {
         unreachable!()
