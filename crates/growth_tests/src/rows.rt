@@ -88,6 +88,7 @@ fn place(roster: &mut Roster, seat: u8, arena: ArenaId) {
 }
 
 /// What is listed where each arena is allotted all that it asks for.
+#[tactic(auto, using(recall_hire::proofs::Listings::few_actives))]
 fn listed(rows: &LevelList, roster: &Roster, alloc: Global) -> Result<Lists, AllocError> {
     let mut lists = Lists {
         arenas: Vec::new(alloc),
@@ -97,7 +98,9 @@ fn listed(rows: &LevelList, roster: &Roster, alloc: Global) -> Result<Lists, All
         workers: demand,
         demand,
     };
-    list(roster, &rows.whole(), all, &mut lists)?;
+    let _ = roster.seats();
+    let mut unmet = u32::MAX;
+    list(roster, &rows.whole(), all, &mut unmet, &mut lists)?;
     Ok(lists)
 }
 

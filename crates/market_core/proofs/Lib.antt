@@ -10,4 +10,5 @@ mod Assigned
 mod LevelWalk
 mod InNeed
 mod Listing
+mod Seats
 mod Examples

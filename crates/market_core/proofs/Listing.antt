@@ -1,5 +1,5 @@
 -- The lists of all levels, put together level by level.
-use Rattle.std.proofs.Common.{◌≡◌, ℕ, suc, ◌+◌, List, [], ◌∷◌, ◌++◌, map, sym, ap, ◌∙◌, refl, append_assoc, append-nil}
+use Rattle.std.proofs.Common.{◌≡◌, ℕ, suc, ◌+◌, List, [], ◌∷◌, ◌++◌, map, length, length-append, sym, ap, ◌∙◌, refl, arith, append_assoc, append-nil}
 use Rattle.std.specs.Prelude.{nat_lt}
 use Rattle.std.specs.List.{filter}
 use Rattle.std.proofs.lemmas.List.{map-append}
@@ -9,7 +9,7 @@ use Rattle.market_types.specs.Counts.{Counts}
 use Rattle.market_types.specs.Allotment.{at_level, in_order, recall, hire}
 use Rattle.market_types.specs.Step.{above_zero, counts_of}
 use Rattle.recall_hire.specs.declared.rows.Staffing.{Staffing}
-use Rattle.recall_hire.specs.Staffed.{row_of, rows_of, rows_among, above_zero_in, recall_in, hire_in}
+use Rattle.recall_hire.specs.Staffed.{row_of, rows_of, rows_among, above_zero_in, recall_in, hire_in, imbalances}
 use Rattle.recall_hire.specs.Shared.{IsListed}
 use Rattle.market_core.specs.Divided.{rows_at}
 use Rattle.market_core.proofs.Order.{levels_from}
@@ -20,16 +20,19 @@ above-append count xs ys =
     let p : ℕ × ℕ → _ = λ e. nat_lt 0 e.1 in
     ap (filter p) (map-append f xs ys) ∙ filter-append p (map f xs) (map f ys)
 
+-- the rows of a level, and those of the levels after it
+pub rows-parts : (s : State) (from n m : ℕ) → m ≡ suc n → rows_among s (levels_from from m s.arenas) ≡ rows_at s from ++ rows_among s (levels_from (from + 1) n s.arenas)
+rows-parts s from n m e =
+    ap (λ k. rows_among s (levels_from from k s.arenas)) e ∙ map-append (row_of s) (at_level from s.arenas) (levels_from (from + 1) n s.arenas)
+
 one-list : (count : Staffing → ℕ) (s : State) (from n m : ℕ) (before after all : List (ℕ × ℕ)) → m ≡ suc n
     → after ≡ before ++ above_zero_in count (rows_at s from) → before ++ above_zero_in count (rows_among s (levels_from from m s.arenas)) ≡ all
     → after ++ above_zero_in count (rows_among s (levels_from (from + 1) n s.arenas)) ≡ all
 one-list count s from n m before after all e added so_far =
     let later : List Staffing = rows_among s (levels_from (from + 1) n s.arenas) in
-    let parts : rows_among s (levels_from from m s.arenas) ≡ rows_at s from ++ later =
-    ap (λ k. rows_among s (levels_from from k s.arenas)) e ∙ map-append (row_of s) (at_level from s.arenas) (levels_from (from + 1) n s.arenas) in
     ap (λ xs. xs ++ above_zero_in count later) added
     ∙ append_assoc before (above_zero_in count (rows_at s from)) (above_zero_in count later)
-    ∙ ap (λ xs. before ++ xs) (sym (ap (above_zero_in count) parts ∙ above-append count (rows_at s from) later))
+    ∙ ap (λ xs. before ++ xs) (sym (ap (above_zero_in count) (rows-parts s from n m e) ∙ above-append count (rows_at s from) later))
     ∙ so_far
 
 -- the lists so far and what is still to come are all of it; so they are after one level more
@@ -41,6 +44,14 @@ level-listed s from n m before after all e f g =
       recalls = sym (one-list recall_in s from n m before.recalls after.recalls all.recalls e f.recalls (sym g.recalls));
       hires = sym (one-list hire_in s from n m before.hires after.hires all.hires e f.hires (sym g.hires));
     }
+
+-- so many more stand in the lists
+pub level-longer : (s : State) (level : ℕ) (before after : Counts) → IsListed (rows_at s level) before after
+    → length after.recalls + length after.hires ≡ length before.recalls + length before.hires + imbalances (rows_at s level)
+level-longer s level before after f =
+    let recalls = ap length f.recalls ∙ length-append before.recalls (above_zero_in recall_in (rows_at s level)) in
+    let hires = ap length f.hires ∙ length-append before.hires (above_zero_in hire_in (rows_at s level)) in
+    omega (arith, recalls, hires)
 
 -- ---- all levels
 

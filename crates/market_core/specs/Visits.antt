@@ -5,7 +5,7 @@ use Rattle.market_types.specs.declared.command.Cmd.TheVariants.{Join, Lists}
 use Rattle.market_types.specs.declared.reply.Reply.{Reply}
 use Rattle.market_types.specs.declared.reply.Reply.TheVariants.{Opened, Closed, Moved, Resized, Requested, Placed, Idle, Stays, Shown, Listed}
 use Rattle.market_types.specs.State.{State}
-use Rattle.market_types.specs.Allotment.{limit_of, in_order}
+use Rattle.market_types.specs.Allotment.{limit_of}
 use Rattle.recall_hire.specs.Staffed.{rows_of, searches}
 use Rattle.arena_store.specs.Bits.{bits}
 
@@ -17,7 +17,7 @@ extra_visits s = if limit_of s == 0 then s.levels * (2 * bits (length s.arenas))
 abbrev pub most_visits : State → ℕ
 most_visits s = 4 * bits (length s.arenas) + 1 + extra_visits s
 
--- the most that Lists may enter: each row once
+-- the most that Lists may enter: no row twice
 abbrev pub most_listed : State → ℕ
 most_listed s = length s.arenas + extra_visits s
 
@@ -41,8 +41,8 @@ abbrev pub searched : State → ℕ
 searched s = if limit_of s == 0 then 0 else searches (rows_of s)
 
 -- the fewest that a command entered which has this reply: one for each row that was put in, taken out or set, one to see
--- an arena that asks for workers or to place or keep a seat, one for each arena that a Join looked at, and every row for
--- the lists
+-- an arena that asks for workers or to place or keep a seat, one for each arena that a Join looked at, and one for each
+-- that is listed
 abbrev pub least_visits : State → Reply → ℕ
 least_visits s (Opened arena) = 1
 least_visits s Closed = 1
@@ -53,5 +53,5 @@ least_visits s (Placed arena) = max 1 (searched s)
 least_visits s Idle = searched s
 least_visits s (Stays arena) = 1
 least_visits s (Shown view) = min 1 view.request
-least_visits s (Listed lists) = length (in_order s)
+least_visits s (Listed lists) = length lists.recalls + length lists.hires
 least_visits s _ = 0

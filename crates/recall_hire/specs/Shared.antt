@@ -4,7 +4,7 @@ use Rattle.std.specs.List.{fold, count_by}
 use Rattle.market_types.specs.declared.row.Row.{Row}
 use Rattle.market_types.specs.Allotment.{is_just}
 use Rattle.recall_hire.specs.declared.rows.Staffing.{Staffing}
-use Rattle.recall_hire.specs.Staffed.{first_in_need, searches, above_zero_in, recall_in, hire_in}
+use Rattle.recall_hire.specs.Staffed.{first_in_need, searches, above_zero_in, recall_in, hire_in, imbalances, actives}
 use Rattle.market_types.specs.Counts.{Counts}
 use Rattle.recall_hire.specs.declared.sharing.Sharing.{Sharing}
 use Rattle.recall_hire.specs.declared.sharing.Sharing.TheVariants.{Carried, Picked}
@@ -56,3 +56,12 @@ CanShareAll (Picked arena workers) carry asked = Unit {0}
 pub record IsListed (rows : List Staffing) (before after : Counts) : Type 0 where
   pub recalls : after.recalls ≡ before.recalls ++ above_zero_in recall_in rows
   pub hires : after.hires ≡ before.hires ++ above_zero_in hire_in rows
+
+-- a walk over the rows of a stretch: what it listed, the carry after it, the seats that it met, and its visits, which are one
+-- at least for each row that it listed, and no more than one for each row (private functions alone cite this)
+pub record IsWalk (sharing : Sharing) (seats : List (Option ℕ)) (rows : List Row) (carry after unmet left visits more : ℕ) (before lists : Counts) : Type 0 where
+  pub listed : IsListed (staffed sharing seats carry rows) before lists
+  pub carried : after ≡ carry_after sharing carry rows
+  pub met : unmet ≡ left + actives (staffed sharing seats carry rows)
+  pub looked : visits + imbalances (staffed sharing seats carry rows) ≤ more
+  pub once : more ≤ visits + length rows

@@ -1,6 +1,6 @@
 -- What arenas have of what they are allotted, in the order in which they are served.
-use Rattle.std.specs.Prelude.{ℕ, ◌+◌, ◌-◌, ◌==◌, nat_lt, if◌then◌else◌, List, [], ◌∷◌, map, Option}
-use Rattle.std.specs.List.{filter, find}
+use Rattle.std.specs.Prelude.{ℕ, ◌+◌, ◌-◌, ◌==◌, nat_lt, if◌then◌else◌, List, [], ◌∷◌, map, length, Option}
+use Rattle.std.specs.List.{filter, find, sum_by}
 use Rattle.std.specs.Option.{option_map}
 use Rattle.market_types.specs.State.{State, Arena}
 use Rattle.market_types.specs.Counts.{Counts}
@@ -37,6 +37,14 @@ above_zero_in count rows =
 -- those with too many, and those with too few
 abbrev pub counts_in : List Staffing → Counts
 counts_in rows = record { recalls = above_zero_in recall_in rows; hires = above_zero_in hire_in rows }
+
+-- how many rows are listed: those with too many, and those with too few
+abbrev pub imbalances : List Staffing → ℕ
+imbalances rows = length (above_zero_in recall_in rows) + length (above_zero_in hire_in rows)
+
+-- how many seats are placed at the arenas of rows
+abbrev pub actives : List Staffing → ℕ
+actives rows = sum_by (λ (r : Staffing). r.active) rows
 
 -- ---- in a market
 

@@ -1,8 +1,9 @@
-//! Where workers are too many or too few: a walk over all of a level's arenas.
-ghost use Rattle.std.specs.Prelude.{◌≡◌, ◌+◌, ◌^◌, ◌<◌, ◌≤◌, [], ◌∷◌, length, IsOk, IfOk, OnOk};
+//! Where workers are too many or too few: a walk through a level's arenas, past those that cannot be listed.
+ghost use Rattle.std.specs.Prelude.{◌≡◌, ℕ, ◌+◌, ◌^◌, ◌<◌, ◌≤◌, [], ◌∷◌, length, IsOk, IfOk, IfSome, OnOk};
+ghost use Rattle.market_types.specs.Counts.{Counts};
 ghost use Rattle.level_list.specs.Rows.{requests};
-ghost use Rattle.recall_hire.specs.Staffed.{counts_in};
-ghost use Rattle.recall_hire.specs.Shared.{CanShareAll, row_share, row_carry, staffed, carry_after, IsListed};
+ghost use Rattle.recall_hire.specs.Staffed.{actives, counts_in, imbalances};
+ghost use Rattle.recall_hire.specs.Shared.{CanShareAll, row_share, row_carry, staffed, IsListed, IsWalk};
 
 use crate::roster::Roster;
 use crate::rows::{Staffing, hire, recall};
@@ -13,22 +14,30 @@ use std::alloc::AllocError;
 use std::cmp::Ordering;
 
 /// Puts a level's arenas, newest first, at the end of lists, each with how many workers it has too many or too few; and
-/// says how many nodes that entered: each once. Wants memory only for what it lists.
+/// says how many nodes that entered: none twice, and one at least for each arena that it lists. Wants memory only for what
+/// it lists.
+///
+/// `unmet` counts seats that may be placed at these arenas, at least those that are. They are taken off it; once none is
+/// left, arenas are passed over where none of them is allotted a worker.
 pub fn list(
     roster: &Roster,
     rows: &Stretch,
     sharing: Sharing,
+    unmet: &mut u32,
     lists: &mut Lists,
 ) -> Result<u32, AllocError>
     requires shared { CanShareAll sharing 0 (requests rows.now.0) }
     requires few { length rows.now.0 ≤ 1024 }
+    requires unmet { actives (staffed sharing roster.now 0 rows.now.0) ≤ unmet.old }
     ensures listed { OnOk result (IsListed (staffed sharing roster.now 0 rows.now.0) lists.old lists.new) }
-    ensures visits { IfOk result (λ visits. visits ≡ length rows.now.0) }
+    ensures met { OnOk result (unmet.old ≡ unmet.new + actives (staffed sharing roster.now 0 rows.now.0)) }
+    ensures looked { IfOk result (λ visits. imbalances (staffed sharing roster.now 0 rows.now.0) ≤ visits) }
+    ensures once { IfOk result (λ visits. visits ≤ length rows.now.0) }
     ensures succeeds { counts_in (staffed sharing roster.now 0 rows.now.0) ≡ record { recalls = []; hires = [] } → IsOk result }
 {
     let listing = Listing { roster, sharing };
     let (mut carry, mut visits) = (0, 0);
-    listing.list(rows, &mut carry, &mut visits, lists)?;
+    listing.list(rows, &mut carry, unmet, &mut visits, lists)?;
     Ok(visits)
 }
 
@@ -40,41 +49,81 @@ struct Listing<'a> {
 }
 
 impl Listing<'_> {
-    /// Puts a stretch's arenas at the end of lists. The carry goes on past all of them.
+    /// Puts a stretch's arenas at the end of lists. The carry goes on past all of them, and their seats are met.
     fn list(
         &self,
         rows: &Stretch,
         carry: &mut u64,
+        unmet: &mut u32,
         visits: &mut u32,
         lists: &mut Lists,
     ) -> Result<(), AllocError>
         requires shared { CanShareAll self.now.sharing carry.old (requests rows.now.0) }
         requires few { visits.old + length rows.now.0 < 2 ^ 31 }
-        ensures listed { OnOk result (IsListed (staffed self.now.sharing self.now.roster.now carry.old rows.now.0) lists.old lists.new) }
-        ensures carried { OnOk result (carry.new ≡ carry_after self.now.sharing carry.old rows.now.0) }
-        ensures visits { OnOk result (visits.new ≡ visits.old + length rows.now.0) }
+        requires unmet { actives (staffed self.now.sharing self.now.roster.now carry.old rows.now.0) ≤ unmet.old }
+        ensures walked { OnOk result (IsWalk self.now.sharing self.now.roster.now rows.now.0 carry.old carry.new unmet.old unmet.new visits.old visits.new lists.old lists.new) }
         ensures succeeds { counts_in (staffed self.now.sharing self.now.roster.now carry.old rows.now.0) ≡ record { recalls = []; hires = [] } → IsOk result }
     {
+        if let Some(after) = self.past(rows, *carry, *unmet) {
+            *carry = after;
+            return Ok(());
+        }
         match rows.enter(visits) {
             None => Ok(()),
             Some(parts) => {
-                self.list(&parts.newer, carry, visits, lists)?;
-                self.add(parts.row, carry, lists)?;
-                self.list(&parts.older, carry, visits, lists)
+                self.list(&parts.newer, carry, unmet, visits, lists)?;
+                self.add(parts.row, carry, unmet, lists)?;
+                self.list(&parts.older, carry, unmet, visits, lists)
             }
         }
     }
 
-    /// Puts an arena at the end of the list that it belongs to, if any. The carry goes on past it.
+    /// The carry past a stretch where nobody is allotted a worker or has one, so that none of it is listed. None where
+    /// somebody may be: seats are left to be met, or a worker is due.
     #[inline(always)]
-    fn add(&self, row: &Row, carry: &mut u64, lists: &mut Lists) -> Result<(), AllocError>
+    fn past(&self, rows: &Stretch, carry: u64, unmet: u32) -> Option<u64>
+        requires shared { CanShareAll self.now.sharing carry (requests rows.now.0) }
+        requires unmet { actives (staffed self.now.sharing self.now.roster.now carry rows.now.0) ≤ unmet }
+        ensures { IfSome result (λ after. (visits : ℕ) (lists : Counts) → IsWalk self.now.sharing self.now.roster.now rows.now.0 carry after unmet unmet visits visits lists lists) }
+    {
+        if unmet > 0 {
+            return None;
+        }
+        match self.sharing {
+            Sharing::Carried { workers, demand } => {
+                let requests = rows.requests();
+                if requests == 0 {
+                    return Some(carry);
+                }
+                let due = workers * requests + carry;
+                if due < demand { Some(due) } else { None }
+            }
+            Sharing::Picked { arena, .. } => match arena {
+                None => Some(carry),
+                Some(_) => None,
+            },
+        }
+    }
+
+    /// Puts an arena at the end of the list that it belongs to, if any. The carry goes on past it, and its seats are met.
+    #[inline(always)]
+    fn add(
+        &self,
+        row: &Row,
+        carry: &mut u64,
+        unmet: &mut u32,
+        lists: &mut Lists,
+    ) -> Result<(), AllocError>
         requires shared { CanShareAll self.now.sharing carry.old row.now.request }
+        requires unmet { actives (staffed self.now.sharing self.now.roster.now carry.old (row.now ∷ [])) ≤ unmet.old }
         ensures listed { OnOk result (IsListed (staffed self.now.sharing self.now.roster.now carry.old (row.now ∷ [])) lists.old lists.new) }
         ensures carry { OnOk result (carry.new ≡ row_carry self.now.sharing carry.old row.now) }
+        ensures met { OnOk result (unmet.old ≡ unmet.new + actives (staffed self.now.sharing self.now.roster.now carry.old (row.now ∷ []))) }
         ensures succeeds { counts_in (staffed self.now.sharing self.now.roster.now carry.old (row.now ∷ [])) ≡ record { recalls = []; hires = [] } → IsOk result }
     {
         let arena = row.arena;
         let active = self.roster.active(arena);
+        *unmet -= active;
         let allotted = self.allot(row, active, carry);
         let staffing = Staffing {
             arena,

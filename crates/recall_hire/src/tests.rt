@@ -79,6 +79,7 @@ fn a_worker_goes_to_the_first_arena_in_need(rt: HostRuntime) -> Result<(), Alloc
 }
 
 /// What is listed of the three arenas, where each is allotted all that it asks for, or one worker goes to arena 3.
+#[tactic(auto, using(crate::proofs::Listings::few_actives))]
 fn listed(alloc: Global, all: bool) -> Result<Lists, AllocError> {
     let rows = three_arenas(alloc)?;
     let roster = two_placed(alloc)?;
@@ -97,31 +98,33 @@ fn listed(alloc: Global, all: bool) -> Result<Lists, AllocError> {
             workers: 1,
         }
     };
-    list(&roster, &rows.whole(), sharing, &mut lists)?;
+    let _ = roster.seats();
+    let mut unmet = u32::MAX;
+    list(&roster, &rows.whole(), sharing, &mut unmet, &mut lists)?;
     Ok(lists)
 }
 
-/// An arena that has so many workers too few.
-fn hiring(arena: u32, count: u32) -> Imbalance {
+/// An arena as it is listed.
+fn counted(arena: u32, correction: Correction, count: u32) -> Imbalance {
     Imbalance {
         arena: ArenaId::new(arena),
-        correction: Correction::Hire,
+        correction,
         count,
     }
 }
 
 #[test]
 fn counts_are_listed_in_order(rt: HostRuntime) -> Result<(), AllocError> {
-    let third = Imbalance {
-        arena: ArenaId::new(3),
-        correction: Correction::Recall,
-        count: 1,
-    };
     let lists = listed(rt.alloc(), true)?;
-    let due = [third, hiring(2, 5), hiring(1, 2)];
+    let due = [
+        counted(3, Correction::Recall, 1),
+        counted(2, Correction::Hire, 5),
+        counted(1, Correction::Hire, 2),
+    ];
     assert_eq!(rt; lists.arenas.as_slice(), due.as_slice());
     assert_eq!(rt; lists.len(), 3);
     let lists = listed(rt.alloc(), false)?;
-    assert_eq!(rt; lists.arenas.as_slice(), [third].as_slice());
+    let due = [counted(3, Correction::Recall, 1)];
+    assert_eq!(rt; lists.arenas.as_slice(), due.as_slice());
     Ok(())
 }

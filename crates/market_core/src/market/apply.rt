@@ -49,7 +49,7 @@ impl Market {
     /// looks at, which are those that are allotted a worker until one has too few, and for each level; where no worker may be
     /// active, twice as many as these digits more for each level. It is no fewer than one for each row that was put in, taken
     /// out or set, one to see an arena that asks for workers or to place or keep a seat, one for each arena that a Join looked
-    /// at on its way, and all rows for Lists.
+    /// at on its way, and one for each arena that is listed.
     #[inline(always)]
     pub fn apply_counted(
         &mut self,

@@ -1,8 +1,8 @@
 //! The arenas in the order in which they are served, beside what they are allotted and have.
-ghost use Rattle.std.specs.Prelude.{◌≡◌, ◌*◌, ◌≤◌, length, IfOk, OnOk, IfSome};
-ghost use Rattle.market_types.specs.Allotment.{at_level, in_order, limit_of};
+ghost use Rattle.std.specs.Prelude.{◌≡◌, ◌+◌, ◌*◌, ◌≤◌, length, IfOk, OnOk, IfSome};
+ghost use Rattle.market_types.specs.Allotment.{at_level, limit_of};
 ghost use Rattle.market_types.specs.Step.{counts_of};
-ghost use Rattle.recall_hire.specs.Staffed.{need_among, need_of, searches};
+ghost use Rattle.recall_hire.specs.Staffed.{actives, imbalances, need_among, need_of, searches};
 ghost use Rattle.recall_hire.specs.Shared.{IsListed};
 ghost use Rattle.arena_store.specs.Bits.{bits};
 ghost use Rattle.market_core.specs.Divided.{IsDivisionOf, IsSharedAt, rows_at};
@@ -68,17 +68,21 @@ impl Market {
         first_in_need(&self.roster, &self.arenas.whole(level), given, asked)
     }
 
-    /// Puts a level's arenas at the end of lists, each with how many workers it has too many or too few.
+    /// Puts a level's arenas at the end of lists, each with how many workers it has too many or too few. Their seats are met.
     fn list_level(
         &self,
         division: &Division,
         level: Level,
+        unmet: &mut u32,
         lists: &mut Lists,
     ) -> Result<u32, AllocError>
         requires divided { IsDivisionOf self.now division.now }
         requires high { level ≤ self.now.levels }
+        requires unmet { actives (rows_at self.now level) ≤ unmet.old }
         ensures listed { OnOk result (IsListed (rows_at self.now level) lists.old lists.new) }
-        ensures visits { IfOk result (λ visits. visits ≡ length (rows_at self.now level)) }
+        ensures met { OnOk result (unmet.old ≡ unmet.new + actives (rows_at self.now level)) }
+        ensures looked { IfOk result (λ visits. imbalances (rows_at self.now level) ≤ visits) }
+        ensures once { IfOk result (λ visits. visits ≤ length (rows_at self.now level)) }
         ensures few { length self.now.arenas ≤ 1024 }
     {
         no_carry_to_keep();
@@ -86,6 +90,7 @@ impl Market {
             &self.roster,
             &self.arenas.whole(level),
             division.sharing(level),
+            unmet,
             lists,
         )
     }
@@ -93,16 +98,18 @@ impl Market {
     /// The arenas with workers too many, and those with too few.
     pub(super) fn lists(&self, alloc: Global) -> Result<(Lists, u32), AllocError>
         ensures exact { IfOk result (λ answer. answer.0 ≡ counts_of self.now) }
-        ensures entered { IfOk result (λ answer. length (in_order self.now) ≤ answer.1) }
-        ensures visits { IfOk result (λ answer. answer.1 ≤ most_listed self.now) }
+        ensures looked { IfOk result (λ answer. length answer.0.recalls + length answer.0.hires ≤ answer.1) }
+        ensures once { IfOk result (λ answer. answer.1 ≤ most_listed self.now) }
     {
         let division = &self.divide();
         let mut visits = division.visits;
+        let mut unmet = self.roster.placed();
         let mut lists = Lists {
             arenas: Vec::new(alloc),
         };
         for level in 0..self.opening.levels {
-            visits += self.list_level(division, Level::from_index(level as usize), &mut lists)?;
+            let level = Level::from_index(level as usize);
+            visits += self.list_level(division, level, &mut unmet, &mut lists)?;
         }
         Ok((lists, visits))
     }

@@ -1,4 +1,4 @@
-use Rattle.std.proofs.Common.{arith, sym, ap, subst, ◌∙◌, ◌≡◌, ◌-◌, get_or, length, inl, inr}
+use Rattle.std.proofs.Common.{arith, sym, ap, subst, ◌∙◌, ◌≡◌, ◌+◌, ◌-◌, ◌≤◌, get_or, length, inl, inr}
 use Rattle.std.specs.Prelude.{IfOk, OnOk}
 use Rattle.std.proofs.lemmas.Bool.{cases_eq}
 use Rattle.std.proofs.lemmas.List.{length-map}
@@ -6,13 +6,13 @@ use Rattle.market_types.specs.State.{State}
 use Rattle.market_types.specs.Allotment.{assigned, at_level, limit_of}
 use Rattle.arena_store.specs.Arenas.{level_row, level_rows}
 use Rattle.recall_hire.specs.Shared.{IsListed, staffed}
-use Rattle.recall_hire.specs.Staffed.{row_of}
+use Rattle.recall_hire.specs.Staffed.{row_of, actives, imbalances}
 use Rattle.market_core.specs.Divided.{rows_at}
 use Rattle.market_core.proofs.LevelWalk.{Shared, walk-of, picked-of}
 use Rattle.market_core.proofs.market.Market.list_level.Goals as goal
-use Rattle.market_core.proofs.market.Market.list_level.Goals.{After-list}
+use Rattle.market_core.proofs.market.Market.list_level.Goals.{After-sharing}
 
-module _ (c : After-list) where
+module _ (c : After-sharing) where
   seats : c.self.inside.roster ≡ c.args.self.now.seats
   seats = ap (λ (t : State). t.seats) c.self.view_is
 
@@ -38,14 +38,29 @@ module _ (c : After-list) where
 pub list-requires-clause-few : goal.list-requires-clause-few
 list-requires-clause-few c = c.whole.ensures.short
 
+pub list-requires-clause-unmet : goal.list-requires-clause-unmet
+list-requires-clause-unmet c =
+    let here = (goal.at.list-requires-clause-unmet c).After-sharing in
+    subst (λ xs. actives xs ≤ c.args.unmet.now) (sym (walk here)) c.requires.unmet
+
 pub returns-clause-listed : goal.returns-clause-listed
 returns-clause-listed c =
-    let here = (goal.at.returns-clause-listed c).After-list in
+    let here = (goal.at.returns-clause-listed c).After-sharing in
     subst (λ xs. OnOk c.list.result (IsListed xs c.args.lists.now c.list.new.lists)) (walk here) c.list.ensures.listed
 
-pub returns-clause-visits : goal.returns-clause-visits
-returns-clause-visits c =
-    let here = (goal.at.returns-clause-visits c).After-list in
+pub returns-clause-met : goal.returns-clause-met
+returns-clause-met c =
+    let here = (goal.at.returns-clause-met c).After-sharing in
+    subst (λ xs. OnOk c.list.result (c.args.unmet.now ≡ c.list.new.unmet + actives xs)) (walk here) c.list.ensures.met
+
+pub returns-clause-looked : goal.returns-clause-looked
+returns-clause-looked c =
+    let here = (goal.at.returns-clause-looked c).After-sharing in
+    subst (λ xs. IfOk c.list.result (λ visits. imbalances xs ≤ visits)) (walk here) c.list.ensures.looked
+
+pub returns-clause-once : goal.returns-clause-once
+returns-clause-once c =
+    let here = (goal.at.returns-clause-once c).After-sharing in
     let xs = at_level c.args.level c.args.self.now.arenas in
     let many : length c.whole.result.0 ≡ length (rows_at c.args.self.now c.args.level) = ap length (rows here) ∙ length-map xs level_row ∙ sym (length-map xs (row_of c.args.self.now)) in
-    subst (λ n. IfOk c.list.result (λ visits. visits ≡ n)) many c.list.ensures.visits
+    subst (λ n. IfOk c.list.result (λ visits. visits ≤ n)) many c.list.ensures.once

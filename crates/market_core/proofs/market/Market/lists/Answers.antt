@@ -1,4 +1,7 @@
-use Rattle.std.proofs.Common.{arith, ap, ◌∙◌, ◌≡◌, ◌+◌, ◌-◌, suc, length}
+use Rattle.std.proofs.Common.{arith, ap, ◌∙◌, ◌≡◌, ◌+◌, ◌-◌, ◌≤◌, suc, length}
+use Rattle.std.specs.Prelude.{is_some}
+use Rattle.std.specs.List.{count_by}
+use Rattle.recall_hire.specs.Staffed.{actives, imbalances}
 use Rattle.market_types.specs.declared.lists.Correction.TheVariants.{Recall, Hire}
 use Rattle.market_types.specs.Corrections.{counts_to}
 use Rattle.market_types.specs.State.{State}
@@ -7,8 +10,9 @@ use Rattle.recall_hire.specs.Shared.{IsListed}
 use Rattle.market_core.specs.Divided.{rows_at}
 use Rattle.market_core.specs.Sound.{IsSound}
 use Rattle.market_core.proofs.LevelWalk.{coming-length, coming-none}
-use Rattle.market_core.proofs.Listing.{listing-from, level-listed, listing-ends}
+use Rattle.market_core.proofs.Listing.{listing-from, level-listed, level-longer, listing-ends}
 use Rattle.market_core.proofs.Order.{levels_from, in_order-length}
+use Rattle.market_core.proofs.Seats.{unmet-begins, actives-coming}
 use Rattle.market_core.proofs.market.Market.lists.Goals as goal
 
 pub loop-level-init : goal.loop-level-init
@@ -19,10 +23,20 @@ loop-level-init c =
     let lengths : length (levels_from 1 (s.levels - 0) s.arenas) ≡ length s.arenas = ap (λ n. length (levels_from 1 n s.arenas)) all ∙ in_order-length s sound.leveled in
     record {
       listed = listing-from s (s.levels - 0) (counts_to Recall c.new.result.items) (counts_to Hire c.new.result.items) all (ap (counts_to Recall) c.new.ensures.items) (ap (counts_to Hire) c.new.ensures.items);
-      entered = omega (arith, lengths, in_order-length s sound.leveled);
+      unmet = unmet-begins s (s.levels - 0) c.placed-unmet.result c.divide.ensures.exact.once sound.leveled all (c.placed-unmet.ensures.exact ∙ ap (λ (t : State). count_by is_some t.seats) c.self.view_is);
+      looked = omega (arith, ap (λ xs. length (counts_to Recall xs)) c.new.ensures.items, ap (λ xs. length (counts_to Hire xs)) c.new.ensures.items);
       visits = omega (arith, lengths, c.divide.ensures.visits);
       few = omega (arith, lengths, c.divide.ensures.few);
     }
+
+pub list_level-requires-clause-unmet : goal.list_level-requires-clause-unmet
+list_level-requires-clause-unmet c =
+    let s = c.args.self.now in
+    let level = c.loop-level.level in
+    let levels : c.self.inside.opening.levels ≡ s.levels = ap (λ (t : State). t.levels) c.self.view_is in
+    let one : s.levels - level ≡ suc (s.levels - (level + 1)) = omega (arith, levels, c.loop-level-test.true) in
+    let here : actives (rows_at s (level + 1)) ≤ c.loop-level.unmet = omega (arith, actives-coming s (level + 1) (s.levels - (level + 1)) (s.levels - level) one, c.loop-level.invariant.unmet) in
+    rw c.from_index-level.ensures here
 
 pub overflow_add-visits : goal.overflow_add-visits
 overflow_add-visits c =
@@ -31,7 +45,7 @@ overflow_add-visits c =
     let levels : c.self.inside.opening.levels ≡ s.levels = ap (λ (t : State). t.levels) c.self.view_is in
     let one : s.levels - level ≡ suc (s.levels - (level + 1)) = omega (arith, levels, c.loop-level-test.true) in
     let lengths = coming-length s (level + 1) (s.levels - (level + 1)) (s.levels - level) one in
-    let more : c.in_ok-visits.field-0 ≡ length (rows_at s (level + 1)) = rw c.from_index.ensures at c.in_ok-visits.ensures.visits in
+    let more : c.in_ok-visits.field-0 ≤ length (rows_at s (level + 1)) = rw c.from_index-level.ensures at c.in_ok-visits.ensures.once in
     omega (arith, lengths, more, c.loop-level.invariant.few, c.in_ok-visits.ensures.few)
 
 pub loop-level-preserved : goal.loop-level-preserved
@@ -41,11 +55,14 @@ loop-level-preserved c =
     let levels : c.self.inside.opening.levels ≡ s.levels = ap (λ (t : State). t.levels) c.self.view_is in
     let one : s.levels - level ≡ suc (s.levels - (level + 1)) = omega (arith, levels, c.loop-level-test.true) in
     let lengths = coming-length s (level + 1) (s.levels - (level + 1)) (s.levels - level) one in
-    let more : c.in_ok-visits.field-0 ≡ length (rows_at s (level + 1)) = rw c.from_index.ensures at c.in_ok-visits.ensures.visits in
-    let added : IsListed (rows_at s (level + 1)) c.loop-level.lists c.list_level.new.lists = rw c.from_index.ensures at c.in_ok-visits.ensures.listed in
+    let more : c.in_ok-visits.field-0 ≤ length (rows_at s (level + 1)) = rw c.from_index-level.ensures at c.in_ok-visits.ensures.once in
+    let looked : imbalances (rows_at s (level + 1)) ≤ c.in_ok-visits.field-0 = rw c.from_index-level.ensures at c.in_ok-visits.ensures.looked in
+    let met : c.loop-level.unmet ≡ c.list_level.new.unmet + actives (rows_at s (level + 1)) = rw c.from_index-level.ensures at c.in_ok-visits.ensures.met in
+    let added : IsListed (rows_at s (level + 1)) c.loop-level.lists c.list_level.new.lists = rw c.from_index-level.ensures at c.in_ok-visits.ensures.listed in
     record {
       listed = level-listed s (level + 1) (s.levels - (level + 1)) (s.levels - level) c.loop-level.lists c.list_level.new.lists (counts_of s) one added c.loop-level.invariant.listed;
-      entered = omega (arith, lengths, more, c.loop-level.invariant.entered);
+      unmet = omega (arith, actives-coming s (level + 1) (s.levels - (level + 1)) (s.levels - level) one, met, c.loop-level.invariant.unmet);
+      looked = omega (arith, level-longer s (level + 1) c.loop-level.lists c.list_level.new.lists added, looked, c.loop-level.invariant.looked);
       visits = omega (arith, lengths, more, c.loop-level.invariant.visits);
       few = omega (arith, lengths, more, c.loop-level.invariant.few);
     }
@@ -59,6 +76,6 @@ returns c =
     let none = coming-none s (level + 1) (s.levels - level) over in
     record {
       exact = listing-ends s (level + 1) (s.levels - level) c.loop-level.lists (counts_of s) over c.loop-level.invariant.listed;
-      entered = omega (arith, none, c.loop-level.invariant.entered);
-      visits = omega (arith, c.loop-level.invariant.visits);
+      looked = c.loop-level.invariant.looked;
+      once = omega (arith, c.loop-level.invariant.visits);
     }

@@ -1,19 +1,19 @@
 use Rattle.std.proofs.Common.{◌+◌, ◌-◌, ◌≤◌, length}
-use Rattle.market_types.specs.Allotment.{in_order}
 use Rattle.market_types.specs.Step.{counts_of}
 use Rattle.recall_hire.specs.Shared.{IsListed}
-use Rattle.recall_hire.specs.Staffed.{rows_among}
+use Rattle.recall_hire.specs.Staffed.{rows_among, actives}
 use Rattle.market_core.specs.Visits.{extra_visits}
 use Rattle.market_core.proofs.Order.{levels_from}
 use Rattle.market_core.proofs.market.Market.lists.Given as goal
 
--- the lists so far lack the rows of the levels to come, and each row so far was entered
+-- the lists so far lack the rows of the levels to come, each arena on them was entered, and no row was entered twice
 abbrev pub invariant-loop-level : goal.invariant-loop-level
 invariant-loop-level l =
     let coming = levels_from (l.level + 1) (l.self.levels - l.level) l.self.arenas in
     record {
       listed : IsListed (rows_among l.self coming) l.lists (counts_of l.self);
-      entered : length (in_order l.self) ≤ l.visits + length coming;
+      unmet : actives (rows_among l.self coming) ≤ l.unmet;
+      looked : length l.lists.recalls + length l.lists.hires ≤ l.visits;
       visits : l.visits + length coming ≤ length l.self.arenas + extra_visits l.self;
       few : l.visits + length coming ≤ length l.self.arenas + 176;
     }
