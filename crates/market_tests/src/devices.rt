@@ -1,26 +1,16 @@
 //! Devices that fail, give their bytes in pieces, or never end; and what is asked before any byte is read.
-ghost use Rattle.std.specs.Prelude.{◌≡◌, false};
 
-use byte_devices::{DeviceFault, Refusal, Source, TestSink, TestSource};
-use market_prog::{RunFault, run_script};
+use crate::endless::Hashes;
+use crate::work::{new_sink, work_script};
+use byte_devices::{Refusal, TestSource};
+use market_prog::{RunFault, ScriptTask, run_replay, run_script, status_of_replay, status_of_run};
 use market_types::OpenFault;
-use std::alloc::Global;
-use std::process::Abort;
 use std::rt::HostRuntime;
 
 const HIRED: &[u8] = b"0 open 8 1 normal\n0 request 1 3 0\n0 show 1\n";
 
 const HIRED_REPLIES: &[u8] =
     b"arena 1\nrequest 3\narena 1 request 3 allot 3 top yes active 0 recall 0 hire 3\n";
-
-fn new_sink(rt: &impl Abort, alloc: Global) -> TestSink
-    ensures { result.failed ≡ false }
-{
-    let Ok(memory) = Vec::with_capacity(alloc, 4096) else {
-        panic!(rt; "no memory");
-    };
-    TestSink::new(memory)
-}
 
 /// The replies to the lines that end within the first bytes of the script.
 fn replies_due(bytes: usize) -> &'static [u8] {
@@ -88,38 +78,23 @@ fn pieces_of_any_size_are_answered_alike(rt: HostRuntime) {
     }
 }
 
-/// A source of `#` without end.
-#[derive(Drop)]
-struct Hashes;
-
-impl Source for Hashes {
-    ghost use Rattle.std.specs.Prelude.{None, false};
-
-    ghost left = { λ _. None };
-
-    ghost failed = { λ _. false };
-
-    ghost ended = { λ _. false };
-
-    fn read(&mut self, buffer: &mut [u8]) -> Result<usize, DeviceFault> {
-        buffer.fill(b'#');
-        Ok(buffer.len())
-    }
-
-    fn failed(&self) -> bool {
-        false
-    }
-
-    fn ended(&self) -> bool {
-        false
+#[test]
+fn a_script_without_end_is_too_long(rt: HostRuntime) {
+    for task in [ScriptTask::Answer, ScriptTask::Journal, ScriptTask::Explain] {
+        let mut sink = new_sink(&rt, rt.alloc());
+        let told = work_script(rt.alloc(), task, &mut Hashes, &mut sink);
+        assert!(&rt; told == Err(RunFault::TooLong));
+        assert!(&rt; status_of_run(&told) == 3);
+        assert!(&rt; sink.taken().is_empty());
     }
 }
 
 #[test]
-fn an_input_without_end_is_too_long(rt: HostRuntime) {
+fn a_journal_without_end_is_too_long(rt: HostRuntime) {
     let mut sink = new_sink(&rt, rt.alloc());
-    let told = run_script(rt.alloc(), 8, 64, 4, 3, &mut Hashes, &mut sink);
-    assert!(&rt; told == Err(RunFault::TooLong));
+    let told = run_replay(rt.alloc(), &mut Hashes, &mut sink);
+    assert!(&rt; matches!(&told, Err(RunFault::TooLong)));
+    assert!(&rt; status_of_replay(&told) == 3);
     assert!(&rt; sink.taken().is_empty());
 }
 

@@ -1,11 +1,9 @@
 //! Scripts whose markets are explained.
-ghost use Rattle.std.specs.Prelude.{◌≡◌, false};
 
-use byte_devices::{Refusal, TestSink, TestSource};
-use market_prog::{RunFault, explain_script};
+use crate::work::{Work, new_sink};
+use byte_devices::{Refusal, TestSource};
+use market_prog::{RunFault, ScriptTask, explain_script};
 use market_types::OpenFault;
-use std::alloc::Global;
-use std::process::Abort;
 use std::rt::HostRuntime;
 
 const FIVE: &[u8] = b"0 control 6\n0 open 8 1 normal\n0 open 8 1 normal\n0 open 8 1 normal\n\
@@ -28,66 +26,55 @@ level normal demand        0 assigned     0 left     0
 level low    demand        0 assigned     0 left     0
 ";
 
-fn new_sink(rt: &impl Abort, alloc: Global) -> TestSink
-    ensures { result.failed ≡ false }
-{
-    let Ok(memory) = Vec::with_capacity(alloc, 4096) else {
-        panic!(rt; "no memory");
-    };
-    TestSink::new(memory)
-}
+const EXPLAINED: Work = Work {
+    task: ScriptTask::Explain,
+    script: FIVE,
+    text: FIVE_EXPLAINED,
+    unread: 0,
+};
 
-/// The script to a usual market leads to this explanation, with so many of its lines unread.
-fn explains(rt: &impl Abort, alloc: Global, script: &[u8], text: &[u8], unread: u64) {
-    let mut source = TestSource::new(script).in_pieces_of(50);
-    let mut sink = new_sink(rt, alloc);
-    let told = explain_script(alloc, 8, 64, 4, 3, &mut source, &mut sink);
-    assert!(rt; sink.taken() == text);
-    assert!(rt; told == Ok(unread));
+/// A market without arenas is explained, with so many of the script's lines unread.
+const fn without_arenas(script: &'static [u8], unread: u64) -> Work {
+    Work {
+        task: ScriptTask::Explain,
+        script,
+        text: NO_ARENA,
+        unread,
+    }
 }
 
 #[test]
 fn the_last_market_is_explained(rt: HostRuntime) {
-    explains(&rt, rt.alloc(), FIVE, FIVE_EXPLAINED, 0);
-    explains(&rt, rt.alloc(), b"", NO_ARENA, 0);
-    explains(
-        &rt,
-        rt.alloc(),
-        b"0 open 8 1\n0 request 1 3\n0 close 1\n# gone\n",
-        NO_ARENA,
-        0,
-    );
+    EXPLAINED.is_done(&rt, rt.alloc(), 50);
+    without_arenas(b"", 0).is_done(&rt, rt.alloc(), 50);
+    let gone = b"0 open 8 1\n0 request 1 3\n0 close 1\n# gone\n";
+    without_arenas(gone, 0).is_done(&rt, rt.alloc(), 50);
 }
 
 #[test]
 fn unread_lines_change_nothing(rt: HostRuntime) {
-    explains(&rt, rt.alloc(), b"0 fly\n9 limit\n", NO_ARENA, 2);
+    without_arenas(b"0 fly\n9 limit\n", 2).is_done(&rt, rt.alloc(), 50);
 }
 
 #[test]
-fn nothing_is_written_where_a_read_fails(rt: HostRuntime) {
-    let reads = FIVE.len().div_ceil(20) + 1;
-    for good in 0..reads {
-        let mut source = TestSource::new(FIVE)
-            .in_pieces_of(20)
-            .failing_after(good as u64);
-        let mut sink = new_sink(&rt, rt.alloc());
-        let told = explain_script(rt.alloc(), 8, 64, 4, 3, &mut source, &mut sink);
-        assert!(&rt; told == Err(RunFault::Read));
-        assert!(&rt; sink.taken().is_empty());
+fn scripts_come_in_pieces_of_any_size(rt: HostRuntime) {
+    for size in 1..50 {
+        EXPLAINED.is_done(&rt, rt.alloc(), size);
+    }
+}
+
+#[test]
+fn nothing_is_explained_where_a_read_fails(rt: HostRuntime) {
+    for size in [1, 20, 1000] {
+        EXPLAINED.fails_at_each_read(&rt, rt.alloc(), size);
     }
 }
 
 #[test]
 fn a_failing_sink_has_the_first_bytes(rt: HostRuntime) {
-    for refusal in [Refusal::Fault, Refusal::NoneTaken] {
-        for room in [0, 10, 47, 500] {
-            let mut source = TestSource::new(FIVE);
-            let mut sink = new_sink(&rt, rt.alloc()).refusing_after(room, refusal);
-            let told = explain_script(rt.alloc(), 8, 64, 4, 3, &mut source, &mut sink);
-            assert!(&rt; told == Err(RunFault::Write));
-            assert!(&rt; sink.taken() == &FIVE_EXPLAINED[..room]);
-        }
+    for size in [50, 1000] {
+        EXPLAINED.fails_at_each_write(&rt, rt.alloc(), size, Refusal::Fault);
+        EXPLAINED.fails_at_each_write(&rt, rt.alloc(), size, Refusal::NoneTaken);
     }
 }
 

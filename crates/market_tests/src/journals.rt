@@ -1,11 +1,10 @@
 //! Scripts whose journals are written.
-ghost use Rattle.std.specs.Prelude.{◌≡◌, false};
 
-use byte_devices::{DeviceFault, Refusal, Source, TestSink, TestSource};
-use market_prog::{RunFault, run_journal, status_of_run};
+use crate::endless::{LineCount, Repeated};
+use crate::work::{Work, new_sink};
+use byte_devices::{Refusal, TestSource};
+use market_prog::{RunFault, ScriptTask, run_journal, status_of_run};
 use market_types::OpenFault;
-use std::alloc::Global;
-use std::process::Abort;
 use std::rt::HostRuntime;
 
 const THREE: &[u8] = b"0 open 8\n# three workers\n\n0 fly\n0 request 1 3\n0 show 1\n";
@@ -24,60 +23,60 @@ const REFUSED: &[u8] = b"\
 {\"cmd\":\"close 7\",\"reply\":\"F05 no arena\",\"seat\":3}
 ";
 
-fn new_sink(rt: &impl Abort, alloc: Global) -> TestSink
-    ensures { result.failed ≡ false }
-{
-    let Ok(memory) = Vec::with_capacity(alloc, 4096) else {
-        panic!(rt; "no memory");
-    };
-    TestSink::new(memory)
-}
-
-/// The script to a usual market has this journal, with so many of its lines unread.
-fn has_journal(rt: &impl Abort, alloc: Global, script: &[u8], text: &[u8], unread: u64) {
-    let mut source = TestSource::new(script).in_pieces_of(7);
-    let mut sink = new_sink(rt, alloc);
-    let told = run_journal(alloc, 8, 64, 4, 3, &mut source, &mut sink);
-    assert!(rt; sink.taken() == text);
-    assert!(rt; told == Ok(unread));
-}
+const WRITTEN: Work = Work {
+    task: ScriptTask::Journal,
+    script: THREE,
+    text: THREE_WRITTEN,
+    unread: 1,
+};
 
 #[test]
 fn each_call_that_was_read_has_its_line(rt: HostRuntime) {
-    has_journal(&rt, rt.alloc(), THREE, THREE_WRITTEN, 1);
-    has_journal(&rt, rt.alloc(), b"", NO_CALL, 0);
-    has_journal(&rt, rt.alloc(), b"0 fly\n9 limit", NO_CALL, 2);
+    for size in 1..50 {
+        WRITTEN.is_done(&rt, rt.alloc(), size);
+    }
+}
+
+#[test]
+fn a_line_that_is_no_call_has_none(rt: HostRuntime) {
+    let nothing = Work {
+        script: b"",
+        text: NO_CALL,
+        unread: 0,
+        ..WRITTEN
+    };
+    nothing.is_done(&rt, rt.alloc(), 7);
+    let unread = Work {
+        script: b"0 fly\n9 limit",
+        unread: 2,
+        ..nothing
+    };
+    unread.is_done(&rt, rt.alloc(), 7);
 }
 
 #[test]
 fn a_refused_call_is_recorded(rt: HostRuntime) {
-    has_journal(&rt, rt.alloc(), b"3 close 7", REFUSED, 0);
+    let refused = Work {
+        script: b"3 close 7",
+        text: REFUSED,
+        unread: 0,
+        ..WRITTEN
+    };
+    refused.is_done(&rt, rt.alloc(), 7);
 }
 
 #[test]
 fn nothing_is_written_where_a_read_fails(rt: HostRuntime) {
-    let reads = THREE.len().div_ceil(20) + 1;
-    for good in 0..reads {
-        let mut source = TestSource::new(THREE)
-            .in_pieces_of(20)
-            .failing_after(good as u64);
-        let mut sink = new_sink(&rt, rt.alloc());
-        let told = run_journal(rt.alloc(), 8, 64, 4, 3, &mut source, &mut sink);
-        assert!(&rt; told == Err(RunFault::Read));
-        assert!(&rt; sink.taken().is_empty());
+    for size in [1, 20, 1000] {
+        WRITTEN.fails_at_each_read(&rt, rt.alloc(), size);
     }
 }
 
 #[test]
 fn a_failing_sink_has_the_first_bytes(rt: HostRuntime) {
-    for refusal in [Refusal::Fault, Refusal::NoneTaken] {
-        for room in [0, 1, 42, 100] {
-            let mut source = TestSource::new(THREE);
-            let mut sink = new_sink(&rt, rt.alloc()).refusing_after(room, refusal);
-            let told = run_journal(rt.alloc(), 8, 64, 4, 3, &mut source, &mut sink);
-            assert!(&rt; told == Err(RunFault::Write));
-            assert!(&rt; sink.taken() == &THREE_WRITTEN[..room]);
-        }
+    for size in [1, 50, 1000] {
+        WRITTEN.fails_at_each_write(&rt, rt.alloc(), size, Refusal::Fault);
+        WRITTEN.fails_at_each_write(&rt, rt.alloc(), size, Refusal::NoneTaken);
     }
 }
 
@@ -90,40 +89,21 @@ fn no_journal_is_written_of_a_market_that_cannot_be_opened(rt: HostRuntime) {
     assert!(&rt; sink.taken().is_empty());
 }
 
-/// A source of lines that ask for the limit, without end.
-#[derive(Drop)]
-struct Limits;
-
-impl Source for Limits {
-    ghost use Rattle.std.specs.Prelude.{None, false};
-
-    ghost left = { λ _. None };
-
-    ghost failed = { λ _. false };
-
-    ghost ended = { λ _. false };
-
-    fn read(&mut self, buffer: &mut [u8]) -> Result<usize, DeviceFault> {
-        for (place, byte) in buffer.iter_mut().enumerate() {
-            *byte = b"0 limit\n"[place % 8];
-        }
-        Ok(buffer.len())
-    }
-
-    fn failed(&self) -> bool {
-        false
-    }
-
-    fn ended(&self) -> bool {
-        false
-    }
-}
-
 #[test]
-fn a_history_without_end_is_full(rt: HostRuntime) {
+fn a_history_with_a_call_too_many_is_full(rt: HostRuntime) {
+    let mut source = Repeated::new(b"0 limit\n", b"0 limit\n", 1_048_576);
     let mut sink = new_sink(&rt, rt.alloc());
-    let told = run_journal(rt.alloc(), 8, 64, 4, 3, &mut Limits, &mut sink);
+    let told = run_journal(rt.alloc(), 8, 64, 4, 3, &mut source, &mut sink);
     assert!(&rt; told == Err(RunFault::HistoryFull));
     assert!(&rt; status_of_run(&told) == 3);
     assert!(&rt; sink.taken().is_empty());
+}
+
+#[test]
+fn a_history_has_1_048_576_calls_at_most(rt: HostRuntime) {
+    let mut source = Repeated::new(b"0 limit\n", b"0 limit\n", 1_048_575);
+    let mut sink = LineCount::new();
+    let told = run_journal(rt.alloc(), 8, 64, 4, 3, &mut source, &mut sink);
+    assert!(&rt; told == Ok(0));
+    assert!(&rt; sink.lines() == 1_048_577);
 }

@@ -5,6 +5,8 @@
 #[cfg(test)]
 mod devices;
 #[cfg(test)]
+mod endless;
+#[cfg(test)]
 mod explanations;
 #[cfg(test)]
 mod journals;
@@ -16,3 +18,5 @@ mod replays;
 mod scripts;
 #[cfg(test)]
 mod texts;
+#[cfg(test)]
+mod work;

@@ -1,7 +1,8 @@
 //! Journals that are replayed, with their statuses, over devices that give them in pieces and fail.
-ghost use Rattle.std.specs.Prelude.{◌≡◌, false};
 
-use byte_devices::{Refusal, TestSink, TestSource};
+use crate::endless::Repeated;
+use crate::work::new_sink;
+use byte_devices::{Refusal, TestSource};
 use journal_replay::Verdict;
 use market_prog::{RunFault, run_replay, status_of_replay};
 use std::alloc::Global;
@@ -26,15 +27,6 @@ const LEGAL: &[u8] = b"legal 3\n";
 
 const REFUSED: &[u8] = b"J4 wrong reply line 2 due F05 no arena\n";
 
-fn new_sink(rt: &impl Abort, alloc: Global) -> TestSink
-    ensures { result.failed ≡ false }
-{
-    let Ok(memory) = Vec::with_capacity(alloc, 4096) else {
-        panic!(rt; "no memory");
-    };
-    TestSink::new(memory)
-}
-
 #[test]
 fn a_legal_journal_is_told_with_its_entries(rt: HostRuntime) {
     let mut source = TestSource::new(JOURNAL);
@@ -58,15 +50,21 @@ fn a_changed_journal_is_told_by_its_first_fault(rt: HostRuntime) {
 /// The line of the verdict of the first bytes of the journal, and its status.
 fn told_of_front(bytes: usize) -> (&'static [u8], u8) {
     match bytes {
+        0..=42 => (b"J1 bad header\n", 1),
         43 => (b"legal 0\n", 0),
-        60 => (b"J2 bad json line 2\n", 1),
-        _ => (b"J1 bad header\n", 1),
+        44..=95 => (b"J2 bad json line 2\n", 1),
+        96 => (b"legal 1\n", 0),
+        97..=148 => (b"J2 bad json line 3\n", 1),
+        149 => (b"legal 2\n", 0),
+        150..=243 => (b"J2 bad json line 4\n", 1),
+        _ => (LEGAL, 0),
     }
 }
 
 #[test]
-fn a_front_of_a_journal_is_told(rt: HostRuntime) {
-    for bytes in [0, 42, 43, 60] {
+fn each_front_of_a_journal_is_told(rt: HostRuntime) {
+    assert!(&rt; JOURNAL.len() == 244);
+    for bytes in 0..=JOURNAL.len() {
         let mut source = TestSource::new(&JOURNAL[..bytes]);
         let mut sink = new_sink(&rt, rt.alloc());
         let told = run_replay(rt.alloc(), &mut source, &mut sink);
@@ -74,6 +72,24 @@ fn a_front_of_a_journal_is_told(rt: HostRuntime) {
         assert!(&rt; sink.taken() == line, "{bytes} bytes");
         assert!(&rt; status_of_replay(&told) == status, "{bytes} bytes");
     }
+}
+
+/// The journal of so many calls for the limit is told by this line.
+fn limits_are_told(rt: &impl Abort, alloc: Global, calls: u32, line: &[u8]) {
+    let header = b"{\"base\":8,\"hard\":64,\"journal\":2,\"levels\":3,\"seats\":4}\n";
+    let call = b"{\"cmd\":\"limit\",\"reply\":\"value 8 limit 7 effective 7\",\"seat\":0}\n";
+    let mut source = Repeated::new(header, call, calls);
+    let mut sink = new_sink(rt, alloc);
+    let told = run_replay(alloc, &mut source, &mut sink);
+    assert!(rt; told.is_ok());
+    assert!(rt; sink.taken() == line);
+}
+
+#[test]
+fn a_journal_has_1_048_576_entries_at_most(rt: HostRuntime) {
+    limits_are_told(&rt, rt.alloc(), 1_048_576, b"legal 1048576\n");
+    let more = b"J3 bad record line 1048578\n";
+    limits_are_told(&rt, rt.alloc(), 1_048_577, more);
 }
 
 #[test]
