@@ -113,7 +113,7 @@ ANY_LINE = [laid_out_anew, laid_out_anew, with_a_value, with_a_key_doubled, with
 
 def with_another_number(rng, line):
     key, most = rng.choice([("base", 65536), ("hard", 65535), ("journal", 2), ("levels", 8), ("seats", 64)])
-    return having(rng, line, key, str(rng.choice([0, 1, 2, 3, most, most + 1, 2**64 - 1])))
+    return having(rng, line, key, str(rng.choice([0, 0, 1, 2, 3, most, most + 1, most + 1, 2**64 - 1])))
 
 
 def of_version_1(rng, line):
@@ -124,7 +124,7 @@ def of_version_1(rng, line):
     return laid_out(rng, [(key, str(value)) for key, value in members.items()], 0.1)
 
 
-HEADER = [with_another_number, of_version_1]
+HEADER = [with_another_number, with_another_number, of_version_1]
 
 
 # ---- changes of an entry
@@ -174,7 +174,7 @@ def changed(rng, written, levels):
     if rng.random() < 0.3:
         lines = lines[:1] + [all_shortened(levels, line) for line in lines[1:]]
     places = set(rng.sample(range(len(lines)), min(len(lines), rng.choice([0, 1, 1, 1, 2]))))
-    if rng.random() < 0.2:
+    if rng.random() < 0.25:
         places = {0}
     # From the last one on, since a change may move the lines behind it.
     for place in sorted(places, reverse=True):
