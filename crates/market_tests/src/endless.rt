@@ -41,6 +41,7 @@ pub(crate) struct Repeated {
 }
 
 impl Repeated {
+    /// The first line, and then the other so many times; each has its line end.
     pub fn new(first: &'static [u8], line: &'static [u8], lines: u32) -> Self
         ensures { result.ended ≡ false }
     {
@@ -93,6 +94,7 @@ pub(crate) struct LineCount {
 }
 
 impl LineCount {
+    /// Before the first line.
     pub fn new() -> Self {
         LineCount { lines: 0 }
     }
