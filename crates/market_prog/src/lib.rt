@@ -1,5 +1,5 @@
-//! What the program `market` does: it reads the words of its command line, and runs scripts, explains the markets that they
-//! lead to, or replays journals, from a source to a sink.
+//! What the program `market` does: it reads the words of its command line, and runs scripts, writes their journals, explains
+//! the markets that they lead to, or replays journals, from a source to a sink.
 #![tactic(auto)]
 
 mod engine;
