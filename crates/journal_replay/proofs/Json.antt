@@ -7,13 +7,10 @@ use Rattle.std.proofs.lemmas.Str.{IsUtf8-from_is_utf8, is_utf8-from_IsUtf8}
 use Rattle.serde_json.specs.Read.{read}
 use Rattle.serde_json.specs.View.{members_view}
 use Rattle.serde_json.specs.declared.value.Value.{Value}
-use Rattle.market_types.specs.declared.reply.Entry.{Entry}
 use Rattle.market_types.specs.State.{State}
 use Rattle.edit_history.specs.Chronicled.{HasNumbersOf}
-use Rattle.market_types.specs.Texts.{cmd_text, reply_text}
-use Rattle.journal_replay.specs.Journal.{header_data, header_line, entry_data, entry_line}
+use Rattle.journal_replay.specs.Journal.{header_data, header_line}
 use Rattle.journal_replay.specs.Reading.{json_of, count_members}
-use Rattle.journal_replay.specs.Written.{IsReadBack}
 
 pub json-read : (text : List ℕ) → IsUtf8 text → json_of text ≡ read text
 unfolding json_of
@@ -31,15 +28,9 @@ pub count-members : (entries : List (String Global × Value)) → count_members 
 count-members [] = refl
 count-members (e ∷ entries) = omega (arith, count-members entries)
 
--- an entry's line was written
-pub read-back : (levels its : ℕ) (e : Entry) (text bytes : List ℕ) → text ≡ bytes → text ≡ entry_line levels e → its ≡ levels → IsUtf8 text
-    → read bytes ≡ Some (entry_data (cmd_text its e.call.cmd) (reply_text e.reply) e.call.seat) → IsReadBack levels e
-read-back levels its e text bytes same is its_is utf8 reads =
-    ap json_of (sym is) ∙ json-read text utf8 ∙ ap read same ∙ reads ∙ ap (λ n. Some (entry_data (cmd_text n e.call.cmd) (reply_text e.reply) e.call.seat)) its_is
-
 -- the header's line was written, for a market with the numbers of its opening
-pub header-back : (start s : State) (text bytes : List ℕ) → HasNumbersOf start s → text ≡ bytes → text ≡ header_line s.base s.hard s.levels (length s.seats) → IsUtf8 text
-    → read bytes ≡ Some (header_data s.base s.hard s.levels (length s.seats)) → json_of (header_line start.base start.hard start.levels (length start.seats)) ≡ Some (header_data start.base start.hard start.levels (length start.seats))
-header-back start s text bytes same of is utf8 reads =
-    ap json_of ((λ i. header_line (sym same.base i) (sym same.hard i) (sym same.levels i) (sym same.seats i)) ∙ sym is) ∙ json-read text utf8 ∙ ap read of ∙ reads
+pub header-back : (start s : State) (text : List ℕ) → HasNumbersOf start s → text ≡ header_line s.base s.hard s.levels (length s.seats) → IsUtf8 text
+    → read text ≡ Some (header_data s.base s.hard s.levels (length s.seats)) → json_of (header_line start.base start.hard start.levels (length start.seats)) ≡ Some (header_data start.base start.hard start.levels (length start.seats))
+header-back start s text same is utf8 reads =
+    ap json_of ((λ i. header_line (sym same.base i) (sym same.hard i) (sym same.levels i) (sym same.seats i)) ∙ sym is) ∙ json-read text utf8 ∙ reads
     ∙ ap Some (λ i. header_data (same.base i) (same.hard i) (same.levels i) (same.seats i))

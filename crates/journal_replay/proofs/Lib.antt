@@ -2,5 +2,6 @@ mod Lines
 mod Json
 mod Legal
 mod Told
+mod Entries
 mod Few
 mod Short

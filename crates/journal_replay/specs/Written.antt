@@ -1,6 +1,5 @@
 -- What is written of a history so that it can be read again (own).
-use Rattle.std.specs.Prelude.{◌≡◌, ◌≤◌, ℕ, List, length, Some}
-use Rattle.serde_json.specs.Data.{Data}
+use Rattle.std.specs.Prelude.{◌≡◌, ◌≤◌, ℕ, length, Some}
 use Rattle.market_types.specs.declared.reply.Entry.{Entry}
 use Rattle.market_types.specs.Texts.{cmd_text, reply_text}
 use Rattle.journal_replay.specs.Journal.{entry_data, entry_line}
@@ -14,7 +13,3 @@ IsShort levels e = length (entry_line levels e) ≤ longest_line
 -- the entry's line reads as the JSON that the entry is (no public clause has this word)
 abbrev pub IsReadBack : ℕ → Entry → Type 0
 IsReadBack levels e = json_of (entry_line levels e) ≡ Some (entry_data (cmd_text levels e.call.cmd) (reply_text e.reply) e.call.seat)
-
--- the object of some entry (no public clause has this word)
-abbrev pub IsEntryObject : Data → Type 0
-IsEntryObject d = (cmd reply : List ℕ) × (seat : ℕ) × (d ≡ entry_data cmd reply seat)

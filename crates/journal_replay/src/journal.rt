@@ -9,7 +9,7 @@ ghost use Rattle.journal_replay.specs.Written.{IsReadBack};
 ghost use Rattle.journal_replay.specs.Verdicts.{most_entries, verdict};
 
 use crate::law::{legal_journals_tell_legal_histories, written_lines_are_short};
-use crate::line::{blank_entry, entry_line, header_line};
+use crate::line::{entry_line, header_line};
 use crate::verdict::Verdict;
 use byte_devices::{OutFault, Sink, put_all};
 use edit_history::Chronicle;
@@ -45,9 +45,9 @@ fn write_entries<W: Sink>(
     ensures cause { IfErr result (λ fault. IsOutFault fault (W.failed sink.new)) }
 {
     let levels = chronicle.market().levels();
-    let mut object = blank_entry(alloc)?;
+    let mut line = Vec::new(alloc);
     for index in 0..chronicle.len() {
-        let line = entry_line(alloc, levels, chronicle.entry(index), &mut object)?;
+        line = entry_line(alloc, line, levels, chronicle.entry(index))?;
         push_line(waiting, &line)?;
         if waiting.len() >= PIECE {
             put_all(sink, waiting)?;

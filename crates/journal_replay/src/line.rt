@@ -1,14 +1,15 @@
 //! The lines of a journal, without their LF.
-ghost use Rattle.std.specs.Prelude.{◌≡◌, Some, IfOk, IsUtf8, OnOk, string_bytes, length};
+ghost use Rattle.std.specs.Prelude.{◌≡◌, Some, IfOk, IsUtf8, length};
 ghost use Rattle.serde_json.specs.Read.{read};
 ghost use Rattle.serde_json.specs.View.{view};
-ghost use Rattle.market_types.specs.Texts.{cmd_text, reply_text};
-ghost use Rattle.journal_replay.specs.Journal.{header_data, entry_data, header_line, entry_line, fields_line};
-ghost use Rattle.journal_replay.specs.Written.{IsEntryObject};
+ghost use Rattle.journal_replay.specs.Journal.{entry_data, entry_line, fields_line, header_data, header_line};
+ghost use Rattle.journal_replay.specs.Reading.{json_of};
+ghost use Rattle.journal_replay.specs.Written.{IsReadBack};
 
+use json::Writer;
 use market_core::Market;
 use market_types::{Entry, cmd_text, reply_text};
-use serde_json::{Value, json, put};
+use serde_json::{Value, json};
 use std::alloc::{AllocError, Global};
 
 /// The line of an opening.
@@ -50,65 +51,37 @@ fn header_value(
     json!(in alloc; {"base": base, "hard": hard, "journal": 2u64, "levels": levels, "seats": seats})
 }
 
-/// An object with the fields of an entry, which is given those of one entry after the other: it is built once.
-pub(crate) fn blank_entry(alloc: Global) -> Result<Value, AllocError>
-    ensures fields { IfOk result (λ object. IsEntryObject (view object)) }
-{
-    json!(in alloc; {"cmd": "", "reply": "", "seat": 0u64})
-}
-
-/// The line of an entry, in a market of so many levels. The object is given the entry's fields.
+/// The line of an entry, in a market of so many levels. It takes the memory of another line.
 pub(crate) fn entry_line(
     alloc: Global,
+    other: Vec<u8>,
     levels: u32,
     entry: &Entry,
-    object: &mut Value,
 ) -> Result<Vec<u8>, AllocError>
-    requires fields { IsEntryObject (view object.old) }
     ensures text { IfOk result (λ line. line.items ≡ entry_line levels entry.now) }
-    ensures utf8 { IfOk result (λ line. IsUtf8 line.items) }
-    ensures reads_back { IfOk result (λ line. read line.items ≡ Some (entry_data (cmd_text levels entry.now.call.cmd) (reply_text entry.now.reply) entry.now.call.seat)) }
-    ensures fields { OnOk result (IsEntryObject (view object.new)) }
+    ensures reads_back { IfOk result (λ line. IsReadBack levels entry.now) }
 {
     let cmd = cmd_text(alloc, &entry.call.cmd, levels)?;
     let reply = reply_text(alloc, &entry.reply)?;
-    let seat = u64::from(entry.call.seat.get());
-    fields_line(alloc, object, cmd, reply, seat)
+    fields_line(other, &cmd, &reply, u64::from(entry.call.seat.get()))
 }
 
-/// The line of these fields, which the object is given.
-fn fields_line(
-    alloc: Global,
-    object: &mut Value,
-    cmd: String,
-    reply: String,
-    seat: u64,
-) -> Result<Vec<u8>, AllocError>
-    requires fields { IsEntryObject (view object.old) }
-    ensures text { IfOk result (λ line. line.items ≡ fields_line (string_bytes cmd) (string_bytes reply) seat) }
-    ensures utf8 { IfOk result (λ line. IsUtf8 line.items) }
-    ensures reads_back { IfOk result (λ line. read line.items ≡ Some (entry_data (string_bytes cmd) (string_bytes reply) seat)) }
-    ensures fields { OnOk result (IsEntryObject (view object.new)) }
+/// The line of these fields, in the memory of another line. It is written with the writer that `Value` itself writes with: to
+/// build an object for each line would take longer than all else.
+fn fields_line(other: Vec<u8>, cmd: &str, reply: &str, seat: u64) -> Result<Vec<u8>, AllocError>
+    ensures text { IfOk result (λ line. line.items ≡ fields_line cmd.now reply.now seat) }
+    ensures reads_back { IfOk result (λ line. json_of (fields_line cmd.now reply.now seat) ≡ Some (entry_data cmd.now reply.now seat)) }
 {
-    set_fields(alloc, object, cmd, reply, seat)?;
-    object.to_vec(alloc)
-}
-
-/// Gives an entry's object these fields.
-fn set_fields(
-    alloc: Global,
-    object: &mut Value,
-    cmd: String,
-    reply: String,
-    seat: u64,
-) -> Result<(), AllocError>
-    requires fields { IsEntryObject (view object.old) }
-    ensures set { OnOk result (view object.new ≡ entry_data (string_bytes cmd) (string_bytes reply) seat) }
-{
-    let Some(fields) = object.as_object_mut() else {
-        unreachable!()
-    };
-    put(fields, alloc, "cmd", Value::from(cmd))?;
-    put(fields, alloc, "reply", Value::from(reply))?;
-    put(fields, alloc, "seat", Value::from(seat))
+    let mut other = other;
+    other.clear();
+    let mut line = Writer::new(other);
+    line.begin_object()?;
+    line.key("cmd")?;
+    line.string(cmd)?;
+    line.key("reply")?;
+    line.string(reply)?;
+    line.key("seat")?;
+    line.u64(seat)?;
+    line.end_object()?;
+    Ok(line.into_inner())
 }

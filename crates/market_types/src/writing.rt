@@ -2,6 +2,7 @@
 #![tactic(auto, using(crate::proofs::Written::extends_trans))]
 
 ghost use Rattle.std.specs.Prelude.{◌≡◌, ◌++◌, IfOk, IsUtf8, OnErr, OnOk, codes, decimal, string_bytes};
+ghost use Rattle.std.specs.Fmt.{signed_decimal};
 ghost use Rattle.market_types.specs.Corrections.{counts_to};
 ghost use Rattle.market_types.specs.Texts.{cmd_text, count_text, counts_text, fault_text, level_text, limit_text, open_fault_text, reply_text, view_text, yes_no};
 ghost use Rattle.market_types.specs.Written.{Extends, comma_if, seats_text};
@@ -13,7 +14,7 @@ use crate::reply::{ArenaView, Fault, LimitView, OpenFault, Reply};
 use itoa::Buffer;
 use std::alloc::{AllocError, Global};
 
-/// Most replies are no longer than this.
+/// Most texts are no longer than this.
 const USUAL_LENGTH: usize = 24;
 
 /// The canonical text of a command in a market of so many levels, as `open 8 1 normal`: every field is written, and a
@@ -21,31 +22,86 @@ const USUAL_LENGTH: usize = 24;
 pub fn cmd_text(alloc: Global, cmd: &Cmd, levels: u32) -> Result<String, AllocError>
     ensures exact { IfOk result (λ text. string_bytes text ≡ cmd_text levels cmd.now) }
 {
+    let mut text = Vec::with_capacity(alloc, USUAL_LENGTH)?;
+    push_cmd(&mut text, cmd, levels)?;
+    Ok(as_string(text))
+}
+
+/// The string of these bytes, which takes their memory.
+fn as_string(bytes: Vec<u8>) -> String
+    requires { IsUtf8 bytes.items }
+    ensures { string_bytes result ≡ bytes.items }
+{
+    let Ok(text) = String::from_utf8(bytes) else {
+        unreachable!()
+    };
+    text
+}
+
+/// Writes a command's text behind what `out` holds.
+fn push_cmd(out: &mut Vec<u8>, cmd: &Cmd, levels: u32) -> Result<(), AllocError>
+    ensures ok { OnOk result (out.new.items ≡ out.old.items ++ cmd_text levels cmd.now) }
+    ensures grows { Extends out.old.items out.new.items }
+{
     match cmd {
         Cmd::Open(slots, reserved, level) => {
-            let level = level_text(*level, levels);
-            format!(in alloc; "open {slots} {reserved} {level}")
+            push_open(out, *slots, *reserved, level_text(*level, levels))
         }
-        Cmd::Close(arena) => format!(in alloc; "close {}", arena.get()),
-        Cmd::Priority(arena, level) => {
-            let level = level_text(*level, levels);
-            format!(in alloc; "priority {} {level}", arena.get())
-        }
-        Cmd::Resize(arena, slots, reserved) => {
-            format!(in alloc; "resize {} {slots} {reserved}", arena.get())
-        }
+        Cmd::Close(arena) => push_part(out, "close ", arena.get()),
+        Cmd::Priority(arena, level) => push_priority(out, arena.get(), level_text(*level, levels)),
+        Cmd::Resize(arena, slots, reserved) => push_resize(out, arena.get(), *slots, *reserved),
         Cmd::Request(arena, workers, mandatory) => {
-            format!(in alloc; "request {} {workers} {mandatory}", arena.get())
+            push_request(out, arena.get(), *workers, *mandatory)
         }
-        Cmd::Control(value) => format!(in alloc; "control {value}"),
-        Cmd::Uncontrol(control) => format!(in alloc; "uncontrol {}", control.get()),
-        Cmd::Join => String::from_str(alloc, "join"),
-        Cmd::Stay => String::from_str(alloc, "stay"),
-        Cmd::Leave => String::from_str(alloc, "leave"),
-        Cmd::Show(arena) => format!(in alloc; "show {}", arena.get()),
-        Cmd::Lists => String::from_str(alloc, "lists"),
-        Cmd::Limit => String::from_str(alloc, "limit"),
+        Cmd::Control(value) => push_part(out, "control ", *value),
+        Cmd::Uncontrol(control) => push_part(out, "uncontrol ", control.get()),
+        Cmd::Join => push_text(out, "join"),
+        Cmd::Stay => push_text(out, "stay"),
+        Cmd::Leave => push_text(out, "leave"),
+        Cmd::Show(arena) => push_part(out, "show ", arena.get()),
+        Cmd::Lists => push_text(out, "lists"),
+        Cmd::Limit => push_text(out, "limit"),
     }
+}
+
+fn push_open(out: &mut Vec<u8>, slots: u32, reserved: u32, level: &str) -> Result<(), AllocError>
+    ensures ok { OnOk result (out.new.items ≡ out.old.items ++ (codes "open " ++ (decimal slots ++ (codes " " ++ (decimal reserved ++ (codes " " ++ level.now)))))) }
+    ensures grows { Extends out.old.items out.new.items }
+{
+    push_part(out, "open ", slots)?;
+    push_part(out, " ", reserved)?;
+    push_word(out, level)
+}
+
+fn push_priority(out: &mut Vec<u8>, arena: u32, level: &str) -> Result<(), AllocError>
+    ensures ok { OnOk result (out.new.items ≡ out.old.items ++ (codes "priority " ++ (decimal arena ++ (codes " " ++ level.now)))) }
+    ensures grows { Extends out.old.items out.new.items }
+{
+    push_part(out, "priority ", arena)?;
+    push_word(out, level)
+}
+
+fn push_resize(out: &mut Vec<u8>, arena: u32, slots: u32, reserved: u32) -> Result<(), AllocError>
+    ensures ok { OnOk result (out.new.items ≡ out.old.items ++ (codes "resize " ++ (decimal arena ++ (codes " " ++ (decimal slots ++ (codes " " ++ decimal reserved)))))) }
+    ensures grows { Extends out.old.items out.new.items }
+{
+    push_part(out, "resize ", arena)?;
+    push_part(out, " ", slots)?;
+    push_part(out, " ", reserved)
+}
+
+fn push_request(
+    out: &mut Vec<u8>,
+    arena: u32,
+    workers: i32,
+    mandatory: i32,
+) -> Result<(), AllocError>
+    ensures ok { OnOk result (out.new.items ≡ out.old.items ++ (codes "request " ++ (decimal arena ++ (codes " " ++ (signed_decimal workers ++ (codes " " ++ signed_decimal mandatory)))))) }
+    ensures grows { Extends out.old.items out.new.items }
+{
+    push_part(out, "request ", arena)?;
+    push_signed(out, workers)?;
+    push_signed(out, mandatory)
 }
 
 /// A level's name in a market of so many levels, as `high`, where it has one; else its number.
@@ -106,10 +162,7 @@ pub fn reply_text(alloc: Global, reply: &Reply) -> Result<String, AllocError>
 {
     let mut text = Vec::with_capacity(alloc, USUAL_LENGTH)?;
     push_reply(&mut text, reply)?;
-    let Ok(text) = String::from_utf8(text) else {
-        unreachable!()
-    };
-    Ok(text)
+    Ok(as_string(text))
 }
 
 /// Writes a reply's text, without an end of line, behind what `out` holds. `Err` says that memory ran out, and leaves `out` as
@@ -260,6 +313,24 @@ fn push_part(out: &mut Vec<u8>, label: &str, number: u32) -> Result<(), AllocErr
 {
     push_text(out, label)?;
     push_number(out, number)
+}
+
+/// A space and a word.
+fn push_word(out: &mut Vec<u8>, word: &str) -> Result<(), AllocError>
+    ensures ok { OnOk result (out.new.items ≡ out.old.items ++ (codes " " ++ word.now)) }
+    ensures grows { Extends out.old.items out.new.items }
+{
+    push_text(out, " ")?;
+    push_text(out, word)
+}
+
+/// A space, and a number in decimal with its sign.
+fn push_signed(out: &mut Vec<u8>, number: i32) -> Result<(), AllocError>
+    ensures ok { OnOk result (out.new.items ≡ out.old.items ++ (codes " " ++ signed_decimal number)) }
+    ensures grows { Extends out.old.items out.new.items }
+{
+    let mut digits = Buffer::new();
+    push_word(out, digits.format(number))
 }
 
 /// A number in decimal.

@@ -1,18 +1,16 @@
-use Rattle.std.specs.Prelude.{IsUtf8}
 use Rattle.std.proofs.Common.{◌≡◌, ◌++◌, ◌+◌, codes, List, [], ℕ, take, ap, sym, subst, ◌∙◌, append_assoc}
 use Rattle.std.specs.Io.KnownBytes.{Appends}
 use Rattle.byte_devices.specs.Devices.{WritesFront}
 use Rattle.market_types.specs.declared.reply.Entry.{Entry}
 use Rattle.journal_replay.specs.Journal.{entry_line, entry_lines}
 use Rattle.journal_replay.specs.Written.{IsReadBack}
-use Rattle.journal_replay.proofs.Json.{read-back}
 use Rattle.journal_replay.proofs.Lines.{all-more, at-err, lines-more, fronts-more, fronts-written, front-of-whole, front-then, lines-split, moved-fronts}
 use Rattle.journal_replay.proofs.journal.write_entries.Goals as goal
 use Rattle.journal_replay.proofs.journal.write_entries.Goals.{then-len-ge-PIECE+in_ok-put_all, else-len-ge-PIECE}
 
 pub returns-in_err-line-clause-prefix : goal.returns-in_err-line-clause-prefix
 returns-in_err-line-clause-prefix g c =
-    at-err _ c.from_residual-in_err-line.result (front-of-whole _ _ c.loop-index.waiting.items c.args.waiting.now.items c.args.chronicle.now.start.levels c.loop-index.index c.args.chronicle.now.log c.loop-index.invariant.1)
+    at-err _ c.from_residual.result (front-of-whole _ _ c.loop-index.waiting.items c.args.waiting.now.items c.args.chronicle.now.start.levels c.loop-index.index c.args.chronicle.now.log c.loop-index.invariant.1)
 
 pub returns-in_err-push_line-clause-prefix : goal.returns-in_err-push_line-clause-prefix
 returns-in_err-push_line-clause-prefix g c =
@@ -45,7 +43,7 @@ loop-index-preserved g c =
     let longer : start ++ entry_lines levels (take (c.loop-index.index + 1) log) ≡ (start ++ entry_lines levels (take c.loop-index.index log)) ++ (entry_line levels e ++ codes "\n") =
     ap (λ xs. start ++ xs) (lines-more levels c.loop-index.index log e c.entry.ensures.exact) ∙ sym (append_assoc start (entry_lines levels (take c.loop-index.index log)) (entry_line levels e ++ codes "\n")) in
     let grown = fronts-more _ _ _ _ _ _ _ c.loop-index.invariant.1 more longer in
-    let back : IsReadBack levels e = read-back levels c.levels-levels.result e c.deref.result.now c.in_ok-line.line.items c.deref.ensures.value text its (subst IsUtf8 (sym c.deref.ensures.value) c.in_ok-line.ensures.utf8) c.in_ok-line.ensures.reads_back in
+    let back : IsReadBack levels e = subst (λ n. IsReadBack n e) its c.in_ok-line.ensures.reads_back in
     let backs = all-more (IsReadBack levels) log c.loop-index.index e c.entry.ensures.exact c.loop-index.invariant.2 back in
     elim c.if-len-ge-PIECE.branch [
       | then-len-ge-PIECE+in_ok-put_all w ↦
@@ -55,12 +53,10 @@ loop-index-preserved g c =
             ap g.W.Sink.failed w.sink-is ∙ w.in_ok-put_all.ensures.working ∙ c.loop-index.invariant.0,
             moved-fronts _ _ _ _ _ _ (ap g.W.Sink.taken w.sink-is) nothing (fronts-written _ _ _ _ _ grown all),
             backs,
-            c.in_ok-line.ensures.fields,
           )
       | else-len-ge-PIECE w ↦ (
         ap g.W.Sink.failed w.sink-is ∙ c.loop-index.invariant.0,
         moved-fronts _ _ _ _ _ _ (ap g.W.Sink.taken w.sink-is) (ap (λ v. v.items) w.waiting-is) grown,
         backs,
-        c.in_ok-line.ensures.fields,
       )
     ]

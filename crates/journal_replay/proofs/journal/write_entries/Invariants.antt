@@ -2,14 +2,12 @@ use Rattle.std.proofs.Common.{◌≡◌, ◌++◌, false, take}
 use Rattle.journal_replay.specs.Journal.{entry_lines}
 use Rattle.std.specs.List.{All}
 use Rattle.byte_devices.specs.Output.{Fronts}
-use Rattle.serde_json.specs.View.{view}
-use Rattle.journal_replay.specs.Written.{IsReadBack, IsEntryObject}
+use Rattle.journal_replay.specs.Written.{IsReadBack}
 use Rattle.journal_replay.proofs.journal.write_entries.Given as goal
 
--- what was written and what waits are the lines so far, and the object can be given the next entry's fields
+-- what was written and what waits are the lines so far
 abbrev pub invariant-loop-index : goal.invariant-loop-index
 invariant-loop-index g l =
     (g.W.Sink.failed l.sink ≡ false)
     × Fronts (g.W.Sink.taken l.initial.sink) (g.W.Sink.taken l.sink) l.waiting.items (l.initial.waiting.items ++ entry_lines l.chronicle.start.levels (take l.index l.chronicle.log))
     × All (IsReadBack l.chronicle.start.levels) (take l.index l.chronicle.log)
-    × IsEntryObject (view l.object)

@@ -33,7 +33,7 @@ returns-clause-legal g c =
     let numbers = c.market.ensures.numbers in
     let text : c.deref.result.now ≡ header_line s.base s.hard s.levels (length s.seats) = c.deref.ensures.value ∙ c.in_ok-header.ensures.text in
     let shorts = c.written_lines_are_short.ensures start c.args.chronicle.now.log c.market.ensures.opened c.market.ensures.legal in
-    let header = header-back start s c.deref.result.now c.in_ok-header.header.items numbers c.deref.ensures.value text (subst IsUtf8 (sym c.deref.ensures.value) c.in_ok-header.ensures.utf8) c.in_ok-header.ensures.reads_back in
+    let header = header-back start s c.in_ok-header.header.items numbers c.in_ok-header.ensures.text c.in_ok-header.ensures.utf8 c.in_ok-header.ensures.reads_back in
     c.legal_journals_tell_legal_histories.ensures.legal _ _
     (journal-told start c.args.chronicle.now.log c.market.ensures.opened c.market.ensures.legal c.market.ensures.calls c.in_ok-write_entries.ensures.reads_back shorts header
     (λ cmd fits. c.texts_spell_commands.ensures.reads_back start.levels cmd fits) c.in_ok-write_entries.ensures.few)
