@@ -129,6 +129,8 @@ impl Walk<'_> {
             return false;
         }
         let active = self.roster.active(row.arena);
-        whole(due, self.demand, active, carry) > active
+        let (allotted, after) = whole(due, self.demand, active);
+        *carry = after;
+        allotted > active
     }
 }
