@@ -28,7 +28,8 @@ pub fn carry_share(assigned: u64, demand: u64, carry: u64, request: u64) -> (u64
 }
 
 /// The workers of an arena that asks for `request`, where the arenas of its level before it ask for `before` together:
-/// what `carry_share` gives it, but without a walk over these arenas.
+/// what `carry_share` gives it, but without a walk over these arenas. It divides only where the level is assigned fewer workers
+/// than it asks for.
 pub fn share(assigned: u64, demand: u64, before: u64, request: u64) -> u64
     requires some_demand { 0 < demand }
     requires small_demand { demand < 2 ^ 32 }
@@ -43,5 +44,8 @@ pub fn share(assigned: u64, demand: u64, before: u64, request: u64) -> u64
         → Asks given asked a assigned demand request → AskBefore others a before
         → result ≡ share_of given asked (carry_after given asked 0 (at_level a.level others)) a }
 {
+    if assigned == demand {
+        return request;
+    }
     assigned * (before + request) / demand - assigned * before / demand
 }

@@ -4,3 +4,4 @@ mod Tables
 pub mod Shares
 pub mod Searches
 pub mod Listings
+pub mod Askers

@@ -1,6 +1,6 @@
 -- What a walk over all of a level's rows lists.
-use Rattle.std.proofs.Common.{◌≡◌, ℕ, ◌+◌, ◌*◌, ◌%◌, ◌<◌, ◌≤◌, eqb, cond, List, [], ◌∷◌, ◌++◌, map, length, length-append, append-nil, Option, None, Result, Ok, Err, refl, sym, ap, subst, ◌∙◌, arith, inl, inr, append_assoc}
-use Rattle.std.specs.Prelude.{nat_lt, OnOk}
+use Rattle.std.proofs.Common.{◌≡◌, ℕ, ◌+◌, ◌*◌, ◌%◌, ◌<◌, ◌≤◌, eqb, cond, List, [], ◌∷◌, ◌++◌, map, length, length-append, append-nil, Option, None, refl, sym, ap, subst, ◌∙◌, arith, inl, inr, append_assoc}
+use Rattle.std.specs.Prelude.{nat_lt}
 use Rattle.std.specs.List.{filter, count_by}
 use Rattle.std.proofs.lemmas.Bool.{cases_eq, cases_lt, lt-ltb, le-ltb, eq-eqb, ne_eqb}
 use Rattle.std.proofs.lemmas.List.{map-append}
@@ -190,14 +190,13 @@ module _ (s : Sharing) (seats : List (Option ℕ)) (c n m : ℕ) (rows l : List 
   unmet-older u t k h f g = omega (arith, actives-parts)
 
 -- the newer rows, the topmost one, and the older ones
-pub walk-parts : {A E : Type 0} (o : Result A E) (s : Sharing) (seats : List (Option ℕ)) (rows l : List Row) (x : Row) (r : List Row)
+pub walk-parts : (s : Sharing) (seats : List (Option ℕ)) (rows l : List Row) (x : Row) (r : List Row)
     (c n m after u t k left v w y end : ℕ) (b0 b1 b2 b3 : Counts)
     → rows ≡ l ++ x ∷ r → w ≡ v + 1 → IsWalk s seats l c n u t w y b0 b1
     → IsListed (staffed s seats n (x ∷ [])) b1 b2 → m ≡ row_carry s n x → t ≡ k + actives (staffed s seats n (x ∷ []))
-    → OnOk o (IsWalk s seats r m after k left y end b2 b3)
-    → OnOk o (IsWalk s seats rows c after u left v end b0 b3)
-walk-parts (Err x') s seats rows l x r c n m after u t k left v w y end b0 b1 b2 b3 e entered f here j met g = tt
-walk-parts (Ok x') s seats rows l x r c n m after u t k left v w y end b0 b1 b2 b3 e entered f here j met g =
+    → IsWalk s seats r m after k left y end b2 b3
+    → IsWalk s seats rows c after u left v end b0 b3
+walk-parts s seats rows l x r c n m after u t k left v w y end b0 b1 b2 b3 e entered f here j met g =
     let L : List Staffing = staffed s seats c l in
     let X : List Staffing = staffed s seats n (x ∷ []) in
     let R : List Staffing = staffed s seats m r in

@@ -1,6 +1,7 @@
 -- What rows are allotted where one carry goes through all of them, and what a search among them looks at.
-use Rattle.std.proofs.Common.{◌≡◌, ℕ, ◌+◌, ◌*◌, ◌/◌, ◌%◌, ◌<◌, ◌≤◌, eqb, cond, List, [], ◌∷◌, ◌++◌, Option, Some, None, refl, sym, ap, ◌∙◌, arith, inl, inr}
+use Rattle.std.proofs.Common.{◌≡◌, ℕ, ◌+◌, ◌-◌, ◌*◌, ◌/◌, ◌%◌, ◌<◌, ◌≤◌, eqb, cond, List, [], ◌∷◌, ◌++◌, Option, Some, None, refl, sym, ap, ◌∙◌, arith, inl, inr}
 use Rattle.std.specs.List.{count_by}
+use Rattle.std.proofs.Math.Arith.{digits_div, digits_mod}
 use Rattle.std.proofs.Math.Nat.{div-eq_of_lt, mod-eq_of_lt, lt-div-mul-add, zero-div, zero-mod}
 use Rattle.std.proofs.lemmas.Bool.{cases_eq, cases_lt, lt-ltb, le-ltb, eq-eqb, ne_eqb}
 use Rattle.std.proofs.lemmas.List.Sums.{sum_by-cons, sum_by-append}
@@ -29,6 +30,30 @@ carry-below q k d c h =
     elim (cases_eq q 0) [
       | inl z ↦ rw (eq-eqb q 0 z) (let e : c ≡ q * k + c = rw z (omega arith) in e)
       | inr n ↦ rw (ne_eqb q 0 n) (mod-eq_of_lt h)
+    ]
+
+-- so many parts are these whole workers
+pub whole-is : (n a d : ℕ) → a * d ≤ n → n - a * d < d → a ≡ n / d
+whole-is n a d low few = let parts : n ≡ a * d + (n - a * d) = omega arith in sym (ap (λ m. m / d) parts ∙ digits_div a few)
+
+-- and leave this carry
+pub rest-is : (n a d : ℕ) → a * d ≤ n → n - a * d < d → n - a * d ≡ n % d
+rest-is n a d low few = let parts : n ≡ a * d + (n - a * d) = omega arith in sym (ap (λ m. m % d) parts ∙ digits_mod a few)
+
+-- where a worker is due, and its arena has the whole workers that are: so many are allotted
+pub share-kept : (q k d c a : ℕ) → c < d → d ≤ q * k + c → a * d ≤ q * k + c → q * k + c - a * d < d → cond (eqb q 0) 0 ((q * k + c) / d) ≡ a
+share-kept q k d c a low due kept few =
+    elim (cases_eq q 0) [
+      | inl z ↦ let none : d ≤ 0 * k + c = rw z at due in absurd (omega arith)
+      | inr n ↦ rw (ne_eqb q 0 n) (sym (whole-is (q * k + c) a d kept few))
+    ]
+
+-- and what is left is carried on
+pub carry-rest : (q k d c a : ℕ) → c < d → d ≤ q * k + c → a * d ≤ q * k + c → q * k + c - a * d < d → cond (eqb q 0) c ((q * k + c) % d) ≡ q * k + c - a * d
+carry-rest q k d c a low due kept few =
+    elim (cases_eq q 0) [
+      | inl z ↦ let none : d ≤ 0 * k + c = rw z at due in absurd (omega arith)
+      | inr n ↦ rw (ne_eqb q 0 n) (sym (rest-is (q * k + c) a d kept few))
     ]
 
 -- ---- two lists

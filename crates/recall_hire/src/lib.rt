@@ -7,6 +7,7 @@ mod crowd;
 mod lists;
 mod roster;
 mod rows;
+mod served;
 mod sharing;
 mod slots;
 mod walk;

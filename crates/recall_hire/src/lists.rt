@@ -13,6 +13,9 @@ use market_types::{Correction, Imbalance, Lists, Row};
 use std::alloc::AllocError;
 use std::cmp::Ordering;
 
+/// How many arenas lists have room for as soon as one is listed.
+const FIRST_ROOM: usize = 16;
+
 /// Puts a level's arenas, newest first, at the end of lists, each with how many workers it has too many or too few; and
 /// says how many nodes that entered: none twice, and one at least for each arena that it lists. Wants memory only for what
 /// it lists.
@@ -36,8 +39,8 @@ pub fn list(
     ensures succeeds { counts_in (staffed sharing roster.now 0 rows.now.0) ≡ record { recalls = []; hires = [] } → IsOk result }
 {
     let listing = Listing { roster, sharing };
-    let (mut carry, mut visits) = (0, 0);
-    listing.list(rows, &mut carry, unmet, &mut visits, lists)?;
+    let mut visits = 0;
+    listing.list(rows.again(), 0, unmet, &mut visits, lists)?;
     Ok(visits)
 }
 
@@ -49,33 +52,56 @@ struct Listing<'a> {
 }
 
 impl Listing<'_> {
-    /// Puts a stretch's arenas at the end of lists. The carry goes on past all of them, and their seats are met.
+    /// Puts a stretch's arenas at the end of lists, and gives the carry past all of them. Their seats are met.
+    #[cycle(list)]
+    #[inline(always)]
     fn list(
         &self,
-        rows: &Stretch,
-        carry: &mut u64,
+        rows: Stretch<'_>,
+        carry: u64,
         unmet: &mut u32,
         visits: &mut u32,
         lists: &mut Lists,
-    ) -> Result<(), AllocError>
-        requires shared { CanShareAll self.now.sharing carry.old (requests rows.now.0) }
-        requires few { visits.old + length rows.now.0 < 2 ^ 31 }
-        requires unmet { actives (staffed self.now.sharing self.now.roster.now carry.old rows.now.0) ≤ unmet.old }
-        ensures walked { OnOk result (IsWalk self.now.sharing self.now.roster.now rows.now.0 carry.old carry.new unmet.old unmet.new visits.old visits.new lists.old lists.new) }
-        ensures succeeds { counts_in (staffed self.now.sharing self.now.roster.now carry.old rows.now.0) ≡ record { recalls = []; hires = [] } → IsOk result }
+    ) -> Result<u64, AllocError>
+        requires shared { CanShareAll self.now.sharing carry (requests rows.0) }
+        requires few { visits.old + length rows.0 < 2 ^ 31 }
+        requires unmet { actives (staffed self.now.sharing self.now.roster.now carry rows.0) ≤ unmet.old }
+        ensures walked { IfOk result (λ after. IsWalk self.now.sharing self.now.roster.now rows.entry.0 carry after unmet.old unmet.new visits.old visits.new lists.old lists.new) }
+        ensures succeeds { counts_in (staffed self.now.sharing self.now.roster.now carry rows.entry.0) ≡ record { recalls = []; hires = [] } → IsOk result }
     {
-        if let Some(after) = self.past(rows, *carry, *unmet) {
-            *carry = after;
-            return Ok(());
+        match self.past(&rows, carry, *unmet) {
+            Some(after) => Ok(after),
+            None => self.among(rows, carry, unmet, visits, lists),
         }
-        match rows.enter(visits) {
-            None => Ok(()),
-            Some(parts) => {
-                self.list(&parts.newer, carry, unmet, visits, lists)?;
-                self.add(parts.row, carry, unmet, lists)?;
-                self.list(&parts.older, carry, unmet, visits, lists)
+    }
+
+    /// The same for a stretch where an arena may be listed.
+    #[cycle(list)]
+    fn among(
+        &self,
+        rows: Stretch<'_>,
+        carry: u64,
+        unmet: &mut u32,
+        visits: &mut u32,
+        lists: &mut Lists,
+    ) -> Result<u64, AllocError>
+        requires shared { CanShareAll self.now.sharing carry (requests rows.0) }
+        requires few { visits.old + length rows.0 < 2 ^ 31 }
+        requires unmet { actives (staffed self.now.sharing self.now.roster.now carry rows.0) ≤ unmet.old }
+        ensures walked { IfOk result (λ after. IsWalk self.now.sharing self.now.roster.now rows.entry.0 carry after unmet.old unmet.new visits.old visits.new lists.old lists.new) }
+        ensures succeeds { counts_in (staffed self.now.sharing self.now.roster.now carry rows.entry.0) ≡ record { recalls = []; hires = [] } → IsOk result }
+    {
+        let mut rest = rows;
+        let mut carry = carry;
+        while let Some(parts) = rest.enter(visits) {
+            carry = self.list(parts.newer, carry, unmet, visits, lists)?;
+            carry = self.add(parts.row, carry, unmet, lists)?;
+            rest = parts.older;
+            if let Some(after) = self.past(&rest, carry, *unmet) {
+                return Ok(after);
             }
         }
+        Ok(carry)
     }
 
     /// The carry past a stretch where nobody is allotted a worker or has one, so that none of it is listed. None where
@@ -105,52 +131,57 @@ impl Listing<'_> {
         }
     }
 
-    /// Puts an arena at the end of the list that it belongs to, if any. The carry goes on past it, and its seats are met.
+    /// Puts an arena at the end of the list that it belongs to, if any, and gives the carry past it. Its seats are met.
     #[inline(always)]
     fn add(
         &self,
         row: &Row,
-        carry: &mut u64,
+        carry: u64,
         unmet: &mut u32,
         lists: &mut Lists,
-    ) -> Result<(), AllocError>
-        requires shared { CanShareAll self.now.sharing carry.old row.now.request }
-        requires unmet { actives (staffed self.now.sharing self.now.roster.now carry.old (row.now ∷ [])) ≤ unmet.old }
-        ensures listed { OnOk result (IsListed (staffed self.now.sharing self.now.roster.now carry.old (row.now ∷ [])) lists.old lists.new) }
-        ensures carry { OnOk result (carry.new ≡ row_carry self.now.sharing carry.old row.now) }
-        ensures met { OnOk result (unmet.old ≡ unmet.new + actives (staffed self.now.sharing self.now.roster.now carry.old (row.now ∷ []))) }
-        ensures succeeds { counts_in (staffed self.now.sharing self.now.roster.now carry.old (row.now ∷ [])) ≡ record { recalls = []; hires = [] } → IsOk result }
+    ) -> Result<u64, AllocError>
+        requires shared { CanShareAll self.now.sharing carry row.now.request }
+        requires unmet { actives (staffed self.now.sharing self.now.roster.now carry (row.now ∷ [])) ≤ unmet.old }
+        ensures listed { OnOk result (IsListed (staffed self.now.sharing self.now.roster.now carry (row.now ∷ [])) lists.old lists.new) }
+        ensures carry { IfOk result (λ after. after ≡ row_carry self.now.sharing carry row.now) }
+        ensures met { OnOk result (unmet.old ≡ unmet.new + actives (staffed self.now.sharing self.now.roster.now carry (row.now ∷ []))) }
+        ensures succeeds { counts_in (staffed self.now.sharing self.now.roster.now carry (row.now ∷ [])) ≡ record { recalls = []; hires = [] } → IsOk result }
     {
         let arena = row.arena;
         let active = self.roster.active(arena);
         *unmet -= active;
-        let allotted = self.allot(row, active, carry);
+        let (allotted, after) = self.allot(row, active, carry);
         let staffing = Staffing {
             arena,
             allotted,
             active,
         };
-        put(lists, staffing)
+        put(lists, staffing)?;
+        Ok(after)
     }
 
-    /// How many workers an arena is allotted. The carry goes on past it.
+    /// How many workers an arena is allotted, and the carry past it. It divides only in a level that gets fewer than it asks
+    /// for.
     #[inline(always)]
-    fn allot(&self, row: &Row, active: u32, carry: &mut u64) -> u32
-        requires shared { CanShareAll self.now.sharing carry.old row.now.request }
-        ensures share { result ≡ row_share self.now.sharing carry.old row.now }
-        ensures carry { carry.new ≡ row_carry self.now.sharing carry.old row.now }
+    fn allot(&self, row: &Row, active: u32, carry: u64) -> (u32, u64)
+        requires shared { CanShareAll self.now.sharing carry row.now.request }
+        ensures share { result.0 ≡ row_share self.now.sharing carry row.now }
+        ensures carry { result.1 ≡ row_carry self.now.sharing carry row.now }
     {
         match self.sharing {
             Sharing::Carried { workers, demand } => {
-                if row.request == 0 {
-                    return 0;
+                if workers == demand {
+                    return (row.request, carry);
                 }
-                let due = u64::from(row.request) * workers + *carry;
-                whole(due, demand, active, carry)
+                if row.request == 0 {
+                    return (0, carry);
+                }
+                let due = u64::from(row.request) * workers + carry;
+                whole(due, demand, active)
             }
             Sharing::Picked { arena, workers } => match arena {
-                Some(picked) if picked == row.arena => workers,
-                _ => 0,
+                Some(picked) if picked == row.arena => (workers, carry),
+                _ => (0, carry),
             },
         }
     }
@@ -167,9 +198,22 @@ fn put(lists: &mut Lists, row: Staffing) -> Result<(), AllocError>
         Ordering::Equal => return Ok(()),
         Ordering::Greater => (Correction::Recall, recall(row.active, row.allotted)),
     };
+    make_room(lists)?;
     lists.push(Imbalance {
         arena: row.arena,
         correction,
         count,
     })
+}
+
+/// Takes room for some arenas at once where none is listed, since a growth for each of the first few takes longer than all else
+/// that is done for them.
+#[inline(always)]
+fn make_room(lists: &mut Lists) -> Result<(), AllocError>
+    ensures same { lists.new ≡ lists.old }
+{
+    if lists.arenas.is_empty() {
+        lists.arenas.reserve(FIRST_ROOM)?;
+    }
+    Ok(())
 }

@@ -18,24 +18,25 @@ pub enum Sharing {
     },
 }
 
-/// How many whole workers are `due`, a number of parts of which `demand` make a worker. What is left is the carry. It
-/// divides only where these are not the workers that there are, `active`.
+/// How many whole workers are `due`, a number of parts of which `demand` make a worker, and what is left, the carry. It divides
+/// only where these are not the workers that there are, `active`, or one more.
 #[inline(always)]
-pub(crate) fn whole(due: u64, demand: u64, active: u32, carry: &mut u64) -> u32
+pub(crate) fn whole(due: u64, demand: u64, active: u32) -> (u32, u64)
     requires some { 0 < demand }
     requires small { demand < 2 ^ 32 }
     requires fits { due / demand < 2 ^ 32 }
-    ensures whole { result ≡ due / demand }
-    ensures carry { carry.new ≡ due % demand }
+    ensures whole { result.0 ≡ due / demand }
+    ensures carry { result.1 ≡ due % demand }
 {
     let kept = u64::from(active) * demand;
     if kept <= due {
         let rest = due - kept;
         if rest < demand {
-            *carry = rest;
-            return active;
+            return (active, rest);
+        }
+        if rest - demand < demand {
+            return (active + 1, rest - demand);
         }
     }
-    *carry = due % demand;
-    (due / demand) as u32
+    ((due / demand) as u32, due % demand)
 }

@@ -9,7 +9,7 @@ ghost use Rattle.recall_hire.specs.Staffed.{first_in_need, searches};
 ghost use Rattle.recall_hire.specs.Shared.{CanShare, IsSearch, staffed, row_share, row_carry};
 
 use crate::roster::Roster;
-use crate::sharing::whole;
+use crate::served::first_short;
 use level_list::Stretch;
 use market_types::{ArenaId, Row};
 
@@ -35,12 +35,17 @@ pub fn first_in_need(
     if workers == 0 {
         return (None, 0);
     }
+    let mut visits = 0;
+    if workers == demand {
+        let found = first_short(roster, rows.again(), &mut visits);
+        return (found, visits);
+    }
     let walk = Walk {
         roster,
         workers,
         demand,
     };
-    let (mut carry, mut visits) = (0, 0);
+    let mut carry = 0;
     let found = walk.in_need(rows.again(), &mut carry, &mut visits);
     (found, visits)
 }
@@ -113,22 +118,32 @@ impl Walk<'_> {
         false
     }
 
-    /// Whether an arena is allotted more workers than it has. The carry goes on past it.
+    /// Whether an arena is allotted more workers than it has. Where it is not, the carry goes on past it. It divides only where
+    /// the arena has workers too many.
     #[inline(always)]
     fn lacks(&self, row: &Row, carry: &mut u64) -> bool
         requires shared { CanShare self.now.workers self.now.demand carry.old }
         requires part { row.now.request ≤ self.now.demand }
         ensures yes { OnTrue result (count_by (is_just row.now.arena) self.now.roster.now < row_share (Carried self.now.workers self.now.demand) carry.old row.now) }
         ensures no { OnFalse result (row_share (Carried self.now.workers self.now.demand) carry.old row.now ≤ count_by (is_just row.now.arena) self.now.roster.now) }
-        ensures carry { carry.new ≡ row_carry (Carried self.now.workers self.now.demand) carry.old row.now }
-        ensures low { carry.new < self.now.demand }
+        ensures carry { OnFalse result (carry.new ≡ row_carry (Carried self.now.workers self.now.demand) carry.old row.now) }
+        ensures low { OnFalse result (carry.new < self.now.demand) }
     {
         let due = u64::from(row.request) * self.workers + *carry;
         if due < self.demand {
             *carry = due;
             return false;
         }
-        let active = self.roster.active(row.arena);
-        whole(due, self.demand, active, carry) > active
+        let kept = u64::from(self.roster.active(row.arena)) * self.demand;
+        if due < kept {
+            *carry = due % self.demand;
+            return false;
+        }
+        let rest = due - kept;
+        if rest < self.demand {
+            *carry = rest;
+            return false;
+        }
+        true
     }
 }

@@ -47,6 +47,20 @@ impl Market {
         (picks, visits)
     }
 
+    /// The arena whose enqueued work is served where no worker may be active.
+    // Apart, since each command that divides workers would else make room for the picks at its start, and few need them.
+    #[cold]
+    #[inline(never)]
+    fn pick(&self) -> (Option<ArenaId>, u32)
+        ensures exact { result.0 ≡ pick_of self.now }
+        ensures entered { 0 < length self.now.arenas → 1 ≤ result.1 }
+        ensures visits { result.1 ≤ self.now.levels * (2 * bits (length self.now.arenas)) }
+        ensures few { result.1 ≤ 176 }
+    {
+        let (picks, visits) = self.picks();
+        (mandatory_pick(&picks), visits)
+    }
+
     /// How workers are divided now.
     // Else each caller copies the division once more, which takes longer than to make it.
     #[inline(always)]
@@ -62,8 +76,7 @@ impl Market {
         let demands = self.demands();
         let bound = sum_of(&demands).min(u64::from(limits.effective)) as u32;
         let (picked, visits) = if limits.limit == 0 {
-            let (picks, visits) = self.picks();
-            (mandatory_pick(&picks), visits)
+            self.pick()
         } else {
             (None, 0)
         };

@@ -36,7 +36,7 @@ among-returns-then-passes t c =
     record { rows_are = c.in_ok-parts.ensures.rows; left = c.in_ok-parts.ensures.lower.0; right = c.in_ok-parts.ensures.lower.1; below = i.shared.carried; due = i.due } in
     i.goes c.passes.new.carry c.in_need.new.visits _
     (goes-on w.workers w.demand w.roster.now c.loop-parts.rest p.newer p.row.now p.older c.loop-parts.carry c.in_need.new.carry c.lacks.new.carry c.passes.new.carry c.loop-parts.visits c.enter.new.visits c.in_need.new.visits c.in_need.new.visits _
-    opened c.in_ok-parts.ensures.counted c.in_default.ensures c.if-lacks.ensures.no c.lacks.ensures.carry (c.if-passes.ensures.none c.in_need.new.visits))
+    opened c.in_ok-parts.ensures.counted c.in_default.ensures c.if-lacks.ensures.no c.if-lacks.ensures.carry (c.if-passes.ensures.none c.in_need.new.visits))
 
 pub among-loop-parts-preserved : goal.among-loop-parts-preserved
 among-loop-parts-preserved t c =
@@ -48,7 +48,7 @@ among-loop-parts-preserved t c =
     let sums : requests c.loop-parts.rest.0 ≡ requests p.newer.0 + p.row.now.request + requests p.older.0 = ap requests c.in_ok-parts.ensures.rows ∙ requests-parts p.newer.0 p.row.now p.older.0 in
     let part : requests p.older.0 ≤ w.demand = omega (arith, sums, i.part) in
     let lengths : length c.loop-parts.rest.0 ≡ length p.newer.0 + length (p.row.now ∷ p.older.0) = ap length c.in_ok-parts.ensures.rows ∙ length-append p.newer.0 (p.row.now ∷ p.older.0) in
-    let less : c.passes.new.carry < w.demand = omega (arith, c.if-passes.ensures.stays, c.lacks.ensures.low) in
+    let less : c.passes.new.carry < w.demand = omega (arith, c.if-passes.ensures.stays, c.if-lacks.ensures.low) in
     let shared : CanShare w.workers w.demand c.passes.new.carry = record { within = i.shared.within; small = i.shared.small; carried = less } in
     record {
       shared = shared;
@@ -59,7 +59,7 @@ among-loop-parts-preserved t c =
       goes = λ after end found rest.
           i.goes after end found
           (goes-on w.workers w.demand w.roster.now c.loop-parts.rest p.newer p.row.now p.older c.loop-parts.carry c.in_need.new.carry c.passes.new.carry after c.loop-parts.visits c.enter.new.visits c.in_need.new.visits end found
-          opened c.in_ok-parts.ensures.counted c.in_default.ensures c.if-lacks.ensures.no (c.if-passes.ensures.stays ∙ c.lacks.ensures.carry) rest);
+          opened c.in_ok-parts.ensures.counted c.in_default.ensures c.if-lacks.ensures.no (c.if-passes.ensures.stays ∙ c.if-lacks.ensures.carry) rest);
     }
 
 pub in_need-returns-then-passes : goal.in_need-returns-then-passes
