@@ -1,0 +1,217 @@
+//! What one caller is answered and counted for, and a history that fills up.
+ghost use Rattle.std.specs.Prelude.{◌≡◌};
+ghost use Rattle.market_types.specs.History.{place_in};
+ghost use Rattle.market_desk.specs.Workers.{workers_at};
+
+use super::*;
+use edit_history::{CallFault, Chronicle};
+use market_types::{ArenaId, Cmd, Level, OpenFault, Reply, SeatNo};
+use std::alloc::Global;
+use std::marker::Brand;
+use std::process::Abort;
+use std::rt::HostRuntime;
+use std::sync::ledger::{Blank, Ledger};
+use worker_ledger::{Book, Share, Totals};
+
+/// What seat 0 is answered.
+fn answer<C: Ledger, W: Ledger>(
+    desk: &mut Desk<C, W>,
+    share: &mut Share<C, W>,
+    alloc: Global,
+    cmd: &Cmd,
+) -> Result<Reply, CallFault>
+    requires worker { share.old.workers ≡ workers_at (place_in 0 desk.old.log) }
+    ensures worker { share.new.workers ≡ workers_at (place_in 0 desk.new.log) }
+{
+    let _ = desk.chronicle().market();
+    desk.serve(alloc, share, SeatNo::new(0), *cmd)
+}
+
+/// How many calls are recorded, how many places are free, and how many calls the share counts.
+fn standing<C: Ledger, W: Ledger>(desk: &Desk<C, W>, share: &Share<C, W>) -> (u64, u32, u64) {
+    let chronicle = desk.chronicle();
+    (chronicle.len(), chronicle.free(), share.calls())
+}
+
+/// The call is refused for want of places, and neither recorded nor counted.
+fn lacks_places<C: Ledger, W: Ledger>(
+    rt: &impl Abort,
+    desk: &mut Desk<C, W>,
+    share: &mut Share<C, W>,
+    alloc: Global,
+    cmd: &Cmd,
+)
+    requires worker { share.old.workers ≡ workers_at (place_in 0 desk.old.log) }
+    ensures worker { share.new.workers ≡ workers_at (place_in 0 desk.new.log) }
+{
+    let before = standing(desk, share);
+    let refused = answer(desk, share, alloc, cmd);
+    assert!(rt; matches!(&refused, Err(CallFault::HistoryFull)));
+    assert!(rt; standing(desk, share) == before);
+}
+
+/// An arena that asks for one worker is opened, and seat 0 joins it.
+fn join<C: Ledger, W: Ledger>(
+    rt: &impl Abort,
+    desk: &mut Desk<C, W>,
+    share: &mut Share<C, W>,
+    alloc: Global,
+)
+    requires worker { share.old.workers ≡ workers_at (place_in 0 desk.old.log) }
+    ensures worker { share.new.workers ≡ workers_at (place_in 0 desk.new.log) }
+{
+    let told = answer(desk, share, alloc, &Cmd::Open(8, 1, Level::from_index(1)));
+    assert!(rt; matches!(&told, Ok(Reply::Opened(arena)) if arena.get() == 1));
+    let told = answer(desk, share, alloc, &Cmd::Request(ArenaId::new(1), 1, 0));
+    assert!(rt; matches!(&told, Ok(Reply::Requested(1))));
+    let told = answer(desk, share, alloc, &Cmd::Join);
+    assert!(rt; matches!(&told, Ok(Reply::Placed(arena)) if arena.get() == 1));
+    assert!(rt; share.calls() == 3);
+}
+
+/// A desk of one seat and four places, whose caller joins, is told that the history is full, and leaves unless it stays: what
+/// its history and its book have at the end.
+fn full_history<C: Ledger, W: Ledger>(
+    rt: &impl Abort,
+    alloc: Global,
+    calls: Blank,
+    workers: Blank,
+    stays: bool,
+) -> (u64, Totals)
+    requires calls { calls.name ≡ C.name }
+    requires calls_parts { (calls.parts ≡ C.parts) × (C.parts ≡ 1) }
+    requires workers { workers.name ≡ W.name }
+    requires workers_parts { (workers.parts ≡ W.parts) × (W.parts ≡ 1) }
+{
+    let Ok(chronicle) = Chronicle::new(alloc, 8, 64, 1, 4, 3) else {
+        panic!(rt; "no chronicle");
+    };
+    let Ok((book, mut shares)) = Book::<C, W>::new(alloc, 1, calls, workers) else {
+        panic!(rt; "no book");
+    };
+    let mut desk = Desk::new(chronicle, book);
+    let share = &mut shares.as_mut_slice()[0];
+    join(rt, &mut desk, share, alloc);
+    lacks_places(rt, &mut desk, share, alloc, &Cmd::Show(ArenaId::new(1)));
+    lacks_places(rt, &mut desk, share, alloc, &Cmd::Stay);
+    if !stays {
+        let left = answer(&mut desk, share, alloc, &Cmd::Leave);
+        assert!(rt; matches!(&left, Ok(Reply::Left(arena)) if arena.get() == 1));
+        lacks_places(rt, &mut desk, share, alloc, &Cmd::Limit);
+    }
+    let (chronicle, book) = desk.into_parts();
+    (chronicle.len(), book.gather(shares))
+}
+
+#[test]
+fn a_placed_worker_leaves_a_full_history(rt: HostRuntime) {
+    let counted = full_history::<Brand, Brand>(
+        &rt,
+        rt.alloc(),
+        Blank::new(1),
+        Blank::new(1),
+        false,
+    );
+    let totals = Totals {
+        calls: 4,
+        workers: 0,
+    };
+    assert!(&rt; counted == (4, totals));
+}
+
+#[test]
+fn a_worker_that_stays_is_counted(rt: HostRuntime) {
+    let counted = full_history::<Brand, Brand>(&rt, rt.alloc(), Blank::new(1), Blank::new(1), true);
+    let totals = Totals {
+        calls: 3,
+        workers: 1,
+    };
+    assert!(&rt; counted == (3, totals));
+}
+
+/// What seat 0 is answered, asked for again where there was no memory: then nothing had changed, and nothing was counted.
+fn answer_at_last<C: Ledger, W: Ledger>(
+    rt: &impl Abort,
+    desk: &mut Desk<C, W>,
+    share: &mut Share<C, W>,
+    alloc: Global,
+    cmd: &Cmd,
+    granted: bool,
+) -> Reply
+    requires worker { share.old.workers ≡ workers_at (place_in 0 desk.old.log) }
+    ensures worker { share.new.workers ≡ workers_at (place_in 0 desk.new.log) }
+{
+    let before = standing(desk, share);
+    match answer(desk, share, alloc, cmd) {
+        Ok(reply) => return reply,
+        Err(fault) => assert!(rt; fault == CallFault::Memory && !granted),
+    }
+    assert!(rt; standing(desk, share) == before);
+    let Ok(reply) = answer(desk, share, alloc, cmd) else {
+        panic!(rt; "no memory");
+    };
+    reply
+}
+
+/// An arena and a control are opened, lists are told, and a worker comes and goes: what was counted, unless there was no
+/// memory for the desk itself. Where every growth is granted, no call is refused.
+fn grown<C: Ledger, W: Ledger>(
+    rt: &impl Abort,
+    alloc: Global,
+    calls: Blank,
+    workers: Blank,
+    granted: bool,
+) -> Option<Totals>
+    requires calls { calls.name ≡ C.name }
+    requires calls_parts { (calls.parts ≡ C.parts) × (C.parts ≡ 1) }
+    requires workers { workers.name ≡ W.name }
+    requires workers_parts { (workers.parts ≡ W.parts) × (W.parts ≡ 1) }
+{
+    let chronicle = match Chronicle::new(alloc, 8, 64, 1, 100, 3) {
+        Ok(chronicle) => chronicle,
+        Err(fault) => {
+            assert!(rt; fault == OpenFault::Memory);
+            return None;
+        }
+    };
+    let Ok((book, mut shares)) = Book::<C, W>::new(alloc, 1, calls, workers) else {
+        return None;
+    };
+    let mut desk = Desk::new(chronicle, book);
+    let share = &mut shares.as_mut_slice()[0];
+    let open = Cmd::Open(8, 1, Level::from_index(1));
+    let told = answer_at_last(rt, &mut desk, share, alloc, &open, granted);
+    assert!(rt; matches!(&told, Reply::Opened(arena) if arena.get() == 1));
+    let told = answer_at_last(rt, &mut desk, share, alloc, &Cmd::Control(5), granted);
+    assert!(rt; matches!(&told, Reply::Controlled(control) if control.get() == 1));
+    let request = Cmd::Request(ArenaId::new(1), 3, 0);
+    let told = answer_at_last(rt, &mut desk, share, alloc, &request, granted);
+    assert!(rt; matches!(&told, Reply::Requested(3)));
+    let told = answer_at_last(rt, &mut desk, share, alloc, &Cmd::Lists, granted);
+    assert!(rt; matches!(&told, Reply::Listed(lists) if lists.len() == 1));
+    let told = answer_at_last(rt, &mut desk, share, alloc, &Cmd::Join, granted);
+    assert!(rt; matches!(&told, Reply::Placed(arena) if arena.get() == 1));
+    let told = answer(&mut desk, share, alloc, &Cmd::Leave);
+    assert!(rt; matches!(&told, Ok(Reply::Left(arena)) if arena.get() == 1));
+    let (_chronicle, book) = desk.into_parts();
+    Some(book.gather(shares))
+}
+
+#[test]
+fn a_refused_growth_leaves_the_desk(rt: HostRuntime) {
+    let counted = grown::<Brand, Brand>(&rt, rt.alloc(), Blank::new(1), Blank::new(1), false);
+    if let Some(totals) = counted {
+        assert!(&rt; totals.calls == 6);
+        assert!(&rt; totals.workers == 0);
+    }
+}
+
+#[test]
+fn a_granted_growth_is_counted(rt: HostRuntime) {
+    let counted = grown::<Brand, Brand>(&rt, rt.alloc(), Blank::new(1), Blank::new(1), true);
+    let totals = Totals {
+        calls: 6,
+        workers: 0,
+    };
+    assert!(&rt; counted == Some(totals));
+}
