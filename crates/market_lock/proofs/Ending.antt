@@ -1,6 +1,7 @@
 -- What is known when all have met.
-use Rattle.std.proofs.Common.{◌≡◌, ℕ, ◌+◌, ◌<◌, List, [], ◌∷◌, ◌++◌, length, refl, ap, sym, ◌∙◌, subst, arith, length-append, All, Some, None}
+use Rattle.std.proofs.Common.{◌≡◌, ◌==◌, ℕ, ◌+◌, ◌<◌, List, [], ◌∷◌, ◌++◌, length, refl, ap, sym, ◌∙◌, subst, arith, length-append, All, Some, None}
 use Rattle.std.proofs.lemmas.List.{length-replicate}
+use Rattle.std.specs.List.{count_by}
 use mathlib.Core.Option.{some, some-injective}
 use mathlib.Core.List.{IsPrefix}
 use lib.ListN.{get_elem?}
@@ -19,8 +20,8 @@ use Rattle.market_lock.specs.declared.view.View.{View}
 use Rattle.market_lock.specs.declared.view.View.TheVariants.{Closer}
 use Rattle.market_lock.specs.Views.{opening_of, chronicle_of}
 use Rattle.market_lock.specs.Rule.{Kept, Once, Fitting}
-use Rattle.market_lock.specs.Seen.{OfPass, OfPlaced, whos, placed_at, Met}
-use Rattle.market_lock.specs.Held.{taken_in, IsClosing, kept_of, known_for}
+use Rattle.market_lock.specs.Seen.{OfPass, OfPlaced, Met}
+use Rattle.market_lock.specs.Held.{taken_in, whos, IsClosing, kept_of, known_for}
 use Rattle.market_lock.specs.Headline.{IsGivenBy}
 use Rattle.market_lock.proofs.Steps.{ends_it}
 use Rattle.market_lock.proofs.Meeting.{all_taken, active_is}
@@ -96,7 +97,7 @@ OwnPlaces = (base hard seats levels seat : ℕ) (history : List Entry)
 pub all_active : OwnPlaces → (key : Terms) (ps : List OfPass) (qs : List OfPlaced) (desk : Chronicled) → Ended key ps (whos qs) desk → IsLegal desk.start desk.log
     → length (market_of desk).seats ≡ key.seats
     → All (λ (p : OfPass). own_place p.mine ≡ None) ps → All (λ (q : OfPlaced). own_place q.who.mine ≡ Some q.arena) qs
-    → placed (market_of desk) ≡ length qs → (a : ℕ) → active (market_of desk) a ≡ placed_at a qs
+    → placed (market_of desk) ≡ length qs → (a : ℕ) → active (market_of desk) a ≡ count_by (λ (q : OfPlaced). q.arena == a) qs
 all_active law key ps qs desk o legal long none' some' full a =
     let begun : IsLegal (opening_of key) desk.log = subst (λ (s : State). IsLegal s desk.log) (started key ps (whos qs) desk o) legal in
     let there : (i : ℕ) (k : Known) → get_elem? o.kept i ≡ some k → (k.seat < length (market_of desk).seats) × (place_of (market_of desk) k.seat ≡ own_place k.mine) =

@@ -3,11 +3,10 @@ use Rattle.std.proofs.Common.{◌≡◌, ℕ, zero, suc, cond, get_or, unwrap_or
 use mathlib.Core.Option.{some}
 use lib.ListN.{get_elem?}
 use Rattle.std.specs.Prelude.{slice_get}
-use Rattle.std.specs.List.{AllByRecursion, sum_by}
+use Rattle.std.specs.List.{AllByRecursion, sum_by, count_by}
 use Rattle.std.proofs.lemmas.List.Sums.{sum_by-cons, sum_by-set}
-use Rattle.std.proofs.lemmas.List.Elements.{All-pop, All-from_recursion, recursion_from_All}
+use Rattle.std.proofs.lemmas.List.Elements.{All-from_recursion, recursion_from_All}
 use Rattle.atomic_table.specs.Table.{Me}
-use Rattle.atomic_table.specs.Seated.{TableId}
 use Rattle.market_types.specs.State.{State}
 use Rattle.market_types.specs.Step.{place_of}
 use Rattle.market_types.specs.Allotment.{active, is_just}
@@ -19,8 +18,8 @@ use Rattle.market_lock.specs.declared.view.Terms.{Terms}
 use Rattle.market_lock.specs.declared.view.View.{View}
 use Rattle.market_lock.specs.declared.view.View.TheVariants.{Closer}
 use Rattle.market_lock.specs.Rule.{Once}
-use Rattle.market_lock.specs.Seen.{OfPass, OfPlaced, calls_in, whos, placed_at, AreOf}
-use Rattle.market_lock.specs.Held.{known_for, taken_in, IsClosing, kept_of}
+use Rattle.market_lock.specs.Seen.{OfPass, OfPlaced}
+use Rattle.market_lock.specs.Held.{known_for, taken_in, whos, IsClosing, kept_of}
 
 abbrev M : Type 0
 M = Me Chronicled View
@@ -29,33 +28,22 @@ taken_last : (xs : List OfPass) (x : OfPass) → taken_in (xs ++ x ∷ []) ≡ k
 taken_last [] x = refl
 taken_last (y ∷ ys) x = ap (λ l. l ++ known_for y ∷ []) (taken_last ys x)
 
-calls_last : (xs : List OfPass) (x : OfPass) → calls_in (xs ++ x ∷ []) ≡ calls_in xs + length x.mine
-calls_last [] x = omega arith
-calls_last (y ∷ ys) x = let rest = calls_last ys x in omega arith
-
 pub whos_last : (xs : List OfPlaced) (x : OfPlaced) → whos (xs ++ x ∷ []) ≡ whos xs ++ x.who ∷ []
 whos_last [] x = refl
 whos_last (y ∷ ys) x = ap (λ l. y.who ∷ l) (whos_last ys x)
 
-pub of_last : (t : TableId) (ys zs : List OfPass) (x : OfPass) → ys ≡ zs ++ x ∷ [] → AreOf t ys → x.table ≡ t
-of_last t ys zs x is all = (All-pop (λ (p : OfPass). p.table ≡ t) ys zs (Some x) is all).1
-
--- one more is taken in
-pub record TakesIn (key : Terms) (t : TableId) (all : List Known) (new : M) (ys zs : List OfPass) (x : OfPass) : Type 0 where
+-- one more is taken back
+pub record TakesIn (key : Terms) (all : List Known) (new : M) (zs : List OfPass) : Type 0 where
   pub closing : IsClosing key new (kept_of new.0)
   pub kept : kept_of new.0 ++ taken_in zs ≡ all
-  pub own : AreOf t zs
-  pub calls : calls_in ys ≡ calls_in zs + length x.mine
 
-pub takes_in : (key : Terms) (t : TableId) (all : List Known) (old new : M) (ys zs : List OfPass) (x : OfPass)
-    → IsClosing key new (kept_of old.0 ++ known_for x ∷ []) → ys ≡ zs ++ x ∷ [] → kept_of old.0 ++ taken_in ys ≡ all → AreOf t ys → TakesIn key t all new ys zs x
-takes_in key t all old new ys zs x now is sum own =
+pub takes_in : (key : Terms) (all : List Known) (old new : M) (ys zs : List OfPass) (x : OfPass)
+    → IsClosing key new (kept_of old.0 ++ known_for x ∷ []) → ys ≡ zs ++ x ∷ [] → kept_of old.0 ++ taken_in ys ≡ all → TakesIn key all new zs
+takes_in key all old new ys zs x now is sum =
     let after : kept_of new.0 ≡ kept_of old.0 ++ known_for x ∷ [] = ap (λ (m : M). kept_of m.0) now in
     record {
       closing = now ∙ ap (λ (l : List Known). (Closer key l, [])) (sym after);
       kept = ap (λ l. l ++ taken_in zs) after ∙ (append_assoc (kept_of old.0) (known_for x ∷ []) (taken_in zs) ∙ (ap (λ l. kept_of old.0 ++ l) (sym (ap taken_in is ∙ taken_last zs x)) ∙ sum));
-      own = (All-pop (λ (p : OfPass). p.table ≡ t) ys zs (Some x) is own).0;
-      calls = ap calls_in is ∙ calls_last zs x;
     }
 
 -- ---- facts about each
@@ -82,6 +70,13 @@ all_taken P kept ps qs is h =
       All-from_recursion (λ (p : OfPass). P (known_for p)) ps (every_taken P ps (every_left P (taken_in ps) (taken_in qs) every)),
       All-from_recursion (λ (p : OfPass). P (known_for p)) qs (every_taken P qs (every_right P (taken_in ps) (taken_in qs) every)),
     )
+
+every_who : (P : OfPass → Type 0) (qs : List OfPlaced) → AllByRecursion P (whos qs) → AllByRecursion (λ (q : OfPlaced). P q.who) qs
+every_who P [] h = tt
+every_who P (q ∷ qs) h = (h.0, every_who P qs h.1)
+
+pub all_who : (P : OfPass → Type 0) (qs : List OfPlaced) → All P (whos qs) → All (λ (q : OfPlaced). P q.who) qs
+all_who P qs h = All-from_recursion (λ (q : OfPlaced). P q.who) qs (every_who P qs (recursion_from_All P (whos qs) h))
 
 -- ---- how many are placed
 
@@ -177,15 +172,15 @@ off_arenas : (a : ℕ) (qs : List OfPlaced) → arenas (one_at a) qs + arenas (o
 off_arenas a [] = refl
 off_arenas a (q ∷ qs) = let rest = off_arenas a qs in let one = off_one a (Some q.arena) in omega arith
 
-at_is : (a : ℕ) (qs : List OfPlaced) → arenas (one_at a) qs ≡ placed_at a qs
+at_is : (a : ℕ) (qs : List OfPlaced) → arenas (one_at a) qs ≡ count_by (λ (q : OfPlaced). q.arena == a) qs
 at_is a [] = refl
-at_is a (q ∷ qs) = ap (λ n. (if q.arena == a then 1 else 0) + n) (at_is a qs)
+at_is a (q ∷ qs) = ap (λ n. (if q.arena == a then 1 else 0) + n) (at_is a qs) ∙ sym (sum_by-cons (λ (p : OfPlaced). cond (p.arena == a) 1 0) q qs)
 
 -- in a market whose seats are where their own entries say, each arena has as many workers as placed values are of it
 pub active_is : (market : State) (kept : List Known) (ps : List OfPass) (qs : List OfPlaced) → kept ≡ taken_in ps ++ taken_in (whos qs) → Once kept
     → ((i : ℕ) (k : Known) → get_elem? kept i ≡ some k → (k.seat < length market.seats) × (place_of market k.seat ≡ own_place k.mine))
     → All (λ (p : OfPass). own_place p.mine ≡ None) ps → All (λ (q : OfPlaced). own_place q.who.mine ≡ Some q.arena) qs
-    → placed market ≡ length qs → (a : ℕ) → active market a ≡ placed_at a qs
+    → placed market ≡ length qs → (a : ℕ) → active market a ≡ count_by (λ (q : OfPlaced). q.arena == a) qs
 active_is market kept ps qs is once fits none' some' full a =
     let seats : List (Option ℕ) = market.seats in
     let sums : (w : Option ℕ → ℕ) → w None ≡ 0 → sum_of w kept ≡ arenas w qs =

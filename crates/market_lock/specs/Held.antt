@@ -10,7 +10,7 @@ use Rattle.market_lock.specs.declared.view.Known.{Known}
 use Rattle.market_lock.specs.declared.view.View.{View}
 use Rattle.market_lock.specs.declared.view.View.TheVariants.{Idle, Holder, Closer}
 use Rattle.market_lock.specs.Views.{shown, known, chronicle_of}
-use Rattle.market_lock.specs.Seen.{known_of, OfPass}
+use Rattle.market_lock.specs.Seen.{known_of, OfPass, OfPlaced}
 
 abbrev pub IsIdle : Me Chronicled View → Type 0
 IsIdle m = m ≡ (Idle (known_of m.0), [])
@@ -43,6 +43,10 @@ known_for p = known p.terms p.seat p.seen p.mine
 -- who takes passes back, with what it keeps
 abbrev pub IsClosing : Terms → Me Chronicled View → List Known → Type 0
 IsClosing t m kept = m ≡ (Closer t kept, [])
+
+abbrev pub whos : List OfPlaced → List OfPass
+whos [] = []
+whos (p ∷ ps) = p.who ∷ whos ps
 
 -- what they knew, the last first
 abbrev pub taken_in : List OfPass → List Known

@@ -1,5 +1,5 @@
 -- What contracts see of an office, of its passes and of its placed workers (own).
-use Rattle.std.specs.Prelude.{◌≡◌, ℕ, ◌+◌, ◌<◌, List, [], ◌∷◌, ◌++◌, length, if◌then◌else◌, ◌==◌, All, Result, Ok, Err}
+use Rattle.std.specs.Prelude.{◌≡◌, ℕ, ◌<◌, List, [], ◌∷◌, ◌++◌, length, Result, Ok, Err}
 use mathlib.Core.List.{IsPrefix}
 use Rattle.atomic_table.specs.Seated.{TableId}
 use Rattle.market_types.specs.declared.command.Cmd.{Cmd}
@@ -59,24 +59,6 @@ kept_by (Ok o) = Ok (chronicle_of o.0.terms [])
 kept_by (Err fault) = Err fault
 
 -- ---- at the close
-
-abbrev pub whos : List OfPlaced → List OfPass
-whos [] = []
-whos (p ∷ ps) = p.who ∷ whos ps
-
--- they are of this office
-abbrev pub AreOf : TableId → List OfPass → Type 0
-AreOf t xs = All (λ (p : OfPass). p.table ≡ t) xs
-
--- how many calls they made together
-abbrev pub calls_in : List OfPass → ℕ
-calls_in [] = 0
-calls_in (p ∷ ps) = length p.mine + calls_in ps
-
--- how many of them are placed at this arena
-abbrev pub placed_at : ℕ → List OfPlaced → ℕ
-placed_at a [] = 0
-placed_at a (p ∷ ps) = (if p.arena == a then 1 else 0) + placed_at a ps
 
 -- it had seen a beginning of the history, and its entries are all that the history has of its seat
 abbrev pub Met : List Entry → OfPass → Type 0

@@ -1,8 +1,8 @@
 //! Passes and placed workers are taken back, one by one.
-ghost use Rattle.std.specs.Prelude.{◌≡◌, ◌++◌, ◌+◌, [], ◌∷◌, length, vec_len, All, None, Some};
+ghost use Rattle.std.specs.Prelude.{◌≡◌, ◌++◌, ◌+◌, [], ◌∷◌, length, vec_len, All, None, Some, sum_by};
 ghost use Rattle.market_desk.specs.Workers.{own_place, workers_at};
-ghost use Rattle.market_lock.specs.Seen.{OfPass, OfPlaced, calls_in, whos, AreOf};
-ghost use Rattle.market_lock.specs.Held.{IsClosing, kept_of, known_for, taken_in};
+ghost use Rattle.market_lock.specs.Seen.{OfPass, OfPlaced};
+ghost use Rattle.market_lock.specs.Held.{IsClosing, kept_of, known_for, taken_in, whos};
 
 use crate::pass::{Pass, Placed};
 use crate::rule::{Gather, Place, Shelf};
@@ -43,11 +43,11 @@ pub(crate) fn take_back_passes<C: Ledger, W: Ledger>(
 )
     requires table { (seat.old.table_id ≡ table.now.shared.table_id) × (table.now.shared.table_id.words ≡ 1) }
     requires seat { IsClosing table.now.shared.key seat.old.me (kept_of seat.old.me.0) }
-    requires passes { AreOf table.now.shared.table_id passes.items }
+    requires passes { All (λ (p : OfPass). p.table ≡ table.now.shared.table_id) passes.items }
     ensures table { seat.new.table_id ≡ seat.old.table_id }
     ensures seat { IsClosing table.now.shared.key seat.new.me (kept_of seat.old.me.0 ++ taken_in passes.items) }
     ensures shares { pool.new.shares ≡ pool.old.shares + vec_len passes }
-    ensures calls { pool.new.calls ≡ pool.old.calls + calls_in passes.items }
+    ensures calls { pool.new.calls ≡ pool.old.calls + sum_by (λ (p : OfPass). length p.mine) passes.items }
     ensures workers { pool.new.workers ≡ pool.old.workers }
     ensures unplaced { All (λ (p : OfPass). own_place p.mine ≡ None) passes.items }
 {
@@ -68,11 +68,11 @@ pub(crate) fn take_back_placed<C: Ledger, W: Ledger>(
 )
     requires table { (seat.old.table_id ≡ table.now.shared.table_id) × (table.now.shared.table_id.words ≡ 1) }
     requires seat { IsClosing table.now.shared.key seat.old.me (kept_of seat.old.me.0) }
-    requires placed { AreOf table.now.shared.table_id (whos placed.items) }
+    requires placed { All (λ (p : OfPlaced). p.who.table ≡ table.now.shared.table_id) placed.items }
     ensures table { seat.new.table_id ≡ seat.old.table_id }
     ensures seat { IsClosing table.now.shared.key seat.new.me (kept_of seat.old.me.0 ++ taken_in (whos placed.items)) }
     ensures shares { pool.new.shares ≡ pool.old.shares + vec_len placed }
-    ensures calls { pool.new.calls ≡ pool.old.calls + calls_in (whos placed.items) }
+    ensures calls { pool.new.calls ≡ pool.old.calls + sum_by (λ (p : OfPlaced). length p.who.mine) placed.items }
     ensures workers { pool.new.workers ≡ pool.old.workers + vec_len placed }
     ensures placed { All (λ (p : OfPlaced). own_place p.who.mine ≡ Some p.arena) placed.items }
 {

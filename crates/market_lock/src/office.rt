@@ -1,5 +1,5 @@
 //! The office: what each call does to what its caller knows.
-ghost use Rattle.std.specs.Prelude.{◌≡◌, ℕ, ◌+◌, ◌<◌, length, false, vec_len, slice_get, Some, IfOk, IfErr, All};
+ghost use Rattle.std.specs.Prelude.{◌≡◌, ℕ, ◌+◌, ◌<◌, ◌==◌, length, false, vec_len, slice_get, Some, IfOk, IfErr, All, sum_by, count_by};
 ghost use Rattle.market_types.specs.declared.command.Cmd.TheVariants.{Leave};
 ghost use Rattle.market_types.specs.declared.reply.Reply.TheVariants.{Left};
 ghost use Rattle.market_types.specs.Allotment.{active};
@@ -8,7 +8,7 @@ ghost use Rattle.market_types.specs.Opening.{MemoryAside};
 ghost use Rattle.edit_history.specs.Chronicled.{market_of, opened_chronicle};
 ghost use Rattle.edit_history.specs.Places.{placed as seats_placed};
 ghost use Rattle.market_lock.specs.Views.{opening_of};
-ghost use Rattle.market_lock.specs.Seen.{fresh, kept_by, AreOf, Met, calls_in, whos, placed_at};
+ghost use Rattle.market_lock.specs.Seen.{OfPass, OfPlaced, fresh, kept_by, Met};
 ghost use Rattle.market_lock.specs.Moves.{Called, Fails, HasJoined, HasStayed};
 ghost use Rattle.market_lock.specs.Headline.{IsGivenBy};
 
@@ -69,7 +69,7 @@ impl<C: Ledger, W: Ledger> Office<C, W> {
         ensures exact { MemoryAside (opened_chronicle base hard seats places levels) (kept_by result) }
         ensures one_for_each { IfOk result (λ o. length o.1.items ≡ seats) }
         ensures passes { IfOk result (λ o. (k : ℕ) → k < seats → slice_get o.1.items k ≡ Some (fresh o.0 k)) }
-        ensures own { IfOk result (λ o. AreOf o.0.table o.1.items) }
+        ensures own { IfOk result (λ o. All (λ (p : OfPass). p.table ≡ o.0.table) o.1.items) }
     {
         let chronicle = Chronicle::new(alloc, base, hard, seats, places, levels)?;
         let terms = Terms {
@@ -201,17 +201,17 @@ impl<C: Ledger, W: Ledger> Office<C, W> {
     /// Takes all passes and placed workers back, and leaves one history: each of them had seen a beginning of it, and its entries
     /// are all that the history has of its seat. It doesn't wait, and takes no memory.
     pub fn close(self, passes: Vec<Pass<C, W>>, placed: Vec<Placed<C, W>>) -> Closed
-        requires own { AreOf self.table passes.items }
-        requires own_placed { AreOf self.table (whos placed.items) }
+        requires own { All (λ (p : OfPass). p.table ≡ self.table) passes.items }
+        requires own_placed { All (λ (p : OfPlaced). p.who.table ≡ self.table) placed.items }
         requires all { vec_len passes + vec_len placed ≡ self.terms.seats }
         ensures headline { IsGivenBy (opening_of self.terms) result.chronicle }
         ensures passes { All (Met result.chronicle.log) passes.items }
-        ensures placed { All (Met result.chronicle.log) (whos placed.items) }
+        ensures placed { All (λ (p : OfPlaced). Met result.chronicle.log p.who) placed.items }
         ensures calls { result.calls ≡ length result.chronicle.log }
-        ensures calls_made { result.calls ≡ calls_in passes.items + calls_in (whos placed.items) }
+        ensures calls_made { result.calls ≡ sum_by (λ (p : OfPass). length p.mine) passes.items + sum_by (λ (p : OfPlaced). length p.who.mine) placed.items }
         ensures workers { result.workers ≡ seats_placed (market_of result.chronicle) }
         ensures workers_placed { result.workers ≡ vec_len placed }
-        ensures active { (a : ℕ) → active (market_of result.chronicle) a ≡ placed_at a placed.items }
+        ensures active { (a : ℕ) → active (market_of result.chronicle) a ≡ count_by (λ (p : OfPlaced). p.arena == a) placed.items }
     {
         let Office { table, alloc: _ } = self;
         let mut seat = table.shared.load_new_seat::<Enter>(0).1;

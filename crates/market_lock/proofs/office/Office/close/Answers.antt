@@ -5,7 +5,9 @@ use Rattle.edit_history.specs.Chronicled.{Chronicled, HasNumbersOf, market_of}
 use Rattle.edit_history.specs.Places.{placed}
 use Rattle.worker_ledger.specs.Pooled.{Pooled}
 use Rattle.market_lock.specs.declared.view.Terms.{Terms}
-use Rattle.market_lock.specs.Seen.{OfOffice, whos}
+use Rattle.market_lock.specs.Seen.{OfOffice, Met}
+use Rattle.market_lock.specs.Held.{whos}
+use Rattle.market_lock.proofs.Meeting.{all_who}
 use Rattle.market_lock.specs.Headline.{IsGivenBy}
 use Rattle.market_lock.specs.Views.{opening_of}
 use Rattle.market_lock.proofs.Steps.{enters_it}
@@ -42,7 +44,8 @@ returns-clause-placed g c =
     let seats : key.seats ≡ c.args.self.terms.seats = ap (λ (x : OfOffice). x.terms.seats) c.self.view_is in
     let o = ended_by key seat.id c.load_new_seat.result.1.me c.take_back_passes.new.seat.me seat.me c.args.passes.items (whos c.args.placed.items) c.close_with-closed.result.words.items c.close_with-closed.result.slots.items c.take-desk.result
     (search rules) c.take_back_passes.ensures.seat c.take_back_placed.ensures.seat (omega (arith, long_whos c.args.placed.items, seats, c.requires.all)) c.close_with-closed.ensures.values.2 c.take-desk.ensures.value in
-    (all_met key c.args.passes.items (whos c.args.placed.items) c.take-desk.result o c.into_parts-chronicle.result.0.log (ap (λ (d : Chronicled). d.log) c.into_parts-chronicle.ensures.chronicle)).1
+    all_who (Met c.into_parts-chronicle.result.0.log) c.args.placed.items
+    ((all_met key c.args.passes.items (whos c.args.placed.items) c.take-desk.result o c.into_parts-chronicle.result.0.log (ap (λ (d : Chronicled). d.log) c.into_parts-chronicle.ensures.chronicle)).1)
 
 pub returns-clause-active : goal.returns-clause-active
 returns-clause-active g c =
