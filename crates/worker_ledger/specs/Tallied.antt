@@ -8,3 +8,9 @@ pub record Tallied : Type 0 where
   pub parts : ℕ
   -- what these have counted
   pub amount : ℕ
+
+pub record Heaped : Type 0 where
+  -- how many parts were put together
+  pub parts : ℕ
+  -- what these have counted
+  pub amount : ℕ

@@ -3,6 +3,7 @@ ghost use Rattle.std.specs.Prelude.{◌≡◌, ◌+◌, ◌<◌, IfOk, length, v
 ghost use Rattle.std.specs.List.{All, sum_by};
 ghost use Rattle.worker_ledger.specs.Counted.{Counted, nothing, most_counted};
 
+use crate::pool::Pool;
 use crate::tally::{Stake, Tally};
 use std::alloc::{AllocError, Global};
 use std::marker::Model;
@@ -56,6 +57,14 @@ impl<C: Ledger, W: Ledger> Share<C, W> {
         ensures exact { result ≡ self.now.calls }
     {
         self.calls.get()
+    }
+
+    /// Its calls and its workers, to put them to those of others.
+    pub(crate) fn into_stakes(self) -> (Stake<C>, Stake<W>)
+        ensures { (result.0 ≡ self.calls) × (result.1 ≡ self.workers) }
+    {
+        let Share { calls, workers } = self;
+        (calls, workers)
     }
 }
 
@@ -125,20 +134,35 @@ impl<C: Ledger, W: Ledger> Book<C, W> {
         ensures calls_of_shares { result.calls ≡ sum_by (λ (share : Counted). share.calls) shares.items }
         ensures workers_of_shares { result.workers ≡ sum_by (λ (share : Counted). share.workers) shares.items }
     {
+        let mut pool = Pool::new();
+        let mut left = shares;
+        while let Some(share) = left.pop() {
+            pool.add(share);
+        }
+        left.destroy_empty();
+        self.gather_pool(pool)
+    }
+
+    /// Takes all shares back that were put together: what they have counted is what the book has. It takes no memory.
+    pub fn gather_pool(self, pool: Pool<C, W>) -> Totals
+        requires all { (pool.shares ≡ C.parts) × (pool.shares ≡ W.parts) }
+        ensures calls { result.calls ≡ self.calls }
+        ensures workers { result.workers ≡ self.workers }
+        ensures calls_of_shares { result.calls ≡ pool.calls }
+        ensures workers_of_shares { result.workers ≡ pool.workers }
+    {
         let Book {
             mut calls,
             mut workers,
         } = self;
-        let mut left = shares;
-        while let Some(share) = left.pop() {
-            let Share {
-                calls: counted,
-                workers: placed,
-            } = share;
-            calls.take_back(counted);
-            workers.take_back(placed);
+        match pool.into_heaps() {
+            None => {}
+            Some(heaps) => {
+                let (counted, placed) = heaps.into_parts();
+                calls.take_back(counted);
+                workers.take_back(placed);
+            }
         }
-        left.destroy_empty();
         Totals {
             calls: calls.into_total(),
             workers: workers.into_total(),

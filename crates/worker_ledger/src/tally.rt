@@ -40,6 +40,19 @@ impl<L: Ledger> Model for Stake<L> {
     ghost invariant = { λ s. (s.part.parts ≡ 1) × (s.part.amount ≡ s.amount) };
 }
 
+/// What stakes that were put together have counted.
+pub(crate) struct Heap<L: Ledger> {
+    part: Part<L>,
+}
+
+impl<L: Ledger> Model for Heap<L> {
+    ghost use Rattle.worker_ledger.specs.Tallied.{Heaped};
+
+    ghost Value = { Heaped };
+
+    ghost view = { λ h. record { parts = h.part.parts; amount = h.part.amount } };
+}
+
 impl<L: Ledger> Tally<L> {
     /// Nothing is counted, and no part is dealt.
     pub fn new(blank: Blank) -> Self
@@ -96,11 +109,11 @@ impl<L: Ledger> Tally<L> {
         stake.amount -= 1;
     }
 
-    /// Takes a dealt part back.
-    pub fn take_back(&mut self, stake: Stake<L>)
-        ensures { self.new ≡ record { total = self.old.total; parts = self.old.parts + 1; amount = self.old.amount + stake } }
+    /// Takes dealt parts back that were put together.
+    pub fn take_back(&mut self, heap: Heap<L>)
+        ensures { self.new ≡ record { total = self.old.total; parts = self.old.parts + heap.parts; amount = self.old.amount + heap.amount } }
     {
-        let Stake { amount: _, part } = stake;
+        let Heap { part } = heap;
         self.hand.merge(part);
     }
 
@@ -120,7 +133,25 @@ impl<L: Ledger> Tally<L> {
     }
 }
 
+impl<L: Ledger> Heap<L> {
+    /// Puts a stake to the others.
+    pub fn add(&mut self, stake: Stake<L>)
+        ensures { self.new ≡ record { parts = self.old.parts + 1; amount = self.old.amount + stake } }
+    {
+        let Stake { amount: _, part } = stake;
+        self.part.merge(part);
+    }
+}
+
 impl<L: Ledger> Stake<L> {
+    /// The stake alone, to put others to it.
+    pub fn into_heap(self) -> Heap<L>
+        ensures { result ≡ record { parts = 1; amount = self } }
+    {
+        let Stake { amount: _, part } = self;
+        Heap { part }
+    }
+
     /// How much it has counted.
     pub fn get(&self) -> u64
         ensures { result ≡ self.now }

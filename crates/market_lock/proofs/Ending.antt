@@ -1,0 +1,110 @@
+-- What is known when all have met.
+use Rattle.std.proofs.Common.{◌≡◌, ◌==◌, ℕ, ◌+◌, ◌<◌, List, [], ◌∷◌, ◌++◌, length, refl, ap, sym, ◌∙◌, subst, arith, length-append, All, Some, None}
+use Rattle.std.proofs.lemmas.List.{length-replicate}
+use Rattle.std.specs.List.{count_by}
+use mathlib.Core.Option.{some, some-injective}
+use mathlib.Core.List.{IsPrefix}
+use lib.ListN.{get_elem?}
+use Rattle.atomic_table.specs.Table.{Me, Final, Seen}
+use Rattle.market_types.specs.declared.reply.Entry.{Entry}
+use Rattle.market_types.specs.State.{State, opening}
+use Rattle.market_types.specs.Step.{place_of}
+use Rattle.market_types.specs.Allotment.{active, allotment_of, is_top, recall, hire}
+use Rattle.market_types.specs.History.{IsLegal, calls_of, of_seat, place_in, state_after}
+use Rattle.edit_history.specs.Chronicled.{Chronicled, HasNumbersOf, market_of}
+use Rattle.edit_history.specs.Places.{placed}
+use Rattle.market_desk.specs.Workers.{own_place}
+use Rattle.market_lock.specs.declared.view.Known.{Known}
+use Rattle.market_lock.specs.declared.view.Terms.{Terms}
+use Rattle.market_lock.specs.declared.view.View.{View}
+use Rattle.market_lock.specs.declared.view.View.TheVariants.{Closer}
+use Rattle.market_lock.specs.Views.{opening_of, chronicle_of}
+use Rattle.market_lock.specs.Rule.{Kept, Once, Fitting}
+use Rattle.market_lock.specs.Seen.{OfPass, OfPlaced, Met}
+use Rattle.market_lock.specs.Held.{taken_in, whos, IsClosing, kept_of, known_for}
+use Rattle.market_lock.specs.Headline.{IsGivenBy}
+use Rattle.market_lock.proofs.Steps.{ends_it}
+use Rattle.market_lock.proofs.Meeting.{all_taken, active_is}
+
+abbrev M : Type 0
+M = Me Chronicled View
+
+long_taken : (xs : List OfPass) → length (taken_in xs) ≡ length xs
+long_taken [] = refl
+long_taken (x ∷ xs) = omega (arith, long_taken xs, length-append (taken_in xs) (known_for x ∷ []))
+
+pub long_whos : (qs : List OfPlaced) → length (whos qs) ≡ length qs
+long_whos [] = refl
+long_whos (q ∷ qs) = let rest = long_whos qs in omega arith
+
+pub record Ended (key : Terms) (ps qs : List OfPass) (desk : Chronicled) : Type 0 where
+  pub kept : List Known
+  pub kept_is : kept ≡ taken_in ps ++ taken_in qs
+  pub desk_is : desk ≡ chronicle_of key desk.log
+  pub once : Once kept
+  pub fits : (i : ℕ) (k : Known) → get_elem? kept i ≡ some k → Fitting key desk.log k
+
+pub ended_by : (key : Terms) (id : ℕ) (m0 m1 m2 : M) (ps qs : List OfPass) (ws : List ℕ) (xs : List Chronicled) (desk : Chronicled)
+    → m0 ≡ (Closer key [], []) → IsClosing key m1 (kept_of m0.0 ++ taken_in ps) → IsClosing key m2 (kept_of m1.0 ++ taken_in qs) → length ps + length qs ≡ key.seats
+    → Final (Seen (Kept key) id m2.0) ws xs → get_elem? xs 0 ≡ some desk → Ended key ps qs desk
+ended_by key id m0 m1 m2 ps qs ws xs desk e0 e1 e2 all final got =
+    let first : kept_of m0.0 ≡ [] = ap (λ (m : M). kept_of m.0) e0 in
+    let second : kept_of m1.0 ≡ taken_in ps = ap (λ (m : M). kept_of m.0) e1 ∙ ap (λ l. l ++ taken_in ps) first in
+    let kept : List Known = taken_in ps ++ taken_in qs in
+    let last : m2.0 ≡ Closer key kept = ap (λ (m : M). m.0) e2 ∙ ap (λ l. Closer key (l ++ taken_in qs)) second in
+    let closed = subst (λ (v : View). Final (Seen (Kept key) id v) ws xs) last final in
+    let en = ends_it key id key kept ws xs (omega (arith, all, length-append (taken_in ps) (taken_in qs), long_taken ps, long_taken qs)) closed in
+    let log : List Entry = en.0 in
+    let same : chronicle_of key log ≡ desk = some-injective (chronicle_of key log) desk (ap (λ (l : List Chronicled). get_elem? l 0) (sym en.1) ∙ got) in
+    record {
+      kept = kept;
+      kept_is = refl;
+      desk_is = subst (λ (d : Chronicled). d ≡ chronicle_of key d.log) same refl;
+      once = en.2;
+      fits = λ i k e. subst (λ (x : Chronicled). Fitting key x.log k) same (en.3 i k e);
+    }
+
+module _ (key : Terms) (ps qs : List OfPass) (desk : Chronicled) (o : Ended key ps qs desk) where
+  pub all_met : (log : List Entry) → log ≡ desk.log → All (Met log) ps × All (Met log) qs
+  all_met log is = subst (λ (l : List Entry). All (Met l) ps × All (Met l) qs) (sym is)
+      (all_taken (λ (k : Known). IsPrefix k.seen desk.log × (of_seat k.seat desk.log ≡ k.mine)) o.kept ps qs o.kept_is (λ i k e. let f = o.fits i k e in (f.0, f.1)))
+
+  pub started : desk.start ≡ opening_of key
+  started = ap (λ (d : Chronicled). d.start) o.desk_is
+
+  -- what the desk's chronicle shows is what its history gives
+  pub given_by : IsLegal desk.start desk.log → IsGivenBy (opening_of key) desk
+  given_by legal = record {
+    start_is = started;
+    replies = subst (λ (s : State). IsLegal s desk.log) started legal;
+    allotments = λ a. ap (λ (s : State). allotment_of (state_after s (calls_of desk.log)) a) started;
+    tops = λ a. ap (λ (s : State). is_top (state_after s (calls_of desk.log)) a) started;
+    recalls = λ a. ap (λ (s : State). recall (state_after s (calls_of desk.log)) a) started;
+    hires = λ a. ap (λ (s : State). hire (state_after s (calls_of desk.log)) a) started;
+  }
+
+  -- it has as many seats as it was opened with
+  pub seats_kept : (market : State) → market ≡ market_of desk → HasNumbersOf desk.start market → length (market_of desk).seats ≡ key.seats
+  seats_kept market is numbers =
+      ap (λ (s : State). length s.seats) (sym is) ∙ (numbers.seats ∙ (ap (λ (s : State). length s.seats) started ∙ length-replicate key.seats None))
+
+-- a legal history places a seat where the seat's own entries say
+abbrev pub OwnPlaces : Type 0
+OwnPlaces = (base hard seats levels seat : ℕ) (history : List Entry)
+    → IsLegal (opening base hard seats levels) history → seat < seats
+    → place_of (state_after (opening base hard seats levels) (calls_of history)) seat ≡ place_in seat history
+
+pub all_active : OwnPlaces → (key : Terms) (ps : List OfPass) (qs : List OfPlaced) (desk : Chronicled) → Ended key ps (whos qs) desk → IsLegal desk.start desk.log
+    → length (market_of desk).seats ≡ key.seats
+    → All (λ (p : OfPass). own_place p.mine ≡ None) ps → All (λ (q : OfPlaced). own_place q.who.mine ≡ Some q.arena) qs
+    → placed (market_of desk) ≡ length qs → (a : ℕ) → active (market_of desk) a ≡ count_by (λ (q : OfPlaced). q.arena == a) qs
+all_active law key ps qs desk o legal long none' some' full a =
+    let begun : IsLegal (opening_of key) desk.log = subst (λ (s : State). IsLegal s desk.log) (started key ps (whos qs) desk o) legal in
+    let there : (i : ℕ) (k : Known) → get_elem? o.kept i ≡ some k → (k.seat < length (market_of desk).seats) × (place_of (market_of desk) k.seat ≡ own_place k.mine) =
+    λ i k e.
+    let f = o.fits i k e in
+    let at : place_of (state_after (opening_of key) (calls_of desk.log)) k.seat ≡ place_in k.seat desk.log = law key.base key.hard key.seats key.levels k.seat desk.log begun f.2 in
+    let moved : place_of (market_of desk) k.seat ≡ place_of (state_after (opening_of key) (calls_of desk.log)) k.seat =
+    ap (λ (s : State). place_of (state_after s (calls_of desk.log)) k.seat) (started key ps (whos qs) desk o) in
+    (omega (arith, long, f.2), moved ∙ (at ∙ ap own_place f.1)) in
+    active_is (market_of desk) o.kept ps qs o.kept_is o.once there none' some' full a

@@ -1,0 +1,8 @@
+mod Fronts
+mod Seats
+mod Steps
+mod Entries
+mod Calls
+mod Opened
+mod Meeting
+mod Ending

@@ -1,0 +1,7 @@
+pub mod Views
+pub mod Rule
+pub mod Seen
+pub mod Held
+pub mod Serving
+pub mod Moves
+pub mod Headline

@@ -1,0 +1,102 @@
+-- The rule of the lock (own). Word 0 is 0 while the desk is at home, and 1 while one seat has it.
+use Rattle.std.specs.Prelude.{◌≡◌, ◌≢◌, ℕ, ◌+◌, ◌<◌, ◌≤◌, List, [], ◌∷◌, length, slice_index}
+use mathlib.Core.Option.{Option, none, some}
+use mathlib.Core.List.{IsPrefix}
+use lib.ListN.{get_elem?}
+use Rattle.atomic_table.specs.Table.{State, Me, Step}
+use Rattle.market_types.specs.declared.reply.Entry.{Entry}
+use Rattle.market_types.specs.History.{of_seat}
+use Rattle.edit_history.specs.Chronicled.{Chronicled}
+use Rattle.market_lock.specs.declared.view.Terms.{Terms}
+use Rattle.market_lock.specs.declared.view.Known.{Known}
+use Rattle.market_lock.specs.declared.view.View.{View}
+use Rattle.market_lock.specs.declared.view.View.TheVariants.{Opener, Idle, Holder, Closer, Spent}
+use Rattle.market_lock.specs.Views.{shown, terms_of, chronicle_of}
+
+-- what a caller saw begins the history, and its entries are all that the history has of its seat
+pub record Knows (terms : Terms) (made : ℕ) (log : List Entry) (k : Known) : Type 0 where
+  pub from : k.terms ≡ terms
+  pub below : k.seat < made
+  pub front : IsPrefix k.seen log
+  pub own : of_seat k.seat log ≡ k.mine
+
+-- the seat number of a live view
+abbrev pub seat_of : View → Option ℕ
+seat_of (Idle k) = some k.seat
+seat_of (Holder k) = some k.seat
+seat_of v = none
+
+-- for how many passes a view stands
+abbrev pub weight : View → ℕ
+weight (Idle k) = 1
+weight (Holder k) = 1
+weight (Closer t kept) = length kept
+weight v = 0
+
+abbrev pub weights : List View → ℕ
+weights [] = 0
+weights (v ∷ vs) = weight v + weights vs
+
+module _ (terms : Terms) (made opener : ℕ) (log : List Entry) (word holder : ℕ) where
+  -- what holds of the view of the seat j
+  abbrev pub Fits : ℕ → View → Type 0
+  Fits j (Opener t n) = (t ≡ terms) × (n ≡ made) × (j ≡ opener)
+  Fits j (Idle k) = Knows terms made log k
+  Fits j (Holder k) = Knows terms made log k × (k.seen ≡ log) × (j ≡ holder) × (word ≢ 0)
+  Fits j (Closer t kept) = t ≡ terms
+  Fits j Spent = Unit {0}
+
+-- live views have different seat numbers
+abbrev pub Apart : List View → Type 0
+Apart views = (i j n : ℕ) (v w : View) → get_elem? views i ≡ some v → get_elem? views j ≡ some w → seat_of v ≡ some n → seat_of w ≡ some n → i ≡ j
+
+-- no live view has this number
+abbrev pub IsGone : List View → ℕ → Type 0
+IsGone views n = (j : ℕ) (v : View) → get_elem? views j ≡ some v → seat_of v ≢ some n
+
+-- what is kept is of different seats
+abbrev pub Once : List Known → Type 0
+Once kept = (i j : ℕ) (k l : Known) → get_elem? kept i ≡ some k → get_elem? kept j ≡ some l → k.seat ≡ l.seat → i ≡ j
+
+pub record Kept (terms : Terms) (s : State Chronicled View) : Type 0 where
+  pub log : List Entry
+  -- how many passes were dealt, by which seat, and which seat has the desk while the word is not 0
+  pub made : ℕ
+  pub opener : ℕ
+  pub holder : ℕ
+  pub one_word : length s.words ≡ 1
+  pub home : slice_index s.words 0 ≡ 0 → s.homes ≡ some (chronicle_of terms log) ∷ []
+  pub away : slice_index s.words 0 ≢ 0 → (k : Known) × (get_elem? s.views holder ≡ some (Holder k))
+  pub each : (j : ℕ) (v : View) → get_elem? s.views j ≡ some v → Fits terms made opener log (slice_index s.words 0) holder j v
+  pub apart : Apart s.views
+  -- who takes passes back keeps what is true of the history, of numbers that no live view has
+  pub keeps : (j : ℕ) (t : Terms) (kept : List Known) → get_elem? s.views j ≡ some (Closer t kept)
+      → (i : ℕ) (k : Known) → get_elem? kept i ≡ some k → Knows terms made log k × IsGone s.views k.seat
+  pub once : (j : ℕ) (t : Terms) (kept : List Known) → get_elem? s.views j ≡ some (Closer t kept) → Once kept
+  pub strangers : (n : ℕ) → made ≤ n → of_seat n log ≡ []
+  pub counted : weights s.views ≡ made
+  pub enough : made ≤ terms.seats
+
+-- a take by who knew k found the desk at home, with a history that goes on from what was seen; or nothing changed
+abbrev pub Wins : Me Chronicled View → Known → ℕ → Me Chronicled View → Type 0
+Wins m k r n =
+    (r ≡ 0 → (log : List Entry) × (n ≡ (Holder (shown k log), (0, chronicle_of k.terms log) ∷ [])) × IsPrefix k.seen log × (of_seat k.seat log ≡ k.mine))
+    × (r ≢ 0 → n ≡ m)
+
+abbrev pub Takes : Step Chronicled → Me Chronicled View → ℕ → Me Chronicled View → Type 0
+Takes st m r n = (k : Known) → m ≡ (Idle k, []) → Wins m k r n
+
+-- who gives the desk back has seen the history that it gives back
+abbrev pub Gives : Step Chronicled → Me Chronicled View → ℕ → Me Chronicled View → Type 0
+Gives st m r n = (k : Known) (log : List Entry) → m ≡ (Holder k, (0, chronicle_of k.terms log) ∷ []) → n ≡ (Idle (shown k log), [])
+
+abbrev pub Enters : Step Chronicled → Me Chronicled View → ℕ → Me Chronicled View → Type 0
+Enters st m r n = n ≡ (Closer (terms_of m.0) [], [])
+
+-- what the holder may give back: a history that goes on from what it found, by its own entries alone
+abbrev pub Follows : Known → List Entry → Type 0
+Follows k log = IsPrefix k.seen log × ((n : ℕ) → n ≢ k.seat → of_seat n log ≡ of_seat n k.seen)
+
+-- what was kept is true of the history
+abbrev pub Fitting : Terms → List Entry → Known → Type 0
+Fitting terms log k = IsPrefix k.seen log × (of_seat k.seat log ≡ k.mine) × (k.seat < terms.seats)

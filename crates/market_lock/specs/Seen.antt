@@ -1,0 +1,88 @@
+-- What contracts see of an office, of its passes and of its placed workers (own).
+use Rattle.std.specs.Prelude.{◌≡◌, ℕ, ◌<◌, List, [], ◌∷◌, ◌++◌, length, Result, Ok, Err}
+use mathlib.Core.List.{IsPrefix}
+use Rattle.atomic_table.specs.Seated.{TableId}
+use Rattle.market_types.specs.declared.command.Cmd.{Cmd}
+use Rattle.market_types.specs.declared.reply.Entry.{Entry}
+use Rattle.market_types.specs.declared.reply.OpenFault.{OpenFault}
+use Rattle.market_types.specs.declared.reply.Reply.{Reply}
+use Rattle.market_types.specs.History.{IsLegal, of_seat}
+use Rattle.edit_history.specs.Chronicled.{Chronicled, entry}
+use Rattle.worker_ledger.specs.Counted.{Counted}
+use Rattle.market_desk.specs.Workers.{own_place, workers_at}
+use Rattle.market_lock.specs.declared.view.Terms.{Terms}
+use Rattle.market_lock.specs.declared.view.Known.{Known}
+use Rattle.market_lock.specs.declared.view.View.{View}
+use Rattle.market_lock.specs.declared.view.View.TheVariants.{Idle, Holder}
+use Rattle.market_lock.specs.Views.{known, no_terms, opening_of, chronicle_of}
+
+-- a caller: of which office, which seat; the history that it saw last; and its own entries in it
+pub record OfPass : Type 0 where
+  pub table : TableId
+  pub terms : Terms
+  pub seat : ℕ
+  pub seen : List Entry
+  pub mine : List Entry
+
+-- a caller that is placed, and where
+pub record OfPlaced : Type 0 where
+  pub who : OfPass
+  pub arena : ℕ
+
+-- an office, and what it was opened with
+pub record OfOffice : Type 0 where
+  pub table : TableId
+  pub terms : Terms
+
+-- it is of this office still, and has the same seat
+abbrev pub IsSamePass : OfPass → OfPass → Type 0
+IsSamePass p q = (q.table ≡ p.table) × (q.terms ≡ p.terms) × (q.seat ≡ p.seat)
+
+-- the history begins with all that was seen and ends with the call, which is one entry more of the caller's
+abbrev pub Extends : OfPass → Cmd → Reply → OfPass → Type 0
+Extends p cmd reply q = let e = entry p.seat cmd reply in
+    (between : List Entry) × (q.seen ≡ (p.seen ++ between) ++ e ∷ []) × (of_seat p.seat q.seen ≡ p.mine ++ e ∷ []) × (q.mine ≡ p.mine ++ e ∷ [])
+
+-- more of the history was seen, and no call of the caller's was made
+abbrev pub Looks : OfPass → OfPass → Type 0
+Looks p q = IsPrefix p.seen q.seen × (q.mine ≡ p.mine) × (of_seat p.seat q.seen ≡ q.mine)
+
+-- ---- at the opening
+
+-- a pass of the seat k that has seen nothing and called nothing
+abbrev pub fresh : OfOffice → ℕ → OfPass
+fresh o k = record { table = o.table; terms = o.terms; seat = k; seen = []; mine = [] }
+
+-- the chronicle that a new office keeps, or why there is none
+abbrev pub kept_by : {A : Type 0} → Result (OfOffice × A) OpenFault → Result Chronicled OpenFault
+kept_by (Ok o) = Ok (chronicle_of o.0.terms [])
+kept_by (Err fault) = Err fault
+
+-- ---- at the close
+
+-- it had seen a beginning of the history, and its entries are all that the history has of its seat
+abbrev pub Met : List Entry → OfPass → Type 0
+Met history p = IsPrefix p.seen history × (of_seat p.seat history ≡ p.mine)
+
+-- ---- inside
+
+abbrev pub known_of : View → Known
+known_of (Idle k) = k
+known_of (Holder k) = k
+known_of v = known no_terms 0 [] []
+
+abbrev pub pass_of : TableId → Known → OfPass
+pass_of t k = record { table = t; terms = k.terms; seat = k.seat; seen = k.seen; mine = k.mine }
+
+abbrev pub office_of : TableId → Terms → OfOffice
+office_of t terms = record { table = t; terms = terms }
+
+-- what a caller's ticket keeps: its entries are all that its legal history has of its seat, its share has counted them, and counts a worker where they leave the
+-- seat placed
+pub record IsTicket (k : Known) (number : ℕ) (share : Counted) : Type 0 where
+  pub number_is : k.seat ≡ number
+  pub small : k.seat < k.terms.seats
+  pub legal : IsLegal (opening_of k.terms) k.seen
+  pub own : of_seat k.seat k.seen ≡ k.mine
+  pub calls : share.calls ≡ length k.mine
+  pub workers : share.workers ≡ workers_at (own_place k.mine)

@@ -1,0 +1,24 @@
+//! The office: threads share one market, and each knows one legal history of it.
+//!
+//! [`Office::open`] gives an office and a [`Pass`] for each seat, which may go to threads of their own. A pass is the right to call
+//! from its seat; by `join` it becomes a [`Placed`] worker, and a pass again by `stay`, where the worker is recalled, or by
+//! `leave`. What is known of each is the history that its caller saw last, and the caller's own entries in it: a call that is
+//! answered adds its entry at the end, and whatever other callers did between stands before it. Neither can be dropped:
+//! [`Office::close`] takes all of them back, and leaves the one history that each of them saw a beginning of.
+//!
+//! Behind it lies one lock. The market with its history and the book of its counts lie on a desk (`market_desk`), in the one
+//! slot of a table (`atomic_table`) whose one word tells whether the desk is at home. A call takes the desk, has it served, and
+//! gives it back; a take that loses waits and tries again. `rule` says what holds between any two steps, `ticket` is one
+//! call, `opening` and `closing` are the two ends.
+#![tactic(auto)]
+
+mod closing;
+mod office;
+mod opening;
+mod pass;
+mod rule;
+mod ticket;
+mod view;
+
+pub use office::{Closed, Office};
+pub use pass::{Joined, Pass, Placed, Stayed};

@@ -1,0 +1,235 @@
+//! The office: what each call does to what its caller knows.
+ghost use Rattle.std.specs.Prelude.{◌≡◌, ℕ, ◌+◌, ◌<◌, ◌==◌, length, false, vec_len, slice_get, Some, IfOk, IfErr, All, sum_by, count_by};
+ghost use Rattle.market_types.specs.declared.command.Cmd.TheVariants.{Leave};
+ghost use Rattle.market_types.specs.declared.reply.Reply.TheVariants.{Left};
+ghost use Rattle.market_types.specs.Allotment.{active};
+ghost use Rattle.market_types.specs.Commands.{moves_seat};
+ghost use Rattle.market_types.specs.Opening.{MemoryAside};
+ghost use Rattle.edit_history.specs.Chronicled.{market_of, opened_chronicle};
+ghost use Rattle.edit_history.specs.Places.{placed as seats_placed};
+ghost use Rattle.market_lock.specs.Views.{opening_of};
+ghost use Rattle.market_lock.specs.Seen.{OfPass, OfPlaced, fresh, kept_by, Met};
+ghost use Rattle.market_lock.specs.Moves.{Called, Fails, HasJoined, HasStayed};
+ghost use Rattle.market_lock.specs.Headline.{IsGivenBy};
+
+use crate::closing::{take_back_passes, take_back_placed};
+use crate::opening::{Furnished, deal, furnish};
+use crate::pass::{Joined, Pass, Placed, Stayed};
+use crate::rule::{Enter, Shelf};
+use crate::view::Terms;
+use edit_history::{CallFault, Chronicle, own_entries_place_a_seat};
+use market_types::{Cmd, OpenFault, Reply, SeatNo};
+use std::alloc::Global;
+use std::marker::Model;
+use std::sync::Wait;
+use std::sync::ledger::{Blank, Ledger};
+use worker_ledger::{Pool, Totals};
+
+/// A market that callers on any threads share by `&`. `C` and `W` name the ledgers of its calls and of its placed workers.
+pub struct Office<C: Ledger, W: Ledger> {
+    table: Shelf<C, W>,
+    alloc: Global,
+}
+
+impl<C: Ledger, W: Ledger> Model for Office<C, W> {
+    ghost use Rattle.std.specs.Prelude.{◌≡◌};
+    ghost use Rattle.market_lock.specs.Seen.{OfOffice, office_of};
+
+    ghost Value = { OfOffice };
+
+    ghost view = { λ o. office_of o.table.shared.table_id o.table.shared.key };
+
+    ghost invariant = { λ o. (o.table.shared.table_id.words ≡ 1) × (o.table.shared.table_id.slots ≡ 1) × (C.parts ≡ o.table.shared.key.seats) × (W.parts ≡ o.table.shared.key.seats) };
+}
+
+/// What an office leaves: its market with the whole history, the calls that all callers counted, and their placed workers.
+#[derive(Drop)]
+pub struct Closed {
+    pub chronicle: Chronicle,
+    pub calls: u64,
+    pub workers: u64,
+}
+
+impl<C: Ledger, W: Ledger> Office<C, W> {
+    /// An office with an empty history, and a pass for each seat, in order, which has seen and called nothing. The numbers and
+    /// their faults are those of `Chronicle::new`: `BadBase`, `BadHard`, `BadSeats`, `BadPlaces`, `BadLevels`, then `Memory`.
+    /// The two new ledgers have a part for each seat, and `C` and `W` stand for them. It doesn't wait.
+    pub fn open(
+        alloc: Global,
+        base: u32,
+        hard: u32,
+        seats: u8,
+        places: u32,
+        levels: u32,
+        calls: Blank,
+        workers: Blank,
+    ) -> Result<(Self, Vec<Pass<C, W>>), OpenFault>
+        requires calls { (calls.name ≡ C.name) × (calls.parts ≡ C.parts) × (C.parts ≡ seats) }
+        requires workers { (workers.name ≡ W.name) × (workers.parts ≡ W.parts) × (W.parts ≡ seats) }
+        ensures exact { MemoryAside (opened_chronicle base hard seats places levels) (kept_by result) }
+        ensures one_for_each { IfOk result (λ o. length o.1.items ≡ seats) }
+        ensures passes { IfOk result (λ o. (k : ℕ) → k < seats → slice_get o.1.items k ≡ Some (fresh o.0 k)) }
+        ensures own { IfOk result (λ o. All (λ (p : OfPass). p.table ≡ o.0.table) o.1.items) }
+    {
+        let chronicle = Chronicle::new(alloc, base, hard, seats, places, levels)?;
+        let terms = Terms {
+            base,
+            hard,
+            seats,
+            places,
+            levels,
+        };
+        let Ok(mut passes) = Vec::<Pass<C, W>>::with_capacity(alloc, seats as usize) else {
+            return Err(OpenFault::Memory);
+        };
+        let Ok(furnished) = furnish::<C, W>(alloc, &terms, chronicle, calls, workers) else {
+            passes.destroy_empty();
+            return Err(OpenFault::Memory);
+        };
+        let Furnished {
+            table,
+            mut seat,
+            mut shares,
+        } = furnished;
+        for number in 0..seats {
+            let Some(share) = shares.pop() else {
+                unreachable!()
+            };
+            passes.push_reserved(deal(&table, &mut seat, share, SeatNo::new(number)));
+        }
+        shares.destroy_empty();
+        Ok((Office { table, alloc }, passes))
+    }
+
+    /// A call that moves no seat, by a caller whose seat is not placed. It waits for the lock, and for nothing else.
+    /// `HistoryFull`, where the history has too few free places, and then `Memory` are the faults of `Chronicle::call`: nothing
+    /// is then changed.
+    pub fn call<R: Wait>(
+        &self,
+        rt: &R,
+        alloc: Global,
+        pass: &mut Pass<C, W>,
+        cmd: Cmd,
+    ) -> Result<Reply, CallFault>
+        requires office { pass.old.table ≡ self.now.table }
+        requires still { moves_seat cmd ≡ false }
+        ensures answered { IfOk result (λ reply. Called pass.old cmd reply pass.new) }
+        ensures failed { IfErr result (λ fault. Fails pass.old cmd fault pass.new) }
+    {
+        pass.ticket.call(rt, alloc, &self.table, cmd)
+    }
+
+    /// The same by a placed worker, which stays where it is.
+    pub fn call_placed<R: Wait>(
+        &self,
+        rt: &R,
+        alloc: Global,
+        placed: &mut Placed<C, W>,
+        cmd: Cmd,
+    ) -> Result<Reply, CallFault>
+        requires office { placed.old.who.table ≡ self.now.table }
+        requires still { moves_seat cmd ≡ false }
+        ensures answered { IfOk result (λ reply. Called placed.old.who cmd reply placed.new.who) }
+        ensures failed { IfErr result (λ fault. Fails placed.old.who cmd fault placed.new.who) }
+        ensures arena { placed.new.arena ≡ placed.old.arena }
+    {
+        placed.ticket.call(rt, alloc, &self.table, cmd)
+    }
+
+    /// Asks for an arena in need of a worker. Whatever others do, the seat is not placed before: so it is never told that it is.
+    /// The faults are those of `call`; the pass then comes back.
+    pub fn join<R: Wait>(
+        &self,
+        rt: &R,
+        alloc: Global,
+        pass: Pass<C, W>,
+    ) -> Joined<Pass<C, W>, Placed<C, W>>
+        requires office { pass.table ≡ self.now.table }
+        ensures exact { HasJoined pass result }
+    {
+        let Pass { mut ticket } = pass;
+        match ticket.call(rt, alloc, &self.table, Cmd::Join) {
+            Ok(reply) => match &reply {
+                Reply::Placed(arena) => Joined::Placed(Placed {
+                    ticket,
+                    arena: *arena,
+                }),
+                Reply::Idle => Joined::Idle(Pass { ticket }),
+                _ => unreachable!(),
+            },
+            Err(fault) => Joined::Failed(Pass { ticket }, fault),
+        }
+    }
+
+    /// Asks whether the worker's arena still wants it. Whatever others do, the seat is placed there before. The faults are those
+    /// of `call`; the worker then stays placed.
+    pub fn stay<R: Wait>(
+        &self,
+        rt: &R,
+        alloc: Global,
+        placed: Placed<C, W>,
+    ) -> Stayed<Pass<C, W>, Placed<C, W>>
+        requires office { placed.who.table ≡ self.now.table }
+        ensures exact { HasStayed placed result }
+    {
+        let Placed { mut ticket, arena } = placed;
+        match ticket.call(rt, alloc, &self.table, Cmd::Stay) {
+            Ok(reply) => match &reply {
+                Reply::Stays(_) => Stayed::Stays(Placed { ticket, arena }),
+                Reply::Recalled(_) => Stayed::Recalled(Pass { ticket }),
+                _ => unreachable!(),
+            },
+            Err(fault) => Stayed::Failed(Placed { ticket, arena }, fault),
+        }
+    }
+
+    /// The worker leaves its arena. It takes no memory and is never refused.
+    pub fn leave<R: Wait>(&self, rt: &R, placed: Placed<C, W>) -> Pass<C, W>
+        requires office { placed.who.table ≡ self.now.table }
+        ensures exact { Called placed.who Leave (Left placed.arena) result }
+    {
+        let Placed {
+            mut ticket,
+            arena: _,
+        } = placed;
+        match ticket.call(rt, self.alloc, &self.table, Cmd::Leave) {
+            Ok(_) => Pass { ticket },
+            Err(_) => unreachable!(),
+        }
+    }
+
+    /// Takes all passes and placed workers back, and leaves one history: each of them had seen a beginning of it, and its entries
+    /// are all that the history has of its seat. It doesn't wait, and takes no memory.
+    pub fn close(self, passes: Vec<Pass<C, W>>, placed: Vec<Placed<C, W>>) -> Closed
+        requires own { All (λ (p : OfPass). p.table ≡ self.table) passes.items }
+        requires own_placed { All (λ (p : OfPlaced). p.who.table ≡ self.table) placed.items }
+        requires all { vec_len passes + vec_len placed ≡ self.terms.seats }
+        ensures headline { IsGivenBy (opening_of self.terms) result.chronicle }
+        ensures passes { All (Met result.chronicle.log) passes.items }
+        ensures placed { All (λ (p : OfPlaced). Met result.chronicle.log p.who) placed.items }
+        ensures calls { result.calls ≡ length result.chronicle.log }
+        ensures calls_made { result.calls ≡ sum_by (λ (p : OfPass). length p.mine) passes.items + sum_by (λ (p : OfPlaced). length p.who.mine) placed.items }
+        ensures workers { result.workers ≡ seats_placed (market_of result.chronicle) }
+        ensures workers_placed { result.workers ≡ vec_len placed }
+        ensures active { (a : ℕ) → active (market_of result.chronicle) a ≡ count_by (λ (p : OfPlaced). p.arena == a) placed.items }
+    {
+        let Office { table, alloc: _ } = self;
+        let mut seat = table.shared.load_new_seat::<Enter>(0).1;
+        let mut pool = Pool::new();
+        take_back_passes(&table, &mut seat, passes, &mut pool);
+        take_back_placed(&table, &mut seat, placed, &mut pool);
+        let mut closed = table.close_with(seat);
+        let desk = closed.take(0);
+        closed.free();
+        let (chronicle, book) = desk.into_parts();
+        // These two tell that the market still has its seats, and that a seat's own entries say where it is.
+        let _ = chronicle.market();
+        own_entries_place_a_seat();
+        let Totals { calls, workers } = book.gather_pool(pool);
+        Closed {
+            chronicle,
+            calls,
+            workers,
+        }
+    }
+}

@@ -1,0 +1,96 @@
+//! A caller's pass, and a worker that is placed.
+ghost use Rattle.std.specs.Prelude.{◌≡◌, Some, None};
+ghost use Rattle.market_types.specs.History.{IsLegal, place_in};
+ghost use Rattle.market_lock.specs.Views.{opening_of};
+
+use crate::ticket::Ticket;
+use edit_history::CallFault;
+use market_types::{ArenaId, SeatNo};
+use std::marker::Model;
+use std::sync::ledger::Ledger;
+
+/// The right to call an office from one seat, while that seat is not placed. It can't be dropped: an office closes with all of its
+/// passes. Contracts see what its caller knows: the history that it saw last, and its own entries in it.
+pub struct Pass<C: Ledger, W: Ledger> {
+    pub(crate) ticket: Ticket<C, W>,
+}
+
+impl<C: Ledger, W: Ledger> Model for Pass<C, W> {
+    ghost use Rattle.std.specs.Prelude.{◌≡◌, None};
+    ghost use Rattle.market_desk.specs.Workers.{own_place};
+    ghost use Rattle.market_lock.specs.Seen.{OfPass};
+
+    ghost Value = { OfPass };
+
+    ghost view = { λ p. p.ticket };
+
+    ghost invariant = { λ p. own_place p.ticket.mine ≡ None };
+}
+
+/// The same while the seat is placed, as a worker of an arena. It can't be dropped either.
+pub struct Placed<C: Ledger, W: Ledger> {
+    pub(crate) ticket: Ticket<C, W>,
+    pub(crate) arena: ArenaId,
+}
+
+impl<C: Ledger, W: Ledger> Model for Placed<C, W> {
+    ghost use Rattle.std.specs.Prelude.{◌≡◌, Some};
+    ghost use Rattle.market_desk.specs.Workers.{own_place};
+    ghost use Rattle.market_lock.specs.Seen.{OfPlaced};
+
+    ghost Value = { OfPlaced };
+
+    ghost view = { λ p. record { who = p.ticket; arena = p.arena } };
+
+    ghost invariant = { λ p. own_place p.ticket.mine ≡ Some p.arena };
+}
+
+impl<C: Ledger, W: Ledger> Pass<C, W> {
+    /// Its seat, which the history that it saw does not place.
+    pub fn seat(&self) -> SeatNo
+        ensures exact { result ≡ self.now.seat }
+        ensures unplaced { place_in self.now.seat self.now.seen ≡ None }
+        ensures legal { IsLegal (opening_of self.now.terms) self.now.seen }
+    {
+        self.ticket.number()
+    }
+}
+
+impl<C: Ledger, W: Ledger> Placed<C, W> {
+    /// Its seat.
+    pub fn seat(&self) -> SeatNo
+        ensures exact { result ≡ self.now.who.seat }
+        ensures legal { IsLegal (opening_of self.now.who.terms) self.now.who.seen }
+    {
+        self.ticket.number()
+    }
+
+    /// Its arena, at which the history that it saw places it.
+    pub fn arena(&self) -> ArenaId
+        ensures exact { result ≡ self.now.arena }
+        ensures placed { place_in self.now.who.seat self.now.who.seen ≡ Some self.now.arena }
+    {
+        let _ = self.ticket.number();
+        self.arena
+    }
+}
+
+/// What a Join gives: `P` is the pass, `Q` the placed worker.
+pub enum Joined<P, Q> {
+    /// The seat is placed.
+    Placed(Q),
+    /// No arena is in need of a worker.
+    Idle(P),
+    /// The call was not answered, and nothing was changed.
+    Failed(P, CallFault),
+}
+
+/// What a Stay gives: `P` is the pass, `Q` the placed worker.
+pub enum Stayed<P, Q> {
+    /// The arena still wants the worker.
+    Stays(Q),
+    /// The arena had a worker too many: the seat is no longer placed.
+    Recalled(P),
+    /// The call was not answered, and nothing was changed.
+    Failed(Q, CallFault),
+}

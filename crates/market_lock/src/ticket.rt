@@ -1,0 +1,148 @@
+//! What a pass and a placed worker have in common, and one call of it.
+ghost use Rattle.std.specs.Prelude.{◌≡◌, ◌+◌, ◌<◌, length, false, IfOk, IfErr, IsOk, OnErr};
+ghost use Rattle.market_types.specs.Commands.{moves_seat};
+ghost use Rattle.market_types.specs.History.{IsLegal, of_seat, place_after, place_in};
+ghost use Rattle.market_core.specs.Moves.{Answers};
+ghost use Rattle.edit_history.specs.Places.{takes};
+ghost use Rattle.market_desk.specs.Workers.{own_place};
+ghost use Rattle.market_lock.specs.Views.{opening_of};
+ghost use Rattle.market_lock.specs.Rule.{Follows};
+ghost use Rattle.market_lock.specs.Seen.{Extends, IsSamePass};
+ghost use Rattle.market_lock.specs.Moves.{Fails};
+ghost use Rattle.market_lock.specs.Held.{IsIdle, HasTaken, HasDesk, HoldsDesk, HasGiven};
+ghost use Rattle.market_lock.specs.Serving.{Serves, MayServe};
+
+use crate::rule::{Give, Place, Shelf, Take};
+use edit_history::CallFault;
+use market_types::{Cmd, Reply, SeatNo};
+use std::alloc::Global;
+use std::hint::spin_loop;
+use std::marker::Model;
+use std::sync::Wait;
+use std::sync::ledger::Ledger;
+use std::thread;
+use worker_ledger::Share;
+
+/// How often a caller that waits looks at the word before it gives its processor away.
+const LOOKS: u32 = 64;
+
+/// A seat of the table with its number, and the share that counts its calls. It can't be dropped.
+pub(crate) struct Ticket<C: Ledger, W: Ledger> {
+    pub seat: Place<C, W>,
+    pub number: SeatNo,
+    pub share: Share<C, W>,
+}
+
+impl<C: Ledger, W: Ledger> Model for Ticket<C, W> {
+    ghost use Rattle.std.specs.Prelude.{◌≡◌, []};
+    ghost use Rattle.market_lock.specs.declared.view.View.TheVariants.{Idle};
+    ghost use Rattle.market_lock.specs.Seen.{OfPass, known_of, pass_of, IsTicket};
+
+    ghost Value = { OfPass };
+
+    ghost view = { λ t. pass_of t.seat.table_id (known_of t.seat.me.0) };
+
+    ghost invariant = { λ t. (t.seat.me ≡ (Idle (known_of t.seat.me.0), [])) × IsTicket (known_of t.seat.me.0) t.number t.share };
+}
+
+/// Waits for a while, or until the desk seems to be at home. Whoever has it needs well under a microsecond, if it runs: so a few
+/// looks come first, which leave its processor alone, and then the processor is given away, since it may be the one that
+/// whoever has the desk is waiting for.
+fn wait_a_while<C: Ledger, W: Ledger>(table: &Shelf<C, W>)
+    requires { table.now.shared.table_id.words ≡ 1 }
+{
+    for _ in 0..LOOKS {
+        if table.shared.peek(0) == 0 {
+            return;
+        }
+        spin_loop();
+    }
+    thread::yield_now();
+}
+
+/// Takes the desk, as soon as it is at home.
+fn take<C: Ledger, W: Ledger, R: Wait>(rt: &R, table: &Shelf<C, W>, seat: &mut Place<C, W>)
+    requires table { (seat.old.table_id ≡ table.now.shared.table_id) × (table.now.shared.table_id.words ≡ 1) }
+    requires seat { IsIdle seat.old.me }
+    ensures table { seat.new.table_id ≡ seat.old.table_id }
+    ensures seat { HasTaken seat.old.me seat.new.me }
+{
+    for _ in rt.forever() {
+        if table.shared.compare_exchange::<Take>(seat, 0, 0, 1) == 0 {
+            return;
+        }
+        wait_a_while(table);
+    }
+    unreachable!()
+}
+
+/// One call of the desk that the seat has.
+fn serve<C: Ledger, W: Ledger>(
+    alloc: Global,
+    table: &Shelf<C, W>,
+    seat: &mut Place<C, W>,
+    share: &mut Share<C, W>,
+    number: SeatNo,
+    cmd: Cmd,
+) -> Result<Reply, CallFault>
+    requires table { seat.old.table_id ≡ table.now.shared.table_id }
+    requires desk { HasDesk seat.old.me (λ d. MayServe number d share.old) }
+    ensures table { seat.new.table_id ≡ seat.old.table_id }
+    ensures view { seat.new.me.0 ≡ seat.old.me.0 }
+    ensures desk { HasDesk seat.old.me (λ d. HasDesk seat.new.me (λ e. Serves number cmd result d e share.old share.new)) }
+{
+    let desk = seat.slot_mut(&table.shared, 0);
+    desk.serve(alloc, share, number, cmd)
+}
+
+/// Gives the desk back.
+fn give<C: Ledger, W: Ledger>(table: &Shelf<C, W>, seat: &mut Place<C, W>)
+    requires table { (seat.old.table_id ≡ table.now.shared.table_id) × (table.now.shared.table_id.words ≡ 1) × (table.now.shared.table_id.slots ≡ 1) }
+    requires desk { HoldsDesk seat.old.me Follows }
+    ensures table { seat.new.table_id ≡ seat.old.table_id }
+    ensures seat { HasGiven seat.old.me seat.new.me }
+{
+    table.shared.store::<Give>(seat, 0, 0);
+}
+
+impl<C: Ledger, W: Ledger> Ticket<C, W> {
+    /// One call: the desk is taken, serves it, and is given back.
+    pub fn call<R: Wait>(
+        &mut self,
+        rt: &R,
+        alloc: Global,
+        table: &Shelf<C, W>,
+        cmd: Cmd,
+    ) -> Result<Reply, CallFault>
+        requires { (self.old.table ≡ table.now.shared.table_id) × (table.now.shared.table_id.words ≡ 1) × (table.now.shared.table_id.slots ≡ 1) }
+        ensures same { IsSamePass self.old self.new }
+        ensures legal { IsLegal (opening_of self.new.terms) self.new.seen }
+        ensures ok { IfOk result (λ reply. Extends self.old cmd reply self.new) }
+        ensures err { IfErr result (λ fault. Fails self.old cmd fault self.new) }
+        ensures answers { IfOk result (λ reply. Answers (own_place self.old.mine) cmd reply) }
+        ensures moved { IfOk result (λ reply. own_place self.new.mine ≡ place_after (own_place self.old.mine) reply) }
+        ensures still { moves_seat cmd ≡ false → own_place self.new.mine ≡ own_place self.old.mine }
+        ensures never { takes (own_place self.old.mine) cmd ≡ 0 → IsOk result }
+    {
+        take(rt, table, &mut self.seat);
+        let answer = serve(
+            alloc,
+            table,
+            &mut self.seat,
+            &mut self.share,
+            self.number,
+            cmd,
+        );
+        give(table, &mut self.seat);
+        answer
+    }
+
+    /// Its seat.
+    pub fn number(&self) -> SeatNo
+        ensures exact { result ≡ self.now.seat }
+        ensures own { of_seat self.now.seat self.now.seen ≡ self.now.mine }
+        ensures legal { IsLegal (opening_of self.now.terms) self.now.seen }
+    {
+        self.number
+    }
+}
