@@ -28,8 +28,8 @@ pub fn carry_share(assigned: u64, demand: u64, carry: u64, request: u64) -> (u64
 }
 
 /// The workers of an arena that asks for `request`, where the arenas of its level before it ask for `before` together:
-/// what `carry_share` gives it, but without a walk over these arenas. It divides only where the level is assigned fewer workers
-/// than it asks for.
+/// what `carry_share` gives it, but without a walk over these arenas. It divides only where the level is assigned fewer
+/// workers than it asks for.
 pub fn share(assigned: u64, demand: u64, before: u64, request: u64) -> u64
     requires some_demand { 0 < demand }
     requires small_demand { demand < 2 ^ 32 }

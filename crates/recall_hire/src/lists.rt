@@ -206,8 +206,8 @@ fn put(lists: &mut Lists, row: Staffing) -> Result<(), AllocError>
     })
 }
 
-/// Takes room for some arenas at once where none is listed, since a growth for each of the first few takes longer than all else
-/// that is done for them.
+/// Takes room for some arenas at once where none is listed, since a growth for each of the first few takes longer than all
+/// else that is done for them.
 #[inline(always)]
 fn make_room(lists: &mut Lists) -> Result<(), AllocError>
     ensures same { lists.new ≡ lists.old }

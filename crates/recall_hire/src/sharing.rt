@@ -18,8 +18,8 @@ pub enum Sharing {
     },
 }
 
-/// How many whole workers are `due`, a number of parts of which `demand` make a worker, and what is left, the carry. It divides
-/// only where these are not the workers that there are, `active`, or one more.
+/// How many whole workers are `due`, a number of parts of which `demand` make a worker, and what is left, the carry. It
+/// divides only where these are not the workers that there are, `active`, or one more.
 #[inline(always)]
 pub(crate) fn whole(due: u64, demand: u64, active: u32) -> (u32, u64)
     requires some { 0 < demand }

@@ -118,8 +118,8 @@ impl Walk<'_> {
         false
     }
 
-    /// Whether an arena is allotted more workers than it has. Where it is not, the carry goes on past it. It divides only where
-    /// the arena has workers too many.
+    /// Whether an arena is allotted more workers than it has. Where it is not, the carry goes on past it. It divides only
+    /// where the arena has workers too many.
     #[inline(always)]
     fn lacks(&self, row: &Row, carry: &mut u64) -> bool
         requires shared { CanShare self.now.workers self.now.demand carry.old }
