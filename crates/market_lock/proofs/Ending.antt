@@ -75,7 +75,6 @@ module _ (key : Terms) (ps qs : List OfPass) (desk : Chronicled) (o : Ended key 
   -- what the desk's chronicle shows is what its history gives
   pub given_by : IsLegal desk.start desk.log → IsGivenBy (opening_of key) desk
   given_by legal = record {
-    start_is = started;
     replies = subst (λ (s : State). IsLegal s desk.log) started legal;
     allotments = λ a. ap (λ (s : State). allotment_of (state_after s (calls_of desk.log)) a) started;
     tops = λ a. ap (λ (s : State). is_top (state_after s (calls_of desk.log)) a) started;

@@ -8,7 +8,6 @@ use Rattle.edit_history.specs.Chronicled.{Chronicled, market_of}
 
 -- every reply, and every arena's allotment, top-priority flag, recall count and hire count, is what the definitions give from the opening and the history's calls
 pub record IsGivenBy (start : State) (c : Chronicled) : Type 0 where
-  pub start_is : c.start ≡ start
   pub replies : map (λ (e : Entry). e.reply) c.log ≡ replies_to start (calls_of c.log)
   pub allotments : (a : ℕ) → allotment_of (market_of c) a ≡ allotment_of (state_after start (calls_of c.log)) a
   pub tops : (a : Arena) → is_top (market_of c) a ≡ is_top (state_after start (calls_of c.log)) a

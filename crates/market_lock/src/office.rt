@@ -7,7 +7,7 @@ ghost use Rattle.market_types.specs.Commands.{moves_seat};
 ghost use Rattle.market_types.specs.Opening.{MemoryAside};
 ghost use Rattle.edit_history.specs.Chronicled.{market_of, opened_chronicle};
 ghost use Rattle.edit_history.specs.Places.{placed as seats_placed};
-ghost use Rattle.market_lock.specs.Views.{opening_of};
+ghost use Rattle.market_lock.specs.Views.{opening_of, chronicle_of};
 ghost use Rattle.market_lock.specs.Seen.{OfPass, OfPlaced, fresh, kept_by, Met};
 ghost use Rattle.market_lock.specs.Moves.{Called, Fails, HasJoined, HasStayed};
 ghost use Rattle.market_lock.specs.Headline.{IsGivenBy};
@@ -205,6 +205,7 @@ impl<C: Ledger, W: Ledger> Office<C, W> {
         requires own_placed { All (λ (p : OfPlaced). p.who.table ≡ self.table) placed.items }
         requires all { vec_len passes + vec_len placed ≡ self.terms.seats }
         ensures headline { IsGivenBy (opening_of self.terms) result.chronicle }
+        ensures whole { result.chronicle ≡ chronicle_of self.terms result.chronicle.log }
         ensures passes { All (Met result.chronicle.log) passes.items }
         ensures placed { All (λ (p : OfPlaced). Met result.chronicle.log p.who) placed.items }
         ensures calls { result.calls ≡ length result.chronicle.log }

@@ -9,7 +9,7 @@ use Rattle.market_lock.specs.Seen.{OfOffice, Met}
 use Rattle.market_lock.specs.Held.{whos}
 use Rattle.market_lock.proofs.Meeting.{all_who}
 use Rattle.market_lock.specs.Headline.{IsGivenBy}
-use Rattle.market_lock.specs.Views.{opening_of}
+use Rattle.market_lock.specs.Views.{opening_of, chronicle_of}
 use Rattle.market_lock.proofs.Steps.{enters_it}
 use Rattle.market_lock.proofs.Ending.{ended_by, all_met, given_by, seats_kept, all_active, long_whos}
 use Rattle.market_lock.proofs.office.Office.close.Goals as goal
@@ -27,6 +27,17 @@ returns-clause-headline g c =
     let same : c.into_parts-chronicle.result.0 ≡ c.take-desk.result = c.into_parts-chronicle.ensures.chronicle in
     let terms : key ≡ c.args.self.terms = ap (λ (x : OfOffice). x.terms) c.self.view_is in
     subst (λ (z : Terms × Chronicled). IsGivenBy (opening_of z.0) z.1) (λ i. (terms i, sym same i)) (given_by key c.args.passes.items (whos c.args.placed.items) c.take-desk.result o c.into_parts-chronicle.ensures.legal)
+
+pub returns-clause-whole : goal.returns-clause-whole
+returns-clause-whole g c =
+    let key : Terms = c.self.inside.table.shared.key in
+    let seat = c.take_back_placed.new.seat in
+    let seats : key.seats ≡ c.args.self.terms.seats = ap (λ (x : OfOffice). x.terms.seats) c.self.view_is in
+    let o = ended_by key seat.id c.load_new_seat.result.1.me c.take_back_passes.new.seat.me seat.me c.args.passes.items (whos c.args.placed.items) c.close_with-closed.result.words.items c.close_with-closed.result.slots.items c.take-desk.result
+    (search rules) c.take_back_passes.ensures.seat c.take_back_placed.ensures.seat (omega (arith, long_whos c.args.placed.items, seats, c.requires.all)) c.close_with-closed.ensures.values.2 c.take-desk.ensures.value in
+    let same : c.into_parts-chronicle.result.0 ≡ c.take-desk.result = c.into_parts-chronicle.ensures.chronicle in
+    let terms : key ≡ c.args.self.terms = ap (λ (x : OfOffice). x.terms) c.self.view_is in
+    subst (λ (z : Terms × Chronicled). z.1 ≡ chronicle_of z.0 z.1.log) (λ i. (terms i, sym same i)) o.desk_is
 
 pub returns-clause-passes : goal.returns-clause-passes
 returns-clause-passes g c =
