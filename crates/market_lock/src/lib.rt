@@ -22,3 +22,6 @@ mod view;
 
 pub use office::{Closed, Office};
 pub use pass::{Joined, Pass, Placed, Stayed};
+
+#[cfg(test)]
+mod tests;

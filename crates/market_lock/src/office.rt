@@ -8,7 +8,7 @@ ghost use Rattle.market_types.specs.Opening.{MemoryAside};
 ghost use Rattle.edit_history.specs.Chronicled.{market_of, opened_chronicle};
 ghost use Rattle.edit_history.specs.Places.{placed as seats_placed};
 ghost use Rattle.market_lock.specs.Views.{opening_of, chronicle_of};
-ghost use Rattle.market_lock.specs.Seen.{OfPass, OfPlaced, fresh, kept_by, Met};
+ghost use Rattle.market_lock.specs.Seen.{OfPass, OfPlaced, IsSamePass, fresh, kept_by, Met};
 ghost use Rattle.market_lock.specs.Moves.{Called, Fails, HasJoined, HasStayed};
 ghost use Rattle.market_lock.specs.Headline.{IsGivenBy};
 
@@ -113,6 +113,7 @@ impl<C: Ledger, W: Ledger> Office<C, W> {
     ) -> Result<Reply, CallFault>
         requires office { pass.old.table ≡ self.now.table }
         requires still { moves_seat cmd ≡ false }
+        ensures same { IsSamePass pass.old pass.new }
         ensures answered { IfOk result (λ reply. Called pass.old cmd reply pass.new) }
         ensures failed { IfErr result (λ fault. Fails pass.old cmd fault pass.new) }
     {
@@ -129,6 +130,7 @@ impl<C: Ledger, W: Ledger> Office<C, W> {
     ) -> Result<Reply, CallFault>
         requires office { placed.old.who.table ≡ self.now.table }
         requires still { moves_seat cmd ≡ false }
+        ensures same { IsSamePass placed.old.who placed.new.who }
         ensures answered { IfOk result (λ reply. Called placed.old.who cmd reply placed.new.who) }
         ensures failed { IfErr result (λ fault. Fails placed.old.who cmd fault placed.new.who) }
         ensures arena { placed.new.arena ≡ placed.old.arena }

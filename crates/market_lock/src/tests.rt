@@ -1,0 +1,139 @@
+//! Three callers of one office, one after another: two come to work, and one of them stays.
+ghost use Rattle.std.specs.Prelude.{◌≡◌, ◌<◌, ◌+◌, vec_len, vec_capacity, All};
+ghost use Rattle.market_lock.specs.Seen.{OfPass, OfPlaced};
+
+use super::*;
+use market_types::{ArenaId, Cmd, Level, OpenFault};
+use std::alloc::Global;
+use std::marker::Brand;
+use std::process::Abort;
+use std::rt::HostRuntime;
+use std::sync::Wait;
+use std::sync::ledger::{Blank, Ledger};
+
+/// The worker stays where it may, and leaves then.
+fn stay_and_leave<C: Ledger, W: Ledger, R: Wait>(
+    rt: &R,
+    alloc: Global,
+    office: &Office<C, W>,
+    placed: Placed<C, W>,
+) -> Pass<C, W>
+    requires { placed.who.table ≡ office.now.table }
+    ensures { result.table ≡ office.now.table }
+{
+    match office.stay(rt, alloc, placed) {
+        Stayed::Stays(placed) => office.leave(rt, placed),
+        Stayed::Recalled(pass) => pass,
+        Stayed::Failed(placed, _) => office.leave(rt, placed),
+    }
+}
+
+/// A pass comes back.
+fn put<C: Ledger, W: Ledger>(office: &Office<C, W>, passes: &mut Vec<Pass<C, W>>, pass: Pass<C, W>)
+    requires room { vec_len passes.old < vec_capacity passes.old }
+    requires own { pass.table ≡ office.now.table }
+    requires all { All (λ (p : OfPass). p.table ≡ office.now.table) passes.old.items }
+    ensures all { All (λ (p : OfPass). p.table ≡ office.now.table) passes.new.items }
+    ensures more { vec_len passes.new ≡ vec_len passes.old + 1 }
+    ensures capacity { vec_capacity passes.new ≡ vec_capacity passes.old }
+{
+    passes.push_reserved(pass);
+}
+
+/// The one worker is the only one.
+fn put_placed<C: Ledger, W: Ledger>(
+    office: &Office<C, W>,
+    placed: &mut Vec<Placed<C, W>>,
+    worker: Placed<C, W>,
+)
+    requires room { (vec_len placed.old ≡ 0) × (0 < vec_capacity placed.old) }
+    requires own { worker.who.table ≡ office.now.table }
+    ensures all { All (λ (p : OfPlaced). p.who.table ≡ office.now.table) placed.new.items }
+    ensures one { vec_len placed.new ≡ 1 }
+{
+    placed.push_reserved(worker);
+}
+
+/// Seat 0 opens an arena that asks for two workers; seat 1 joins, stays and leaves; seat 2 joins.
+fn worked<C: Ledger, W: Ledger, R: Wait>(
+    rt: &R,
+    alloc: Global,
+    office: Office<C, W>,
+    passes: Vec<Pass<C, W>>,
+    placed: Vec<Placed<C, W>>,
+) -> Closed
+    requires own { All (λ (p : OfPass). p.table ≡ office.table) passes.items }
+    requires three { (vec_len passes ≡ 3) × (office.terms.seats ≡ 3) }
+    requires room { (vec_len placed ≡ 0) × (0 < vec_capacity placed) }
+{
+    let mut passes = passes;
+    let mut placed = placed;
+    let Some(third) = passes.pop() else {
+        unreachable!()
+    };
+    let Some(second) = passes.pop() else {
+        unreachable!()
+    };
+    let Some(first) = passes.pop() else {
+        unreachable!()
+    };
+    let mut first = first;
+    drop(office.call(rt, alloc, &mut first, Cmd::Open(8, 1, Level::from_index(1))));
+    drop(office.call(rt, alloc, &mut first, Cmd::Request(ArenaId::new(1), 2, 0)));
+    let second = match office.join(rt, alloc, second) {
+        Joined::Placed(worker) => stay_and_leave(rt, alloc, &office, worker),
+        Joined::Idle(pass) => pass,
+        Joined::Failed(pass, _) => pass,
+    };
+    put(&office, &mut passes, first);
+    put(&office, &mut passes, second);
+    match office.join(rt, alloc, third) {
+        Joined::Placed(worker) => {
+            put_placed(&office, &mut placed, worker);
+            office.close(passes, placed)
+        }
+        Joined::Idle(pass) => {
+            put(&office, &mut passes, pass);
+            office.close(passes, placed)
+        }
+        Joined::Failed(pass, _) => {
+            put(&office, &mut passes, pass);
+            office.close(passes, placed)
+        }
+    }
+}
+
+fn opened<C: Ledger, W: Ledger, R: Wait>(
+    rt: &R,
+    alloc: Global,
+    calls: Blank,
+    workers: Blank,
+) -> Result<Closed, OpenFault>
+    requires calls { (calls.name ≡ C.name) × (calls.parts ≡ C.parts) × (calls.parts ≡ 3) }
+    requires workers { (workers.name ≡ W.name) × (workers.parts ≡ W.parts) × (workers.parts ≡ 3) }
+{
+    let Ok(placed) = Vec::<Placed<C, W>>::with_capacity(alloc, 1) else {
+        return Err(OpenFault::Memory);
+    };
+    match Office::<C, W>::open(alloc, 8, 64, 3, 100, 3, calls, workers) {
+        Ok((office, passes)) => Ok(worked(rt, alloc, office, passes, placed)),
+        Err(fault) => {
+            placed.destroy_empty();
+            Err(fault)
+        }
+    }
+}
+
+#[test]
+fn three_callers_meet(rt: HostRuntime) {
+    let alloc = rt.alloc();
+    let answer = opened::<Brand, Brand, _>(&rt, alloc, Blank::new(3), Blank::new(3));
+    let Ok(closed) = answer else {
+        panic!(&rt; "no office");
+    };
+    assert!(&rt; closed.calls == 6);
+    assert!(&rt; closed.workers == 1);
+    assert!(&rt; closed.chronicle.len() == 6);
+    let view = closed.chronicle.market().view(ArenaId::new(1));
+    assert!(&rt; matches!(view, Some(arena) if arena.active == 1 && arena.hire == 1));
+}
