@@ -9,7 +9,7 @@ ghost use Rattle.journal_replay.specs.Written.{IsReadBack};
 ghost use Rattle.journal_replay.specs.Verdicts.{most_entries, verdict};
 
 use crate::law::{legal_journals_tell_legal_histories, written_lines_are_short};
-use crate::line::{entry_line, header_line};
+use crate::line::{Texts, entry_line, header_line};
 use crate::verdict::Verdict;
 use byte_devices::{OutFault, Sink, put_all};
 use edit_history::Chronicle;
@@ -46,8 +46,9 @@ fn write_entries<W: Sink>(
 {
     let levels = chronicle.market().levels();
     let mut line = Vec::new(alloc);
+    let mut texts = Texts::new(alloc);
     for index in 0..chronicle.len() {
-        line = entry_line(alloc, line, levels, chronicle.entry(index))?;
+        line = entry_line(line, &mut texts, levels, chronicle.entry(index))?;
         push_line(waiting, &line)?;
         if waiting.len() >= PIECE {
             put_all(sink, waiting)?;

@@ -8,9 +8,10 @@ ghost use Rattle.journal_replay.specs.Written.{IsReadBack};
 
 use json::Writer;
 use market_core::Market;
-use market_types::{Entry, cmd_text, reply_text};
+use market_types::{Entry, push_cmd, push_reply};
 use serde_json::{Value, json};
 use std::alloc::{AllocError, Global};
+use std::str;
 
 /// The line of an opening.
 pub(crate) fn header_line(alloc: Global, market: &Market) -> Result<Vec<u8>, AllocError>
@@ -51,19 +52,50 @@ fn header_value(
     json!(in alloc; {"base": base, "hard": hard, "journal": 2u64, "levels": levels, "seats": seats})
 }
 
+/// Room for the two texts of an entry, which is used again for each.
+#[derive(Drop)]
+pub(crate) struct Texts {
+    cmd: Vec<u8>,
+    reply: Vec<u8>,
+}
+
+impl Texts {
+    /// Room that grows with the first entry.
+    pub(crate) fn new(alloc: Global) -> Self {
+        Texts {
+            cmd: Vec::new(alloc),
+            reply: Vec::new(alloc),
+        }
+    }
+}
+
 /// The line of an entry, in a market of so many levels. It takes the memory of another line.
 pub(crate) fn entry_line(
-    alloc: Global,
     other: Vec<u8>,
+    texts: &mut Texts,
     levels: u32,
     entry: &Entry,
 ) -> Result<Vec<u8>, AllocError>
     ensures text { IfOk result (λ line. line.items ≡ entry_line levels entry.now) }
     ensures reads_back { IfOk result (λ line. IsReadBack levels entry.now) }
 {
-    let cmd = cmd_text(alloc, &entry.call.cmd, levels)?;
-    let reply = reply_text(alloc, &entry.reply)?;
-    fields_line(other, &cmd, &reply, u64::from(entry.call.seat.get()))
+    texts.cmd.clear();
+    push_cmd(&mut texts.cmd, &entry.call.cmd, levels)?;
+    texts.reply.clear();
+    push_reply(&mut texts.reply, &entry.reply)?;
+    let (cmd, reply) = (as_text(&texts.cmd), as_text(&texts.reply));
+    fields_line(other, cmd, reply, u64::from(entry.call.seat.get()))
+}
+
+/// Bytes of a text, as one.
+fn as_text(bytes: &[u8]) -> &str
+    requires { IsUtf8 bytes.now }
+    ensures { result.now ≡ bytes.now }
+{
+    let Ok(text) = str::from_utf8(bytes) else {
+        unreachable!()
+    };
+    text
 }
 
 /// The line of these fields, in the memory of another line. It is written with the writer that `Value` itself writes with: to

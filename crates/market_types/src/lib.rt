@@ -25,4 +25,4 @@ pub use reading::{read_cmd, read_line};
 pub use reply::{ArenaView, Entry, Fault, LimitView, OpenFault, Reply};
 pub use row::Row;
 pub use spelling::{lines_spell_calls, texts_spell_commands};
-pub use writing::{cmd_text, level_text, open_fault_text, push_reply, reply_text};
+pub use writing::{cmd_text, level_text, open_fault_text, push_cmd, push_reply, reply_text};

@@ -38,8 +38,22 @@ fn as_string(bytes: Vec<u8>) -> String
     text
 }
 
-/// Writes a command's text behind what `out` holds.
-fn push_cmd(out: &mut Vec<u8>, cmd: &Cmd, levels: u32) -> Result<(), AllocError>
+/// Writes a command's canonical text, in a market of so many levels, behind what `out` holds. `Err` says that memory ran out,
+/// and leaves `out` as it was.
+pub fn push_cmd(out: &mut Vec<u8>, cmd: &Cmd, levels: u32) -> Result<(), AllocError>
+    ensures ok { OnOk result (out.new.items ≡ out.old.items ++ cmd_text levels cmd.now) }
+    ensures err { OnErr result (out.new.items ≡ out.old.items) }
+    ensures utf8 { IsUtf8 out.old.items → IsUtf8 out.new.items }
+{
+    let before = out.len();
+    let pushed = push_cmd_text(out, cmd, levels);
+    if pushed.is_err() {
+        out.truncate(before);
+    }
+    pushed
+}
+
+fn push_cmd_text(out: &mut Vec<u8>, cmd: &Cmd, levels: u32) -> Result<(), AllocError>
     ensures ok { OnOk result (out.new.items ≡ out.old.items ++ cmd_text levels cmd.now) }
     ensures grows { Extends out.old.items out.new.items }
 {
