@@ -6,6 +6,10 @@ use Rattle.recall_hire.specs.declared.slots.Slot.{Slot}
 abbrev pub seats_in : ℕ → List Slot → ℕ
 seats_in i slots = (slice_index_or slots i (record { seats = 0; hint = 0 })).seats
 
+-- where the crowd of one of the slot's arenas was put last
+abbrev pub hint_in : ℕ → List Slot → ℕ
+hint_in i slots = (slice_index_or slots i (record { seats = 0; hint = 0 })).hint
+
 -- the seat is placed at an arena of the slot
 abbrev pub in_slot : ℕ → Option ℕ → Bool
 in_slot i None = false

@@ -1,7 +1,7 @@
 //! How many seats are placed at the arenas of each slot. An arena's slot is the remainder of its number.
 ghost use Rattle.std.specs.Prelude.{◌≡◌, ℕ, ◌+◌, ◌%◌, ◌<◌, ◌==◌, IfOk};
 ghost use Rattle.recall_hire.specs.Crowds.{one_if};
-ghost use Rattle.recall_hire.specs.Slots.{seats_in};
+ghost use Rattle.recall_hire.specs.Slots.{hint_in, seats_in};
 
 use market_types::ArenaId;
 use std::alloc::{AllocError, Global};
@@ -49,6 +49,7 @@ impl SlotTable {
     /// The slot of an arena.
     pub fn slot_of(&self, arena: ArenaId) -> Slot
         ensures seats { result.seats ≡ seats_in (arena % 1024) self.now }
+        ensures hint { result.hint ≡ hint_in (arena % 1024) self.now }
     {
         self.slots[place_of(arena)]
     }
@@ -72,6 +73,7 @@ impl SlotTable {
     /// Notes where an arena's crowd stands.
     pub fn point(&mut self, arena: ArenaId, hint: u8)
         ensures seats { (i : ℕ) → seats_in i self.new ≡ seats_in i self.old }
+        ensures noted { hint_in (arena % 1024) self.new ≡ hint }
     {
         self.slots[place_of(arena)].hint = hint;
     }
