@@ -7,3 +7,4 @@ mod Stored
 mod Indices
 mod Search
 mod Once
+pub mod Crossing

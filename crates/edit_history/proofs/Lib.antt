@@ -1,3 +1,4 @@
 mod Longer
 mod Placed
 mod Keeping
+pub mod Crossing

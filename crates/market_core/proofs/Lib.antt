@@ -12,3 +12,4 @@ mod InNeed
 mod Listing
 mod Seats
 mod Examples
+pub mod Crossing

@@ -1,1 +1,2 @@
 mod Serving
+pub mod Crossing

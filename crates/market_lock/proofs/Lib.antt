@@ -5,4 +5,5 @@ mod Entries
 mod Calls
 mod Opened
 mod Meeting
+pub mod Crossing
 mod Ending

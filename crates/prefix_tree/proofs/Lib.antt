@@ -1,5 +1,6 @@
 pub mod AtNode
 pub mod Changes
+pub mod Crossing
 pub mod Heights
 pub mod Joins
 pub mod Moves

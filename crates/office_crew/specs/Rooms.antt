@@ -1,0 +1,6 @@
+-- The name of no office. No public clause has this word.
+use Rattle.std.specs.Prelude.{[]}
+use Rattle.atomic_table.specs.Seated.{TableId}
+
+abbrev pub no_table : TableId
+no_table = record { words = 0; slots = 0; views_name = 0; atom = 0; block = 0; offset = 0; slot_names = [] }

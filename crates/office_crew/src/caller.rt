@@ -1,0 +1,31 @@
+//! A caller of an office, and what it does in its thread.
+ghost use Rattle.std.specs.Prelude.{◌≡◌};
+ghost use Rattle.market_lock.specs.Seen.{IsSamePass};
+ghost use Rattle.office_crew.specs.Callers.{who_is};
+
+use market_lock::{Office, Pass, Placed};
+use std::alloc::Global;
+use std::sync::Wait;
+use std::sync::ledger::Ledger;
+
+/// A pass `P`, or the worker `Q` that it became.
+pub enum Caller<P, Q> {
+    /// Its seat is not placed.
+    Free(P),
+    /// Its seat is placed.
+    Working(Q),
+}
+
+/// What a thread does with its caller.
+pub trait Task {
+    /// Works until it is done. The caller that comes back is the one that was given, a pass or placed.
+    fn work<C: Ledger, W: Ledger, R: Wait>(
+        &mut self,
+        rt: &R,
+        alloc: Global,
+        office: &Office<C, W>,
+        caller: Caller<Pass<C, W>, Placed<C, W>>,
+    ) -> Caller<Pass<C, W>, Placed<C, W>>
+        requires office { (who_is caller).table ≡ office.now.table }
+        ensures same { IsSamePass (who_is caller) (who_is result) };
+}

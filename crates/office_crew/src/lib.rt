@@ -1,0 +1,13 @@
+//! A crew: the callers of an office, each in a thread of its own, and met again.
+//!
+//! [`meet`] opens an office with a seat for each [`Task`], lets each task work in a thread of its own with its seat's pass (where
+//! no thread can be made, in the calling thread), waits for all, and closes the office: what is left is one legal history of
+//! all that they called, and the tasks with what they noted.
+#![tactic(auto)]
+
+mod caller;
+mod meeting;
+mod member;
+
+pub use caller::{Caller, Task};
+pub use meeting::{Meeting, Terms, meet};
