@@ -1,9 +1,16 @@
--- A caller of an office: a pass, or a worker that is placed (own).
+-- A caller of an office, a pass or a worker that is placed; and what a meeting's office is opened with (own).
+use Rattle.std.specs.Prelude.{ℕ}
 use Rattle.market_lock.specs.Seen.{OfPass, OfPlaced}
+use Rattle.market_lock.specs.declared.view.Terms as lock
 use Rattle.office_crew.specs.declared.caller.Caller.{Caller}
 use Rattle.office_crew.specs.declared.caller.Caller.TheVariants.{Free, Working}
+use Rattle.office_crew.specs.declared.meeting.Terms as crew
 
 -- what is known of it
 abbrev pub who_is : Caller OfPass OfPlaced → OfPass
 who_is (Free p) = p
 who_is (Working q) = q.who
+
+-- the terms with so many seats, as an office keeps them
+abbrev pub terms_of : crew.Terms → ℕ → lock.Terms
+terms_of t seats = record { base = t.base; hard = t.hard; seats = seats; places = t.places; levels = t.levels }

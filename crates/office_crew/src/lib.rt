@@ -5,9 +5,17 @@
 //! all that they called, and the tasks with what they noted.
 #![tactic(auto)]
 
+mod asking;
 mod caller;
 mod meeting;
 mod member;
+mod script;
 
+pub use asking::{Asked, ask};
 pub use caller::{Caller, Task};
 pub use meeting::{Meeting, Terms, meet};
+pub use member::Order;
+pub use script::Script;
+
+#[cfg(test)]
+mod tests;

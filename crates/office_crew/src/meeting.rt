@@ -1,13 +1,15 @@
 //! An office is opened, its callers work, and it is closed.
-ghost use Rattle.std.specs.Prelude.{◌≡◌, ◌+◌, ◌≤◌, vec_len, vec_capacity, length, IfOk, IfErr, All};
+ghost use Rattle.std.specs.Prelude.{◌≡◌, ◌⊎◌, Err, ◌+◌, ◌≤◌, vec_len, vec_capacity, length, IfOk, IfErr, All};
 ghost use Rattle.market_types.specs.State.{opening};
 ghost use Rattle.market_lock.specs.Headline.{IsGivenBy};
 ghost use Rattle.market_lock.specs.Seen.{OfPass, OfPlaced};
-ghost use Rattle.market_lock.specs.Views.{opening_of};
-ghost use Rattle.office_crew.specs.Callers.{who_is};
+ghost use Rattle.market_lock.specs.Views.{opening_of, chronicle_of};
+ghost use Rattle.edit_history.specs.Chronicled.{market_of, opened_chronicle};
+ghost use Rattle.edit_history.specs.Places.{placed as seats_placed};
+ghost use Rattle.office_crew.specs.Callers.{who_is, terms_of};
 
 use crate::caller::{Caller, Task};
-use crate::member::{Member, Room, work_all};
+use crate::member::{Member, Order, Room, work_all};
 use market_lock::{Closed, Office, Pass, Placed};
 use market_types::OpenFault;
 use std::alloc::{AllocError, Global};
@@ -69,7 +71,7 @@ fn seated<C: Ledger, W: Ledger, B: Room, T: Task>(
     }
 }
 
-/// Each member's caller and task. Those that are placed stand apart.
+/// Each member's caller and task, the last first. Those that are placed stand apart.
 fn gathered<C: Ledger, W: Ledger, B: Room, T: Task>(
     members: Vec<Member<C, W, B, T>>,
     passes: &mut Vec<Pass<C, W>>,
@@ -81,6 +83,7 @@ fn gathered<C: Ledger, W: Ledger, B: Room, T: Task>(
     ensures own { All (λ (p : OfPass). p.table ≡ B.table) passes.new.items }
     ensures own_placed { All (λ (p : OfPlaced). p.who.table ≡ B.table) placed.new.items }
     ensures all { vec_len passes.new + vec_len placed.new ≡ vec_len members }
+    ensures tasks { vec_len tasks.new ≡ vec_len tasks.old + vec_len members }
 {
     let mut left = members;
     while let Some(member) = left.pop() {
@@ -106,13 +109,17 @@ fn met<
     alloc: Global,
     office: Office<C, W>,
     passes: Vec<Pass<C, W>>,
+    order: Order,
     tasks: Vec<T>,
 ) -> Result<Meeting<T>, OpenFault>
     requires office { office.table ≡ B.table }
     requires own { All (λ (p : OfPass). p.table ≡ office.table) passes.items }
     requires all { (vec_len passes ≡ office.terms.seats) × (vec_len tasks ≡ office.terms.seats) }
     ensures headline { IfOk result (λ meeting. IsGivenBy (opening_of office.terms) meeting.closed.chronicle) }
+    ensures whole { IfOk result (λ meeting. meeting.closed.chronicle ≡ chronicle_of office.terms meeting.closed.chronicle.log) }
     ensures calls { IfOk result (λ meeting. meeting.closed.calls ≡ length meeting.closed.chronicle.log) }
+    ensures workers { IfOk result (λ meeting. meeting.closed.workers ≡ seats_placed (market_of meeting.closed.chronicle)) }
+    ensures tasks { IfOk result (λ meeting. vec_len meeting.tasks ≡ vec_len tasks) }
     ensures memory { IfErr result (λ fault. fault ≡ OpenFault.Memory) }
 {
     let Ok(mut members) = Vec::<Member<C, W, B, T>>::with_capacity(alloc, passes.len()) else {
@@ -124,8 +131,10 @@ fn met<
     };
     let (mut passes, mut tasks) = (passes, tasks);
     seated(&mut passes, &mut tasks, &mut members);
-    let members = work_all(rt, alloc, &office, members);
+    members.reverse();
+    let members = work_all(rt, alloc, &office, order, members);
     gathered(members, &mut passes, &mut placed, &mut tasks);
+    tasks.reverse();
     Ok(Meeting {
         closed: office.close(passes, placed),
         tasks,
@@ -142,6 +151,7 @@ fn opened<
     rt: &R,
     alloc: Global,
     terms: Terms,
+    order: Order,
     tasks: Vec<T>,
     calls: Blank,
     workers: Blank,
@@ -150,7 +160,11 @@ fn opened<
     requires workers { (workers.name ≡ W.name) × (workers.parts ≡ W.parts) × (W.parts ≡ vec_len tasks) }
     requires tasks { vec_len tasks ≤ 64 }
     ensures headline { IfOk result (λ meeting. IsGivenBy (opening terms.base terms.hard (vec_len tasks) terms.levels) meeting.closed.chronicle) }
+    ensures whole { IfOk result (λ meeting. meeting.closed.chronicle ≡ chronicle_of (terms_of terms (vec_len tasks)) meeting.closed.chronicle.log) }
     ensures calls { IfOk result (λ meeting. meeting.closed.calls ≡ length meeting.closed.chronicle.log) }
+    ensures workers { IfOk result (λ meeting. meeting.closed.workers ≡ seats_placed (market_of meeting.closed.chronicle)) }
+    ensures tasks { IfOk result (λ meeting. vec_len meeting.tasks ≡ vec_len tasks) }
+    ensures refused { IfErr result (λ fault. (fault ≡ OpenFault.Memory) ⊎ (opened_chronicle terms.base terms.hard (vec_len tasks) terms.places terms.levels ≡ Err fault)) }
 {
     let Terms {
         base,
@@ -162,26 +176,32 @@ fn opened<
     let (office, passes) = Office::<C, W>::open(
         alloc, base, hard, seats, places, levels, calls, workers,
     )?;
-    met::<C, W, Brand, T, R>(rt, alloc, office, passes, tasks)
+    met::<C, W, Brand, T, R>(rt, alloc, office, passes, order, tasks)
 }
 
-/// Opens an office with a seat for each task, lets each task work in a thread of its own with its seat's pass, waits for all of
+/// Opens an office with a seat for each task, lets each task work in a thread of its own with its seat's pass, at once or in turn, waits for all of
 /// them, and closes the office. The faults are those of `Office::open`, and `Memory`; nobody has worked then.
 pub fn meet<T: Task + Send + Drop, R: Threads + Wait + Sync>(
     rt: &R,
     alloc: Global,
     terms: Terms,
+    order: Order,
     tasks: Vec<T>,
 ) -> Result<Meeting<T>, OpenFault>
     requires tasks { vec_len tasks ≤ 64 }
     ensures headline { IfOk result (λ meeting. IsGivenBy (opening terms.base terms.hard (vec_len tasks) terms.levels) meeting.closed.chronicle) }
+    ensures whole { IfOk result (λ meeting. meeting.closed.chronicle ≡ chronicle_of (terms_of terms (vec_len tasks)) meeting.closed.chronicle.log) }
     ensures calls { IfOk result (λ meeting. meeting.closed.calls ≡ length meeting.closed.chronicle.log) }
+    ensures workers { IfOk result (λ meeting. meeting.closed.workers ≡ seats_placed (market_of meeting.closed.chronicle)) }
+    ensures tasks { IfOk result (λ meeting. vec_len meeting.tasks ≡ vec_len tasks) }
+    ensures refused { IfErr result (λ fault. (fault ≡ OpenFault.Memory) ⊎ (opened_chronicle terms.base terms.hard (vec_len tasks) terms.places terms.levels ≡ Err fault)) }
 {
     let seats = tasks.len() as u64;
     opened::<Brand, Brand, T, R>(
         rt,
         alloc,
         terms,
+        order,
         tasks,
         Blank::new(seats),
         Blank::new(seats),

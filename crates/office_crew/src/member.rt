@@ -24,6 +24,15 @@ impl Room for Brand {
     ghost table = { no_table };
 }
 
+/// Who works when.
+#[derive(Clone, Copy, Debug, PartialEq, Eq)]
+pub enum Order {
+    /// All at the same time.
+    AtOnce,
+    /// Each when the one of the seat before has ended its work.
+    InTurn,
+}
+
 /// A caller of the room's office and its task. The caller is away only while its task has it.
 pub(crate) struct Member<C: Ledger, W: Ledger, B: Room, T> {
     caller: Option<Caller<Pass<C, W>, Placed<C, W>>>,
@@ -90,7 +99,7 @@ fn work_one<C: Ledger, W: Ledger, B: Room, T: Task, R: Wait>(
     member.work(rt, alloc, office)
 }
 
-/// Each works in a thread of its own, or in this one where none can be made.
+/// Each works in a thread of its own, or in this one where none can be made, in order. All have met then.
 pub(crate) fn work_all<
     C: Ledger + Send + Sync,
     W: Ledger + Send + Sync,
@@ -101,6 +110,7 @@ pub(crate) fn work_all<
     rt: &R,
     alloc: Global,
     office: &Office<C, W>,
+    order: Order,
     members: Vec<Member<C, W, B, T>>,
 ) -> Vec<Member<C, W, B, T>>
     requires { office.now.table ≡ B.table }
@@ -121,7 +131,11 @@ pub(crate) fn work_all<
                     { work_one(rt, alloc, office, member) },
                 );
                 match started {
-                    Ok(_handle) => {}
+                    Ok(handle) => {
+                        if order == Order::InTurn {
+                            handle.join(rt);
+                        }
+                    }
                     Err(refused) => (refused.value)(),
                 }
             }

@@ -10,6 +10,7 @@ invariant-loop-member g l =
     × (vec_len l.fn.members ≤ vec_capacity l.passes)
     × (vec_len l.fn.members ≤ vec_capacity l.placed)
     × (vec_len l.tasks + vec_len l.left ≤ vec_capacity l.tasks)
+    × (vec_len l.tasks + vec_len l.left ≡ vec_len l.fn.tasks + vec_len l.fn.members)
 
 abbrev pub decreases-loop-member : goal.decreases-loop-member
 decreases-loop-member g l = vec_len l.left

@@ -1,0 +1,131 @@
+//! Callers that follow scripts.
+ghost use Rattle.std.specs.Prelude.{◌≡◌, length};
+
+use super::*;
+use market_types::{ArenaId, Cmd, Level};
+use std::alloc::{AllocError, Global};
+use std::process::Abort;
+use std::rt::HostRuntime;
+use std::sync::Wait;
+use std::thread::Threads;
+
+const TERMS: Terms = Terms {
+    base: 8,
+    hard: 64,
+    places: 100,
+    levels: 3,
+};
+
+/// A worker comes, is shown, stays and leaves.
+fn visit() -> [Cmd; 6] {
+    let arena = ArenaId::new(1);
+    [
+        Cmd::Open(8, 1, Level::from_index(1)),
+        Cmd::Request(arena, 1, 0),
+        Cmd::Join,
+        Cmd::Show(arena),
+        Cmd::Stay,
+        Cmd::Leave,
+    ]
+}
+
+/// The script's caller is told so, alone in an office of these terms, and the office counts so many calls and workers.
+fn is_told<R: Threads + Wait + Sync + Abort>(
+    rt: &R,
+    alloc: Global,
+    terms: Terms,
+    cmds: &[Cmd],
+    due: &[u8],
+    totals: (u64, u64),
+) -> Result<(), AllocError> {
+    let mut scripts = Vec::with_capacity(alloc, 1)?;
+    scripts.push(Script::new(alloc, cmds)?)?;
+    assert!(rt; scripts.len() == 1);
+    let Ok(meeting) = meet(rt, alloc, terms, Order::AtOnce, scripts) else {
+        panic!(rt; "no office");
+    };
+    assert!(rt; meeting.tasks.iter().all(|script| script.told() == due));
+    assert!(rt; (meeting.closed.calls, meeting.closed.workers) == totals);
+    assert!(rt; meeting.closed.chronicle.len() == totals.0);
+    Ok(())
+}
+
+#[test]
+fn a_worker_visits_an_arena(rt: HostRuntime) -> Result<(), AllocError> {
+    let due =
+        b"arena 1\nrequest 1\nplaced 1\narena 1 request 1 allot 1 top yes active 1 recall 0 hire 0\nstays 1\nleft 1\n";
+    is_told(&rt, rt.alloc(), TERMS, &visit(), due, (6, 0))
+}
+
+#[test]
+fn a_worker_is_still_there_when_the_office_closes(rt: HostRuntime) -> Result<(), AllocError> {
+    let due =
+        b"arena 1\nrequest 1\nplaced 1\narena 1 request 1 allot 1 top yes active 1 recall 0 hire 0\nstays 1\n";
+    is_told(&rt, rt.alloc(), TERMS, &visit()[..5], due, (5, 1))
+}
+
+#[test]
+fn the_last_place_is_for_the_leave(rt: HostRuntime) -> Result<(), AllocError> {
+    let terms = Terms { places: 4, ..TERMS };
+    let due = b"arena 1\nrequest 1\nplaced 1\nC2 history full\nC2 history full\nleft 1\n";
+    is_told(&rt, rt.alloc(), terms, &visit(), due, (4, 0))
+}
+
+#[test]
+fn a_join_takes_two_places(rt: HostRuntime) -> Result<(), AllocError> {
+    let terms = Terms { places: 3, ..TERMS };
+    let due =
+        b"arena 1\nrequest 1\nC2 history full\narena 1 request 1 allot 1 top yes active 0 recall 0 hire 1\nnot asked\nnot asked\n";
+    is_told(&rt, rt.alloc(), terms, &visit(), due, (3, 0))
+}
+
+#[test]
+fn a_recalled_worker_is_a_pass_again(rt: HostRuntime) -> Result<(), AllocError> {
+    let arena = ArenaId::new(1);
+    let cmds = [
+        Cmd::Open(8, 1, Level::from_index(1)),
+        Cmd::Request(arena, 1, 0),
+        Cmd::Join,
+        Cmd::Join,
+        Cmd::Request(arena, -1, 0),
+        Cmd::Stay,
+        Cmd::Leave,
+        Cmd::Join,
+    ];
+    let due = b"arena 1\nrequest 1\nplaced 1\nnot asked\nrequest 0\nrecalled 1\nnot asked\nidle\n";
+    is_told(&rt, rt.alloc(), TERMS, &cmds, due, (6, 0))
+}
+
+/// The first caller gives two commands in its thread; when it has met, the second gives the last.
+fn is_seen_next<R: Threads + Wait + Sync + Abort>(
+    rt: &R,
+    alloc: Global,
+    cmds: &[Cmd],
+) -> Result<(), AllocError>
+    requires { length cmds.now ≡ 3 }
+{
+    let mut scripts = Vec::with_capacity(alloc, 2)?;
+    scripts.push(Script::new(alloc, &cmds[..2])?)?;
+    scripts.push(Script::new(alloc, &cmds[2..])?)?;
+    assert!(rt; scripts.len() == 2);
+    let Ok(Meeting { closed, tasks }) = meet(rt, alloc, TERMS, Order::InTurn, scripts) else {
+        panic!(rt; "no office");
+    };
+    let seen = b"arena 1 request 3 allot 3 top yes active 0 recall 0 hire 3\n";
+    assert!(rt; tasks.len() == 2);
+    assert!(rt; tasks[0].told() == b"arena 1\nrequest 3\n".as_slice());
+    assert!(rt; tasks[1].told() == seen.as_slice());
+    assert!(rt; (closed.calls, closed.workers, closed.chronicle.len()) == (3, 0, 3));
+    Ok(())
+}
+
+#[test]
+fn the_next_thread_sees_what_the_last_one_did(rt: HostRuntime) -> Result<(), AllocError> {
+    let arena = ArenaId::new(1);
+    let cmds = [
+        Cmd::Open(8, 1, Level::from_index(1)),
+        Cmd::Request(arena, 3, 0),
+        Cmd::Show(arena),
+    ];
+    is_seen_next(&rt, rt.alloc(), &cmds)
+}

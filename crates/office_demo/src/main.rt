@@ -1,0 +1,82 @@
+//! The program `office_demo`: threads share one market through an office, and the journal of what happened says who did what.
+#![tactic(auto)]
+
+ghost use Rattle.std.specs.Prelude.{◌≡◌};
+
+mod choice;
+mod fault;
+mod note;
+mod visitor;
+mod work;
+
+use crate::choice::{Choice, USAGE};
+use crate::fault::DemoFault;
+use crate::work::{Outcome, TERMS, work};
+use byte_devices::WriteSink;
+use journal_replay::write_journal;
+use std::process::ExitCode;
+
+/// The exit status where a caller does not find its own calls.
+const DISAGREEMENT: u8 = 1;
+
+/// The exit status of a bad command line.
+const BAD_COMMAND_LINE: u8 = 2;
+
+/// The exit status of any other fault.
+const FAULT: u8 = 3;
+
+/// Writes what happened.
+fn show(rt: &HostRuntime, outcome: &Outcome) -> Result<u8, DemoFault>
+    requires whole { outcome.now.closed.chronicle.from ≡ 0 }
+{
+    let Outcome {
+        closed,
+        callers,
+        agreeing,
+    } = outcome;
+    let mut output = WriteSink::new(rt.stdout());
+    write_journal(rt.alloc(), &closed.chronicle, &mut output)?;
+    let (calls, workers) = (closed.calls, closed.workers);
+    eprintln!(rt; "{calls} calls answered, {workers} workers placed")?;
+    eprintln!(rt; "{agreeing} of {callers} callers find their own calls in the journal, in order")?;
+    Ok(if agreeing == callers { 0 } else { DISAGREEMENT })
+}
+
+/// Tells how the program is used, and ends with this status.
+fn tell_usage(rt: &HostRuntime, status: u8) -> Result<u8, DemoFault> {
+    if status == 0 {
+        println!(rt; "{USAGE}")?;
+    } else {
+        eprintln!(rt; "{USAGE}")?;
+    }
+    Ok(status)
+}
+
+/// The status, where a fault ends the program told first.
+fn end(rt: &HostRuntime, status: Result<u8, DemoFault>) -> ExitCode {
+    let status = match status {
+        Ok(status) => status,
+        Err(fault) => {
+            // Where standard error takes nothing, the status tells it alone.
+            let _ = eprintln!(rt; "{fault}");
+            FAULT
+        }
+    };
+    ExitCode::from(status)
+}
+
+fn main(rt: HostRuntime) -> ExitCode {
+    let status = match Choice::read(&rt) {
+        Ok(Choice::Work { callers, calls }) => match work(&rt, rt.alloc(), TERMS, callers, calls) {
+            Ok(outcome) => show(&rt, &outcome),
+            Err(fault) => Err(fault),
+        },
+        Ok(Choice::Help) => tell_usage(&rt, 0),
+        Ok(Choice::Unknown) => tell_usage(&rt, BAD_COMMAND_LINE),
+        Err(fault) => Err(fault),
+    };
+    end(&rt, status)
+}
+
+#[cfg(test)]
+mod tests;

@@ -1,0 +1,123 @@
+//! A caller that calls at random.
+ghost use Rattle.std.specs.Prelude.{◌<◌};
+
+use crate::note::Notes;
+use market_lock::{Office, Pass, Placed};
+use market_types::{ArenaId, Cmd, ControlId, Level, Reply};
+use office_crew::{Asked, Caller, Task, ask};
+use rand::{RngExt, SeedableRng};
+use rand_xoshiro::SplitMix64;
+use std::alloc::Global;
+use std::sync::Wait;
+use std::sync::ledger::Ledger;
+
+/// It calls so many arenas, the newest that it opened and those before.
+const ARENAS: u32 = 24;
+
+/// It calls so many times, what its seed says, and notes what it is answered.
+#[derive(Drop)]
+pub struct Visitor {
+    random: SplitMix64,
+    turns: u32,
+    newest: ArenaId,
+    pub notes: Notes,
+}
+
+impl Visitor {
+    pub fn new(alloc: Global, seed: u64, turns: u32) -> Self {
+        Visitor {
+            random: SplitMix64::seed_from_u64(seed),
+            turns,
+            newest: ArenaId::new(0),
+            notes: Notes::new(alloc),
+        }
+    }
+
+    /// A number below `bound`.
+    fn below(&mut self, bound: u32) -> u32
+        requires { 0 < bound }
+        ensures { result < bound }
+    {
+        self.random.random_range(0..bound)
+    }
+
+    fn arena(&mut self) -> ArenaId {
+        let before = self.below(ARENAS);
+        ArenaId::new(self.newest.get().saturating_sub(before))
+    }
+
+    /// Notes what a call was answered.
+    fn note(&mut self, cmd: &Cmd, reply: &Reply) {
+        if let Reply::Opened(arena) = reply {
+            self.newest = *arena;
+        }
+        self.notes.take(cmd, reply);
+    }
+
+    fn level(&mut self) -> Level {
+        Level::from_index(self.below(4) as usize)
+    }
+
+    /// A command that moves no seat. Some are refused.
+    fn cmd(&mut self) -> Cmd {
+        match self.below(20) {
+            0 => Cmd::Open(self.below(9), self.below(3), self.level()),
+            1 | 2 => Cmd::Close(self.arena()),
+            3 => Cmd::Priority(self.arena(), self.level()),
+            4 => Cmd::Resize(self.arena(), self.below(9), self.below(3)),
+            5 => Cmd::Control(self.below(16)),
+            6 | 7 => Cmd::Uncontrol(ControlId::new(self.below(512))),
+            8..=15 => {
+                let workers = self.below(9) as i32 - 3;
+                Cmd::Request(self.arena(), workers, self.below(3) as i32 - 1)
+            }
+            16 | 17 => Cmd::Show(self.arena()),
+            18 => Cmd::Lists,
+            _ => Cmd::Limit,
+        }
+    }
+
+    /// What it asks for while its seat is not placed.
+    fn free_cmd(&mut self) -> Cmd {
+        match self.below(3) {
+            0 => Cmd::Join,
+            _ => self.cmd(),
+        }
+    }
+
+    /// What it asks for while its seat is placed.
+    fn working_cmd(&mut self) -> Cmd {
+        match self.below(6) {
+            0 | 1 => Cmd::Stay,
+            2 => Cmd::Leave,
+            _ => self.cmd(),
+        }
+    }
+}
+
+impl Task for Visitor {
+    fn work<C: Ledger, W: Ledger, R: Wait>(
+        &mut self,
+        rt: &R,
+        alloc: Global,
+        office: &Office<C, W>,
+        caller: Caller<Pass<C, W>, Placed<C, W>>,
+    ) -> Caller<Pass<C, W>, Placed<C, W>> {
+        let mut caller = caller;
+        for _ in 0..self.turns {
+            let cmd = match &caller {
+                Caller::Free(_) => self.free_cmd(),
+                Caller::Working(_) => self.working_cmd(),
+            };
+            let Asked {
+                caller: next,
+                answer,
+            } = ask(rt, alloc, office, caller, cmd);
+            if let Some(Ok(reply)) = &answer {
+                self.note(&cmd, reply);
+            }
+            caller = next;
+        }
+        caller
+    }
+}
