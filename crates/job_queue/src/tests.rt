@@ -1,0 +1,2 @@
+//! Jobs through a queue.
+use super::*;
