@@ -76,9 +76,11 @@ module _ {J : Type 0} where
   abbrev pub WasEmpty : OfTaker J → Type 0
   WasEmpty t = (m : Moment J) × (m.held ≡ []) × HasTaken m t
 
-  -- of all that the taker took from the job's feeder, this job was stored last
-  abbrev pub IsNext : OfTaker J → Fed J → Type 0
-  IsNext t x = All (λ (y : Fed J). y.feeder ≡ x.feeder → y.place < x.place) t.taken
+  -- the taker took this job too, which its feeder stored after all those that the taker had of that feeder
+  abbrev pub HasTakenNext : OfTaker J → J → OfTaker J → Type 0
+  HasTakenNext old job new =
+      (x : Fed J) × (x.job ≡ job) × (new ≡ taken_one old x)
+      × All (λ (y : Fed J). y.feeder ≡ x.feeder → y.place < x.place) old.taken
 
   -- the jobs that all feeders stored, and those that all takers took, each with its feeder and its place
   abbrev pub all_stored : List (OfFeeder J) → List (Fed J)
@@ -108,3 +110,7 @@ module _ {J : Type 0} where
   -- each stored job was taken once or is left, and nothing else was taken or is left
   abbrev pub AllTakenBut : List (OfFeeder J) → List (OfTaker J) → List (Fed J) → Type 0
   AllTakenBut fs ts left = IsPermutation (all_stored fs) (all_taken ts ++ left)
+
+  -- a stored job that was not taken, the first of those that the queue holds
+  abbrev pub IsLeft : List (OfFeeder J) → List (OfTaker J) → J → Type 0
+  IsLeft fs ts job = (x : Fed J) × (rest : List (Fed J)) × (x.job ≡ job) × AllTakenBut fs ts (x ∷ rest) × Meet fs ts (x ∷ rest)

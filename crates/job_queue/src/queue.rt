@@ -1,7 +1,7 @@
 //! The queue.
-ghost use Rattle.std.specs.Prelude.{◌≡◌, ◌<◌, ◌≤◌, ◌∷◌, [], List, map, length, IfOk, IfErr, OnOk, OnErr, IfSome, IfNone, MatchResult};
+ghost use Rattle.std.specs.Prelude.{◌≡◌, ◌<◌, ◌≤◌, [], map, length, IfOk, IfErr, OnOk, OnErr, IfSome, IfNone, MatchResult};
 ghost use Rattle.std.specs.List.{range_with_len};
-ghost use Rattle.job_queue.specs.Seen.{fresh_feeder, fresh_taker, stored_one, taken_one, missed_one, WasFull, WasEmpty, IsNext, AreAllOf, HaveOwnNumbers, Meet, AllTaken, AllTakenBut};
+ghost use Rattle.job_queue.specs.Seen.{fresh_feeder, fresh_taker, stored_one, missed_one, WasFull, WasEmpty, HasTakenNext, AreAllOf, HaveOwnNumbers, AllTaken, Meet, IsLeft};
 
 use crate::dealing::{deal_feeders, deal_takers, promise_feeders, promise_takers};
 use crate::pass::{Feeder, Taker};
@@ -44,6 +44,7 @@ impl<J: Drop> JobQueue<J> {
         requires feeders { (0 < feeders) × (feeders ≤ 16) }
         requires takers { (0 < takers) × (takers ≤ 16) }
         ensures queue { IfOk result (λ q. (q.0.capacity ≡ capacity) × (q.0.id.feeders ≡ feeders) × (q.0.id.takers ≡ takers)) }
+        ensures all { IfOk result (λ q. AreAllOf q.0.id q.1.items q.2.items) }
         ensures feeders { IfOk result (λ q. q.1.items ≡ map (fresh_feeder q.0.id) (range_with_len 0 feeders)) }
         ensures takers { IfOk result (λ q. q.2.items ≡ map (fresh_taker q.0.id) (range_with_len feeders takers)) }
     {
@@ -79,8 +80,7 @@ impl<J: Drop> JobQueue<J> {
         ensures numbers { HaveOwnNumbers feeders.items }
         ensures once { OnOk result (AllTaken feeders.items takers.items) }
         ensures order { OnOk result (Meet feeders.items takers.items []) }
-        // the job is the first of those that are left
-        ensures left { IfErr result (λ job. (x : Fed J) × (rest : List (Fed J)) × (x.job ≡ job) × AllTakenBut feeders.items takers.items (x ∷ rest) × Meet feeders.items takers.items (x ∷ rest)) }
+        ensures left { IfErr result (λ job. IsLeft feeders.items takers.items job) }
     {
         let JobQueue {
             ring,
@@ -138,8 +138,7 @@ impl<J> JobQueue<J> {
     /// counts it. It takes no memory.
     pub fn pop<R: Wait>(&self, rt: &R, taker: &mut Taker<J>) -> Option<J>
         requires queue { taker.old.queue ≡ self.now.id }
-        // what a taker has of one feeder stands in the order in which this feeder stored it
-        ensures taken { IfSome result (λ job. (x : Fed J) × (x.job ≡ job) × (taker.new ≡ taken_one taker.old x) × IsNext taker.old x) }
+        ensures taken { IfSome result (λ job. HasTakenNext taker.old job taker.new) }
         ensures missed { IfNone result (taker.new ≡ missed_one taker.old) }
         ensures empty { IfNone result (WasEmpty taker.old) }
     {

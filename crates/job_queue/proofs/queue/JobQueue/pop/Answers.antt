@@ -1,11 +1,11 @@
-use Rattle.std.proofs.Common.{◌≡◌, ◌<◌, refl, sym, ap, ◌∙◌, subst, []}
+use Rattle.std.proofs.Common.{All, ◌≡◌, ◌<◌, refl, sym, ap, ◌∙◌, subst, []}
 use Rattle.std.proofs.lemmas.List.Elements.{All-from_recursion}
 use Rattle.job_queue.specs.declared.view.Fed.{Fed}
 use Rattle.job_queue.specs.Jobs.{Moment}
 use Rattle.job_queue.proofs.Gathered.{nothing}
 use Rattle.crossbeam_queue.specs.Fifo.{Pops, Learns, Forks}
 use Rattle.job_queue.specs.declared.view.View.{View}
-use Rattle.job_queue.specs.Seen.{OfTaker, taker_of, taken_one, IsNext, HasTaken}
+use Rattle.job_queue.specs.Seen.{OfTaker, taker_of, taken_one, HasTaken}
 use Rattle.job_queue.specs.Views.{known_of, missed, spent}
 use Rattle.job_queue.specs.Rule.{Kept, Taken, Saw}
 use Rattle.job_queue.proofs.Steps.{takes_it, learns_it, misses_it}
@@ -35,4 +35,4 @@ returns-in-Some-clause-taken g c =
     let e = c.in-Some.ensures in
     let k = known_of c.taker.inside.hand.me.0.client in
     let before = All-from_recursion (λ (y : Fed g.row.J.Denot). y.feeder ≡ x.feeder → y.place < x.place) k.taken e.rule.1 in
-    (x, refl, (λ i. taker_of (e.queue.0 i) (known_of (e.rule.0 i))) ∙ ap (λ (t : OfTaker g.row.J.Denot). taken_one t x) c.taker.view_is, subst (λ (t : OfTaker g.row.J.Denot). IsNext t x) c.taker.view_is before)
+    (x, refl, (λ i. taker_of (e.queue.0 i) (known_of (e.rule.0 i))) ∙ ap (λ (t : OfTaker g.row.J.Denot). taken_one t x) c.taker.view_is, subst (λ (t : OfTaker g.row.J.Denot). All (λ (y : Fed g.row.J.Denot). y.feeder ≡ x.feeder → y.place < x.place) t.taken) c.taker.view_is before)
