@@ -1,5 +1,5 @@
 -- The passes of a new queue are all of its passes.
-use Rattle.std.proofs.Common.{◌≡◌, ℕ, List, map, length, refl, ap, sym, ◌∙◌, subst, All}
+use Rattle.std.proofs.Common.{◌≡◌, List, map, length, refl, ap, sym, ◌∙◌, subst, All}
 use Rattle.std.specs.List.{range_with_len}
 use Rattle.std.proofs.lemmas.List.Elements.{All-map}
 use Rattle.std.proofs.lemmas.List.FromFn.{length-map-range_with_len}

@@ -85,8 +85,7 @@ fn taker<J>(hand: Hand<J>, feeders: u64, takers: u64, number: u64) -> Taker<J>
 {
     let _ = feeders;
     let _ = takers;
-    let _ = number;
-    Taker { hand }
+    Taker { hand, number }
 }
 
 pub(crate) fn deal_feeders<J>(

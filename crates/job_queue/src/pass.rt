@@ -39,6 +39,7 @@ impl<J> Feeder<J> {
 /// The right to pop, of one queue. It must be spent: a queue is settled with all of its passes.
 pub struct Taker<J> {
     pub(crate) hand: Hand<J>,
+    pub(crate) number: u64,
 }
 
 impl<J> Model for Taker<J> {
@@ -50,5 +51,5 @@ impl<J> Model for Taker<J> {
 
     ghost view = { λ p. taker_of p.hand.table_id (known_of (p.hand.me.0.client)) };
 
-    ghost invariant = { λ p. let k = known_of (p.hand.me.0.client) in (p.hand.me.0.client ≡ one k) × (p.hand.me.1 ≡ []) × (k.stored ≡ []) × (k.feeders ≤ k.number) };
+    ghost invariant = { λ p. let k = known_of (p.hand.me.0.client) in (p.hand.me.0.client ≡ one k) × (p.hand.me.1 ≡ []) × (k.stored ≡ []) × (k.feeders ≤ k.number) × (k.number ≡ p.number) };
 }

@@ -27,7 +27,10 @@ fn absorb_takers<J>(ring: &Ring<J>, hand: &mut Hand<J>, takers: Vec<Taker<J>>)
 {
     let mut left = takers;
     while let Some(taker) = left.pop() {
-        let Taker { hand: theirs } = taker;
+        let Taker {
+            hand: theirs,
+            number: _,
+        } = taker;
         absorb(ring, hand, theirs);
     }
     left.destroy_empty();
