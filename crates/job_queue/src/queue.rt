@@ -89,14 +89,7 @@ impl<J: Drop> JobQueue<J> {
         } = self;
         let mut all = absorb_all(&ring, feeders, takers);
         match ring.pop_as::<Close, R>(rt, &mut all) {
-            Some(fed) => {
-                let Fed {
-                    feeder: _,
-                    place: _,
-                    job,
-                } = fed;
-                Err(job)
-            }
+            Some(fed) => Err(fed.into_job()),
             None => Ok(()),
         }
     }
@@ -123,14 +116,7 @@ impl<J> JobQueue<J> {
                 feeder.stored += 1;
                 Ok(())
             }
-            Err(fed) => {
-                let Fed {
-                    feeder: _,
-                    place: _,
-                    job,
-                } = fed;
-                Err(job)
-            }
+            Err(fed) => Err(fed.into_job()),
         }
     }
 
@@ -143,14 +129,7 @@ impl<J> JobQueue<J> {
         ensures empty { IfNone result (WasEmpty taker.old) }
     {
         match self.ring.pop_as::<Take, R>(rt, &mut taker.hand) {
-            Some(fed) => {
-                let Fed {
-                    feeder: _,
-                    place: _,
-                    job,
-                } = fed;
-                Some(job)
-            }
+            Some(fed) => Some(fed.into_job()),
             None => {
                 let _none = self.ring.another::<Miss>(&mut taker.hand);
                 None

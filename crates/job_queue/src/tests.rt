@@ -130,8 +130,13 @@ fn settling_gives_what_is_left(rt: HostRuntime) -> Result<(), Fail> {
 }
 
 #[test]
-fn unused_queue_is_settled(rt: HostRuntime) -> Result<(), Fail> {
-    let (so, settled) = ran(&rt, rt.alloc(), &[(Step::Pop, Answer::Empty)])?;
+fn pop_that_always_answers_none_is_told(rt: HostRuntime) -> Result<(), Fail> {
+    let rows = [
+        (Step::Pop, Answer::Empty),
+        (Step::Push(8), Answer::Stored),
+        (Step::Pop, Answer::Got(8)),
+    ];
+    let (so, settled) = ran(&rt, rt.alloc(), &rows)?;
     assert!(rt; so);
     assert_eq!(rt; settled, Ok(()));
     Ok(())

@@ -1,4 +1,4 @@
-use Rattle.std.proofs.Common.{All, ◌≡◌, ◌<◌, refl, sym, ap, ◌∙◌, subst, []}
+use Rattle.std.proofs.Common.{All, ◌≡◌, ◌<◌, sym, ap, ◌∙◌, subst, []}
 use Rattle.std.proofs.lemmas.List.Elements.{All-from_recursion}
 use Rattle.job_queue.specs.declared.view.Fed.{Fed}
 use Rattle.job_queue.specs.Jobs.{Moment}
@@ -33,6 +33,8 @@ pub returns-in-Some-clause-taken : goal.returns-in-Some-clause-taken
 returns-in-Some-clause-taken g c =
     let x = c.in-Some.fed in
     let e = c.in-Some.ensures in
-    let k = known_of c.taker.inside.hand.me.0.client in
-    let before = All-from_recursion (λ (y : Fed g.row.J.Denot). y.feeder ≡ x.feeder → y.place < x.place) k.taken e.rule.1 in
-    (x, refl, (λ i. taker_of (e.queue.0 i) (known_of (e.rule.0 i))) ∙ ap (λ (t : OfTaker g.row.J.Denot). taken_one t x) c.taker.view_is, subst (λ (t : OfTaker g.row.J.Denot). All (λ (y : Fed g.row.J.Denot). y.feeder ≡ x.feeder → y.place < x.place) t.taken) c.taker.view_is before)
+    let old = c.taker.inside.hand in
+    let Earlier : Fed g.row.J.Denot → Type 0 = λ y. y.feeder ≡ x.feeder → y.place < x.place in
+    let before = All-from_recursion Earlier (known_of old.me.0.client).taken e.rule.1 in
+    let same : taker_of old.table_id (known_of old.me.0.client) ≡ c.args.taker.now = c.taker.view_is in
+    (x, sym c.into_job.ensures, ◌∙◌ {b = taken_one (taker_of old.table_id (known_of old.me.0.client)) x} (λ i. taker_of (e.queue.0 i) (known_of (e.rule.0 i))) (ap (λ (t : OfTaker g.row.J.Denot). taken_one t x) same), subst (λ (t : OfTaker g.row.J.Denot). All Earlier t.taken) same before)

@@ -1,4 +1,4 @@
-use Rattle.std.proofs.Common.{◌<◌, ap, ◌∙◌, refl, subst, List, ◌∷◌, ◌++◌, append-nil}
+use Rattle.std.proofs.Common.{◌<◌, ap, sym, ◌∙◌, subst, List, ◌∷◌, ◌++◌, append-nil}
 use Rattle.std.specs.List.Sorted.{IsPermutation}
 use Rattle.crossbeam_queue.specs.Passes.{view}
 use Rattle.job_queue.specs.declared.view.Fed.{Fed}
@@ -26,7 +26,7 @@ returns-in-Some-clause-left g c =
     let some = subst (λ (q : OfQueue). 0 < q.id.takers) c.self.view_is c.self.invariant.1 in
     let e = c.in-Some.ensures.rule in
     let told = tells c.args.self.id c.args.feeders.items c.args.takers.items (view c.absorb_all-all.result) e.0 (c.in-Some.fed ∷ e.1) a.view c.requires.all some a.below a.above e.2 in
-    (c.in-Some.fed, e.1, refl, told.taken_but, told.meets)
+    (c.in-Some.fed, e.1, sym c.into_job.ensures, told.taken_but, told.meets)
 
 pub returns-clause-numbers : goal.returns-clause-numbers
 returns-clause-numbers g c =
