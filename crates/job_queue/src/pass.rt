@@ -5,7 +5,7 @@ use crate::rule::Hand;
 use std::marker::Model;
 
 /// How many jobs a feeder may store in all.
-pub const MOST_STORED: u64 = 1_048_576;
+const MOST_STORED: u64 = 1_048_576;
 
 /// The right to push, of one queue. It must be spent: a queue is settled with all of its passes.
 pub struct Feeder<J> {

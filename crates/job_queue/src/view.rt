@@ -35,6 +35,7 @@ pub struct Known<J> {
     pub empties: u64,
 }
 
+/// What a pass of the kit's queue knows.
 pub enum View<J> {
     /// It makes the passes of so many feeders and so many takers, and has made so many of them.
     Opener(u64, u64, u64),

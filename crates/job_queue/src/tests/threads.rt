@@ -86,15 +86,16 @@ fn take<R: Wait>(
     requires { taker.old.queue ≡ queue.now.id }
     ensures { taker.new.queue ≡ queue.now.id }
 {
+    let mut taken = 0;
     for _ in rt.forever() {
-        if got.len() as u64 >= jobs {
+        if taken >= jobs {
             break;
         }
         match queue.pop(rt, taker) {
             Some(job) => {
-                if got.push(job).is_err() {
-                    break;
-                }
+                taken += 1;
+                // Where memory is wanting the job is missing in the end; nobody waits for it.
+                drop(got.push(job));
             }
             None => thread::yield_now(),
         }
