@@ -1,0 +1,5 @@
+pub mod Jobs
+pub mod Views
+pub mod Seen
+pub mod Records
+pub mod Rule
