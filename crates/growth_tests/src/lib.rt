@@ -9,6 +9,8 @@ mod engines;
 #[cfg(test)]
 mod granted;
 #[cfg(test)]
+mod offices;
+#[cfg(test)]
 mod rows;
 #[cfg(test)]
 mod texts;

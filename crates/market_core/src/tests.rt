@@ -51,6 +51,32 @@ fn three_arenas_share_seven(rt: HostRuntime) {
     assert!(&rt; assigned(&market) == [0, 7, 0, 0, 0, 0, 0, 0]);
 }
 
+/// The next Join asks nobody then: no clause says so, since the answer is the same.
+#[test]
+fn a_join_in_vain_is_kept_in_mind_until_something_changes(rt: HostRuntime) {
+    let alloc = rt.alloc();
+    let Ok(mut market) = Market::new(alloc, 8, 64, 4, 3) else {
+        panic!(&rt; "no market");
+    };
+    let Some(level) = Level::new(2) else {
+        panic!(&rt; "no level");
+    };
+    let seat = SeatNo::new(3);
+    let commands = [
+        (Cmd::Open(8, 1, level), false),
+        (Cmd::Join, true),
+        (Cmd::Join, true),
+        (Cmd::Show(ArenaId::new(1)), true),
+        (Cmd::Request(ArenaId::new(1), 1, 0), false),
+        (Cmd::Join, false),
+    ];
+    for (cmd, nobody_needed) in commands {
+        assert!(&rt; market.seats() == 4);
+        assert!(&rt; market.apply(alloc, seat, cmd).is_ok());
+        assert!(&rt; market.nobody_needed == nobody_needed);
+    }
+}
+
 #[test]
 fn a_seat_is_placed_and_leaves(rt: HostRuntime) {
     let alloc = rt.alloc();

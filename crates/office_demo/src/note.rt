@@ -50,12 +50,7 @@ impl Notes {
     }
 
     /// The chronicle's entries of the seat are these calls, in this order.
-    pub fn agree(
-        &self,
-        alloc: Global,
-        chronicle: &Chronicle,
-        seat: u8,
-    ) -> Result<bool, AllocError>
+    pub fn agree(&self, alloc: Global, chronicle: &Chronicle, seat: u8) -> Result<bool, AllocError>
         requires whole { chronicle.now.from ≡ 0 }
     {
         let mut text = Vec::new(alloc);

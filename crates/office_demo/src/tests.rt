@@ -91,9 +91,9 @@ fn a_history_fills_up(rt: HostRuntime) {
         ..TERMS
     };
     let outcome = meets(&rt, rt.alloc(), terms, 8, 500);
-    let taken = outcome.closed.calls + outcome.closed.workers;
+    let taken = outcome.closed.calls.saturating_add(outcome.closed.workers);
     assert!(&rt; taken == 599 || taken == 600);
-    assert!(&rt; outcome.closed.chronicle.free() == 600 - taken);
+    assert!(&rt; u64::from(outcome.closed.chronicle.free()) == 600_u64.saturating_sub(taken));
 }
 
 #[test]

@@ -42,8 +42,9 @@ impl Visitor {
     }
 
     fn arena(&mut self) -> ArenaId {
-        let before = self.below(ARENAS);
-        ArenaId::new(self.newest.get().saturating_sub(before))
+        let newest = self.newest.get();
+        let before = self.below(newest.clamp(1, ARENAS));
+        ArenaId::new(newest.saturating_sub(before))
     }
 
     /// Notes what a call was answered.
@@ -58,8 +59,11 @@ impl Visitor {
         Level::from_index(self.below(4) as usize)
     }
 
-    /// A command that moves no seat. Some are refused.
+    /// A command that moves no seat, an Open at first. Some are refused.
     fn cmd(&mut self) -> Cmd {
+        if self.newest.get() == 0 {
+            return Cmd::Open(8, 1, Level::from_index(1));
+        }
         match self.below(20) {
             0 => Cmd::Open(self.below(9), self.below(3), self.level()),
             1 | 2 => Cmd::Close(self.arena()),
