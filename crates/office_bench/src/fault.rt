@@ -1,0 +1,41 @@
+//! Why a measurement stops.
+use market_types::OpenFault;
+use std::alloc::AllocError;
+use std::io;
+use thiserror::Error;
+
+/// Why there is no table, or no more of it. Its text is what the program tells on standard error.
+#[derive(Debug, Drop, Error)]
+pub enum BenchFault {
+    /// There was no memory.
+    #[error("memory")]
+    Memory,
+    /// A call was not answered, so its time would say nothing.
+    #[error("a call was not answered")]
+    Unanswered,
+    /// The clock, standard output or the command line failed.
+    #[error("{0}")]
+    System(io::Error),
+}
+
+impl From<AllocError> for BenchFault {
+    fn from(_error: AllocError) -> BenchFault {
+        BenchFault::Memory
+    }
+}
+
+impl From<OpenFault> for BenchFault {
+    fn from(_fault: OpenFault) -> BenchFault {
+        BenchFault::Memory
+    }
+}
+
+impl From<io::Error> for BenchFault {
+    fn from(error: io::Error) -> BenchFault {
+        if error.kind() == io::ErrorKind::OutOfMemory {
+            BenchFault::Memory
+        } else {
+            BenchFault::System(error)
+        }
+    }
+}
