@@ -23,8 +23,11 @@ use std::sync::ledger::Ledger;
 use std::thread;
 use worker_ledger::Share;
 
-/// How often a caller that waits looks at the word before it gives its processor away.
-const LOOKS: u32 = 64;
+/// How many pauses of its processor a caller makes that lost for the first time.
+const FEWEST_PAUSES: u32 = 16;
+
+/// And how many at most.
+const MOST_PAUSES: u32 = 512;
 
 /// A seat of the table with its number, and the share that counts its calls. It can't be dropped.
 pub(crate) struct Ticket<C: Ledger, W: Ledger> {
@@ -45,33 +48,33 @@ impl<C: Ledger, W: Ledger> Model for Ticket<C, W> {
     ghost invariant = { λ t. (t.seat.me ≡ (Idle (known_of t.seat.me.0), [])) × IsTicket (known_of t.seat.me.0) t.number t.share };
 }
 
-/// Waits for a while, or until the desk seems to be at home. Whoever has it needs well under a microsecond, if it runs: so a few
-/// looks come first, which leave its processor alone, and then the processor is given away, since it may be the one that
-/// whoever has the desk is waiting for.
-fn wait_a_while<C: Ledger, W: Ledger>(table: &Shelf<C, W>)
-    requires { table.now.shared.table_id.words ≡ 1 }
-{
-    for _ in 0..LOOKS {
-        if table.shared.peek(0) == 0 {
-            return;
-        }
+/// Waits for so many pauses, and says how many it should be next time: twice as many, up to a bound. Who waits does not look at
+/// the word, so that whoever calls meanwhile has it to itself, and with it the whole desk in its processor's memory. At the
+/// bound the processor is given away, since it may be the one that whoever has the desk is waiting for.
+fn wait_a_while(pauses: u32) -> u32 {
+    for _ in 0..pauses {
         spin_loop();
     }
+    if pauses < MOST_PAUSES {
+        return pauses.saturating_mul(2);
+    }
     thread::yield_now();
+    MOST_PAUSES
 }
 
-/// Takes the desk, as soon as it is at home.
+/// Takes the desk, soon after it is at home.
 fn take<C: Ledger, W: Ledger, R: Wait>(rt: &R, table: &Shelf<C, W>, seat: &mut Place<C, W>)
     requires table { (seat.old.table_id ≡ table.now.shared.table_id) × (table.now.shared.table_id.words ≡ 1) }
     requires seat { IsIdle seat.old.me }
     ensures table { seat.new.table_id ≡ seat.old.table_id }
     ensures seat { HasTaken seat.old.me seat.new.me }
 {
+    let mut pauses = FEWEST_PAUSES;
     for _ in rt.forever() {
         if table.shared.compare_exchange::<Take>(seat, 0, 0, 1) == 0 {
             return;
         }
-        wait_a_while(table);
+        pauses = wait_a_while(pauses);
     }
     unreachable!()
 }

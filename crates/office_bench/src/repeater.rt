@@ -1,9 +1,10 @@
 //! A caller that takes the same turn again and again.
-ghost use Rattle.std.specs.Prelude.{◌≡◌, ◌<◌};
+ghost use Rattle.std.specs.Prelude.{◌≡◌, false};
+ghost use Rattle.market_types.specs.Commands.{moves_seat};
 ghost use Rattle.market_lock.specs.Seen.{IsSamePass};
 ghost use Rattle.office_crew.specs.Callers.{who_is};
 
-use market_lock::{Office, Pass, Placed};
+use market_lock::{Joined, Office, Pass, Placed, Stayed};
 use market_types::{ArenaId, Cmd, Level};
 use office_crew::{Asked, Caller, Task, ask};
 use std::alloc::Global;
@@ -63,16 +64,15 @@ impl Repeater {
         }
     }
 
-    /// The commands of this turn, in order.
-    fn cmds(&self, index: u32) -> [Option<Cmd>; 3] {
+    /// The command of a turn that moves no seat.
+    fn cmd(&self, index: u32) -> Cmd
+        ensures still { moves_seat result ≡ false }
+    {
         let arena = self.arena(index);
         match self.turn {
-            Turn::Request => {
-                let more = if index % 2 == 0 { 1 } else { -1 };
-                [Some(Cmd::Request(arena, more, 0)), None, None]
-            }
-            Turn::Show => [Some(Cmd::Show(arena)), None, None],
-            Turn::Visit => [Some(Cmd::Join), Some(Cmd::Stay), Some(Cmd::Leave)],
+            Turn::Request if index % 2 == 0 => Cmd::Request(arena, 1, 0),
+            Turn::Request => Cmd::Request(arena, -1, 0),
+            Turn::Show | Turn::Visit => Cmd::Show(arena),
         }
     }
 
@@ -113,24 +113,63 @@ fn give<C: Ledger, W: Ledger, R: Wait>(
     caller
 }
 
-/// Gives the commands of a turn.
-fn take_turn<C: Ledger, W: Ledger, R: Wait>(
+/// Joins, stays and leaves.
+fn visit<C: Ledger, W: Ledger, R: Wait>(
     rt: &R,
     alloc: Global,
     office: &Office<C, W>,
-    caller: Caller<Pass<C, W>, Placed<C, W>>,
-    cmds: [Option<Cmd>; 3],
-) -> Caller<Pass<C, W>, Placed<C, W>>
-    requires office { (who_is caller).table ≡ office.now.table }
-    ensures same { IsSamePass (who_is caller) (who_is result) }
+    pass: Pass<C, W>,
+) -> Pass<C, W>
+    requires office { pass.table ≡ office.now.table }
+    ensures same { IsSamePass pass result }
 {
-    let mut caller = caller;
-    for cmd in cmds {
-        if let Some(cmd) = cmd {
-            caller = give(rt, alloc, office, caller, cmd);
-        }
+    match office.join(rt, alloc, pass) {
+        Joined::Placed(worker) => match office.stay(rt, alloc, worker) {
+            Stayed::Stays(worker) => office.leave(rt, worker),
+            Stayed::Recalled(pass) => pass,
+            Stayed::Failed(worker, _) => office.leave(rt, worker),
+        },
+        Joined::Idle(pass) => pass,
+        Joined::Failed(pass, _) => pass,
     }
-    caller
+}
+
+impl Repeater {
+    /// Takes all turns that move no seat.
+    fn call_all<C: Ledger, W: Ledger, R: Wait>(
+        &self,
+        rt: &R,
+        alloc: Global,
+        office: &Office<C, W>,
+        pass: Pass<C, W>,
+    ) -> Pass<C, W>
+        requires office { pass.table ≡ office.now.table }
+        ensures same { IsSamePass pass result }
+    {
+        let mut pass = pass;
+        for index in 0..self.times {
+            drop(office.call(rt, alloc, &mut pass, self.cmd(index)));
+        }
+        pass
+    }
+
+    /// Takes all turns that move a seat.
+    fn visit_all<C: Ledger, W: Ledger, R: Wait>(
+        &self,
+        rt: &R,
+        alloc: Global,
+        office: &Office<C, W>,
+        pass: Pass<C, W>,
+    ) -> Pass<C, W>
+        requires office { pass.table ≡ office.now.table }
+        ensures same { IsSamePass pass result }
+    {
+        let mut pass = pass;
+        for _ in 0..self.times {
+            pass = visit(rt, alloc, office, pass);
+        }
+        pass
+    }
 }
 
 impl Task for Repeater {
@@ -145,9 +184,12 @@ impl Task for Repeater {
         if self.opens {
             caller = self.open(rt, alloc, office, caller);
         }
-        for index in 0..self.times {
-            caller = take_turn(rt, alloc, office, caller, self.cmds(index));
+        match caller {
+            Caller::Free(pass) if self.turn == Turn::Visit => {
+                Caller::Free(self.visit_all(rt, alloc, office, pass))
+            }
+            Caller::Free(pass) => Caller::Free(self.call_all(rt, alloc, office, pass)),
+            Caller::Working(worker) => Caller::Working(worker),
         }
-        caller
     }
 }
