@@ -179,8 +179,9 @@ fn opened<
     met::<C, W, Brand, T, R>(rt, alloc, office, passes, order, tasks)
 }
 
-/// Opens an office with a seat for each task, lets each task work in a thread of its own with its seat's pass, at once or in turn, waits for all of
-/// them, and closes the office. The faults are those of `Office::open`, and `Memory`; nobody has worked then.
+/// Opens an office with a seat for each task, lets each task work in a thread of its own with its seat's pass, at once or in
+/// turn, waits for all of them, and closes the office. Where no thread can be made a task works in the calling thread. The
+/// faults are those of `Office::open`, and `Memory`; nobody has worked then.
 pub fn meet<T: Task + Send + Drop, R: Threads + Wait + Sync>(
     rt: &R,
     alloc: Global,
