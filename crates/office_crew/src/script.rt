@@ -1,5 +1,5 @@
 //! A task that gives chosen commands.
-ghost use Rattle.std.specs.Prelude.{◌≡◌};
+ghost use Rattle.std.specs.Prelude.{◌≡◌, [], IfOk};
 ghost use Rattle.market_lock.specs.Seen.{IsSamePass};
 ghost use Rattle.office_crew.specs.Callers.{who_is};
 
@@ -9,6 +9,7 @@ use edit_history::CallFault;
 use market_lock::{Office, Pass, Placed};
 use market_types::{Cmd, Reply, push_reply};
 use std::alloc::{AllocError, Global};
+use std::marker::Model;
 use std::sync::Wait;
 use std::sync::ledger::Ledger;
 
@@ -16,11 +17,19 @@ use std::sync::ledger::Ledger;
 const USUAL_LENGTH: usize = 1_024;
 
 /// Gives its commands in turn, and writes down what it is answered, a line each. Where memory runs out it says so in a line, and
-/// gives the command once more.
+/// gives the command once more. Contracts see it as what it wrote down.
 #[derive(Debug, Drop)]
 pub struct Script<'a> {
     cmds: &'a [Cmd],
     told: Vec<u8>,
+}
+
+impl<'a> Model for Script<'a> {
+    ghost use Rattle.std.specs.Prelude.{ℕ, List};
+
+    ghost Value = { List ℕ };
+
+    ghost view = { λ s. s.told.items };
 }
 
 /// Writes the line of an answer.
@@ -40,7 +49,9 @@ fn push_answer(
 
 impl<'a> Script<'a> {
     /// Of these commands, with room for its answers.
-    pub fn new(alloc: Global, cmds: &'a [Cmd]) -> Result<Self, AllocError> {
+    pub fn new(alloc: Global, cmds: &'a [Cmd]) -> Result<Self, AllocError>
+        ensures untold { IfOk result (λ script. script ≡ []) }
+    {
         Ok(Script {
             cmds,
             told: Vec::with_capacity(alloc, USUAL_LENGTH)?,
@@ -49,7 +60,9 @@ impl<'a> Script<'a> {
 
     /// The answers up to now: replies as texts, and `C1 memory`, `C2 history full` and `not asked`. A line for which there was no
     /// memory is torn.
-    pub fn told(&self) -> &[u8] {
+    pub fn told(&self) -> &[u8]
+        ensures exact { result.now ≡ self.now }
+    {
         &self.told
     }
 
