@@ -1,2 +1,4 @@
 pub mod Sums
 pub mod Order
+pub mod Numbers
+pub mod Fields

@@ -1,5 +1,7 @@
 //! What tasks are worth, and answers that are gathered.
 
+mod plans;
+
 use super::*;
 use market_types::ArenaId;
 use std::alloc::Global;
