@@ -2,3 +2,4 @@ pub mod Sums
 pub mod Order
 pub mod Numbers
 pub mod Fields
+mod Examples

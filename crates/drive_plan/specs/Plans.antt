@@ -1,5 +1,6 @@
 -- Plans, and which lines may follow one another in them (own).
-use Rattle.std.specs.Prelude.{ℕ, ◌==◌, nat_le, not, if◌then◌else◌, List, [], ◌∷◌, ◌++◌, length, Option, Some, None}
+use Rattle.std.specs.Prelude.{◌≤◌, ℕ, ◌==◌, nat_le, not, if◌then◌else◌, List, [], ◌∷◌, ◌++◌, length, Option, Some, None}
+use Rattle.std.specs.List.{All}
 use Rattle.drive_plan.specs.declared.task.PlannedJob.{PlannedJob}
 use Rattle.drive_plan.specs.declared.plan.PlannedArena.{PlannedArena}
 use Rattle.drive_plan.specs.declared.line.PlanLine.{PlanLine}
@@ -47,3 +48,43 @@ with_line p (Market base hard levels) = None
 with_line p (Arena arena) = with_arena p arena
 with_line p (Control value) = with_control p value
 with_line p (Job job) = with_job p job
+
+-- ---- ranges
+
+-- an arena's numbers are in their ranges, in a market of so many levels
+abbrev pub FitsArena : ℕ → PlannedArena → Type 0
+FitsArena levels a =
+    (1 ≤ a.slots)
+    × (a.slots ≤ 65535)
+    × (a.reserved ≤ a.slots)
+    × (a.level ≤ levels)
+    × (a.wanted ≤ 65535)
+    × (a.mandatory ≤ 65535)
+
+abbrev pub FitsControl : ℕ → Type 0
+FitsControl value = (1 ≤ value) × (value ≤ 65536)
+
+-- the job's arena is one of so many
+abbrev pub FitsJob : ℕ → PlannedJob → Type 0
+FitsJob arenas job = (1 ≤ job.arena) × (job.arena ≤ arenas)
+
+abbrev pub FitsMarket : ℕ → ℕ → ℕ → Type 0
+FitsMarket base hard levels =
+    (1 ≤ base) × (base ≤ 65536) × (1 ≤ hard) × (hard ≤ 65535) × (1 ≤ levels) × (levels ≤ 8)
+
+-- a line's numbers are in their ranges, in a market of so many levels, after so many arenas
+abbrev pub FitsLine : ℕ → ℕ → PlanLine → Type 0
+FitsLine levels arenas (Market base hard l) = FitsMarket base hard l
+FitsLine levels arenas (Arena arena) = FitsArena levels arena
+FitsLine levels arenas (Control value) = FitsControl value
+FitsLine levels arenas (Job job) = FitsJob arenas job
+
+-- all numbers of a plan are in their ranges
+pub record IsPlan (p : Planned) : Type 0 where
+  pub market : FitsMarket p.base p.hard p.levels
+  pub few_arenas : length p.arenas ≤ 64
+  pub arenas : All (FitsArena p.levels) p.arenas
+  pub few_controls : length p.controls ≤ 256
+  pub controls : All FitsControl p.controls
+  pub few_jobs : length p.jobs ≤ 65536
+  pub jobs : All (FitsJob (length p.arenas)) p.jobs

@@ -1,8 +1,9 @@
 //! The lines of a plan, read.
-ghost use Rattle.std.specs.Prelude.{◌≡◌};
+ghost use Rattle.std.specs.Prelude.{◌≡◌, ◌≤◌, ℕ, IfSome};
 ghost use Rattle.std.specs.Str.{all_ascii_digits};
 ghost use Rattle.market_types.specs.Fields.{fields_left};
 ghost use Rattle.market_types.specs.Reading.{is_number};
+ghost use Rattle.drive_plan.specs.Plans.{FitsLine};
 ghost use Rattle.drive_plan.specs.Reading.{alone, arena_line, control_line, job_line, level_in, line_of, long_number, market_line, number_in, task_of};
 
 use crate::plan::PlannedArena;
@@ -30,7 +31,8 @@ pub(crate) enum PlanLine {
 
 /// A number from `least` to `most`.
 fn read_in(field: &[u8], least: u32, most: u32) -> Option<u32>
-    ensures { result ≡ number_in least most field.now }
+    ensures exact { result ≡ number_in least most field.now }
+    ensures range { IfSome result (λ n. (least ≤ n) × (n ≤ most)) }
 {
     let number = read_number(field)?;
     if number < least || number > most {
@@ -79,7 +81,8 @@ fn read_long_number(field: &[u8]) -> Option<u64>
 
 /// A level of a market that has so many.
 fn read_level_in(field: &[u8], levels: u32) -> Option<Level>
-    ensures { result ≡ level_in levels field.now }
+    ensures exact { result ≡ level_in levels field.now }
+    ensures range { IfSome result (λ level. level ≤ levels) }
 {
     let level = read_level(field, levels)?;
     if level.get() > levels {
@@ -90,7 +93,8 @@ fn read_level_in(field: &[u8], levels: u32) -> Option<Level>
 
 /// The line, where no field follows.
 fn alone(line: PlanLine, more: Option<&[u8]>) -> Option<PlanLine>
-    ensures { result ≡ alone line (fields_left more.entry) }
+    ensures exact { result ≡ alone line (fields_left more.entry) }
+    ensures fits { (levels arenas : ℕ) → FitsLine levels arenas line → IfSome result (FitsLine levels arenas) }
 {
     match more {
         None => Some(line),
@@ -99,7 +103,8 @@ fn alone(line: PlanLine, more: Option<&[u8]>) -> Option<PlanLine>
 }
 
 fn read_market(more: Option<&[u8]>) -> Option<PlanLine>
-    ensures { result ≡ market_line (fields_left more.entry) }
+    ensures exact { result ≡ market_line (fields_left more.entry) }
+    ensures fits { (levels arenas : ℕ) → IfSome result (FitsLine levels arenas) }
 {
     let (field, more) = cut_field(more?);
     let base = read_in(field, 1, 65_536)?;
@@ -114,7 +119,8 @@ fn read_market(more: Option<&[u8]>) -> Option<PlanLine>
 }
 
 fn read_arena(more: Option<&[u8]>, levels: u32) -> Option<PlanLine>
-    ensures { result ≡ arena_line levels (fields_left more.entry) }
+    ensures exact { result ≡ arena_line levels (fields_left more.entry) }
+    ensures fits { (arenas : ℕ) → IfSome result (FitsLine levels arenas) }
 {
     let (field, more) = cut_field(more?);
     let slots = read_in(field, 1, MOST)?;
@@ -137,7 +143,8 @@ fn read_arena(more: Option<&[u8]>, levels: u32) -> Option<PlanLine>
 }
 
 fn read_control(more: Option<&[u8]>) -> Option<PlanLine>
-    ensures { result ≡ control_line (fields_left more.entry) }
+    ensures exact { result ≡ control_line (fields_left more.entry) }
+    ensures fits { (levels arenas : ℕ) → IfSome result (FitsLine levels arenas) }
 {
     let (field, more) = cut_field(more?);
     let value = read_in(field, 1, 65_536)?;
@@ -158,7 +165,8 @@ fn read_task(kind: &[u8], field: &[u8]) -> Option<Task>
 }
 
 fn read_job(more: Option<&[u8]>, arenas: u32) -> Option<PlanLine>
-    ensures { result ≡ job_line arenas (fields_left more.entry) }
+    ensures exact { result ≡ job_line arenas (fields_left more.entry) }
+    ensures fits { (levels : ℕ) → IfSome result (FitsLine levels arenas) }
 {
     let (field, more) = cut_field(more?);
     let arena = ArenaId::new(read_in(field, 1, arenas)?);
@@ -171,7 +179,8 @@ fn read_job(more: Option<&[u8]>, arenas: u32) -> Option<PlanLine>
 /// What a line says of a market of so many levels, after so many arenas.
 #[tactic(auto, unfolding(crate::specs::Reading::line_of))]
 pub(crate) fn read_plan_line(line: &[u8], levels: u32, arenas: u32) -> Option<PlanLine>
-    ensures { result ≡ line_of levels arenas line.now }
+    ensures exact { result ≡ line_of levels arenas line.now }
+    ensures fits { IfSome result (FitsLine levels arenas) }
 {
     let (word, more) = cut_field(line);
     if word == b"market".as_slice() {

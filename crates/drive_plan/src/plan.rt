@@ -1,6 +1,7 @@
 //! Plans.
 ghost use Rattle.std.specs.Prelude.{◌≡◌, ◌≤◌, IfOk, length};
-ghost use Rattle.drive_plan.specs.Plans.{after_market, with_arena, with_control, with_job, with_line};
+ghost use Rattle.std.specs.List.{All};
+ghost use Rattle.drive_plan.specs.Plans.{FitsArena, FitsControl, FitsJob, FitsLine, FitsMarket, after_market, with_arena, with_control, with_job, with_line};
 
 use crate::line::PlanLine;
 use crate::task::PlannedJob;
@@ -44,19 +45,19 @@ pub struct Plan {
 }
 
 impl Model for Plan {
-    ghost use Rattle.std.specs.Prelude.{◌≤◌, length};
-    ghost use Rattle.drive_plan.specs.Plans.{Planned};
+    ghost use Rattle.drive_plan.specs.Plans.{IsPlan, Planned};
 
     ghost Value = { Planned };
 
     ghost view = { λ p. record { base = p.base; hard = p.hard; levels = p.levels; arenas = p.arenas.items; controls = p.controls.items; jobs = p.jobs.items } };
 
-    ghost invariant = { λ p. (length p.arenas.items ≤ 64) × (length p.controls.items ≤ 256) × (length p.jobs.items ≤ 65536) };
+    ghost invariant = { λ p. IsPlan (record { base = p.base; hard = p.hard; levels = p.levels; arenas = p.arenas.items; controls = p.controls.items; jobs = p.jobs.items }) };
 }
 
 impl Plan {
     /// The plan that has a `market` line alone.
     pub(crate) fn new(alloc: Global, base: u32, hard: u32, levels: u32) -> Self
+        requires { FitsMarket base hard levels }
         ensures { result ≡ after_market base hard levels }
     {
         Plan {
@@ -71,21 +72,24 @@ impl Plan {
 
     /// The market's base, 1 to 65,536.
     pub fn base(&self) -> u32
-        ensures { result ≡ self.now.base }
+        ensures exact { result ≡ self.now.base }
+        ensures range { (1 ≤ result) × (result ≤ 65536) }
     {
         self.base
     }
 
     /// The market's hard limit, 1 to 65,535.
     pub fn hard(&self) -> u32
-        ensures { result ≡ self.now.hard }
+        ensures exact { result ≡ self.now.hard }
+        ensures range { (1 ≤ result) × (result ≤ 65535) }
     {
         self.hard
     }
 
     /// How many levels the market has, 1 to 8.
     pub fn levels(&self) -> u32
-        ensures { result ≡ self.now.levels }
+        ensures exact { result ≡ self.now.levels }
+        ensures range { (1 ≤ result) × (result ≤ 8) }
     {
         self.levels
     }
@@ -93,6 +97,8 @@ impl Plan {
     /// The arenas: the first is arena 1.
     pub fn arenas(&self) -> &[PlannedArena]
         ensures exact { result.now ≡ self.now.arenas }
+        ensures few { length result.now ≤ 64 }
+        ensures fit { All (FitsArena self.now.levels) result.now }
     {
         self.arenas.as_slice()
     }
@@ -100,6 +106,8 @@ impl Plan {
     /// The values of the controls.
     pub fn controls(&self) -> &[u32]
         ensures exact { result.now ≡ self.now.controls }
+        ensures few { length result.now ≤ 256 }
+        ensures fit { All FitsControl result.now }
     {
         self.controls.as_slice()
     }
@@ -108,12 +116,14 @@ impl Plan {
     pub fn jobs(&self) -> &[PlannedJob]
         ensures exact { result.now ≡ self.now.jobs }
         ensures few { length result.now ≤ 65536 }
+        ensures fit { All (FitsJob (length self.now.arenas)) result.now }
     {
         self.jobs.as_slice()
     }
 
     /// The plan with one arena more, where it may have one.
     fn with_arena(mut self, arena: PlannedArena) -> Result<Option<Plan>, AllocError>
+        requires { FitsArena self.levels arena }
         ensures { IfOk result (λ plan. plan ≡ with_arena self arena) }
     {
         if !self.controls.is_empty() {
@@ -131,6 +141,7 @@ impl Plan {
 
     /// The plan with one control more, where it may have one.
     fn with_control(mut self, value: u32) -> Result<Option<Plan>, AllocError>
+        requires { FitsControl value }
         ensures { IfOk result (λ plan. plan ≡ with_control self value) }
     {
         if self.arenas.is_empty() {
@@ -148,6 +159,7 @@ impl Plan {
 
     /// The plan with one job more, where it may have one.
     fn with_job(mut self, job: PlannedJob) -> Result<Option<Plan>, AllocError>
+        requires { FitsJob (length self.arenas) job }
         ensures { IfOk result (λ plan. plan ≡ with_job self job) }
     {
         if self.jobs.len() >= MOST_JOBS {
@@ -159,6 +171,7 @@ impl Plan {
 
     /// The plan with one line more, where it may come next.
     pub(crate) fn with_line(self, line: PlanLine) -> Result<Option<Plan>, AllocError>
+        requires { FitsLine self.levels (length self.arenas) line }
         ensures { IfOk result (λ plan. plan ≡ with_line self line) }
     {
         match line {
