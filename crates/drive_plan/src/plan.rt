@@ -23,13 +23,13 @@ const MOST_JOBS: usize = 65_536;
 pub struct PlannedArena {
     /// Its slots, 1 to 65,535.
     pub slots: u32,
-    /// How many of them are reserved.
+    /// How many of them are reserved, at most the slots.
     pub reserved: u32,
     /// Its priority, one of the market's levels.
     pub level: Level,
     /// How many workers it asks for, at most 65,535.
     pub wanted: u32,
-    /// How many of its jobs are mandatory, at most 65,535.
+    /// Its mandatory count, at most 65,535.
     pub mandatory: u32,
 }
 

@@ -184,8 +184,9 @@ fn ended_lines(text: &[u8]) -> usize
     text.iter().filter(|byte| **byte == b'\n').count()
 }
 
-/// The plan that a text is, or the number of its first line that doesn't fit. It takes the memory of the plan and of a
-/// line, and of the replies of a line taker, which has none.
+/// The plan that a text is, or the number of its first line that doesn't fit; where the text ends too early, without its
+/// `market` line or an arena, that of the line after its last LF. It takes the memory of the plan and of an unfinished
+/// line; out of memory is `Memory`. The text may have any length.
 ///
 /// Empty lines and lines that begin with `#` are passed over, and counted. The others are in this order: one line
 /// `market BASE HARD` or `market BASE HARD LEVELS`; 1 to 64 lines `arena SLOTS RESERVED LEVEL WANTED MANDATORY`; at most
