@@ -75,11 +75,9 @@ fn answers_come_out_in_order_of_number(rt: HostRuntime) {
     let Ok(gathered) = gather_done(&planned(), done) else {
         panic!(&rt; "the answers are no outcome");
     };
-    let mut number = 0;
-    for (done, value) in gathered.iter().zip([55, 18, 5050]) {
-        number += 1;
-        assert!(&rt; done.number == number);
-        assert!(&rt; done.value == value);
+    for (done, due) in gathered.iter().zip([(1, 55), (2, 18), (3, 5050)]) {
+        assert!(&rt; done.number == due.0);
+        assert!(&rt; done.value == due.1);
     }
     assert!(&rt; gathered.len() == 3);
 }
