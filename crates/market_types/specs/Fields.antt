@@ -1,5 +1,4 @@
--- What the reader's inner functions answer: the fields that are left, and a number after one more digit. No public clause
--- has these words.
+-- What the reader's parts answer: the fields that are left, and a number after one more digit, which no public clause has.
 use Rattle.std.specs.Prelude.{ℕ, ◌+◌, ◌*◌, ◌^◌, List, [], ◌&&◌, nat_lt, if◌then◌else◌, Option, Some, None}
 use Rattle.std.specs.Borrow.{Bor}
 use Rattle.std.specs.Char.{is_ascii_digit, digit_value}

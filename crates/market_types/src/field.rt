@@ -21,8 +21,9 @@ fn cut_space(text: &[u8]) -> Option<(&[u8], &[u8])>
     None
 }
 
-/// The first field, and what follows its space, if it has one.
-pub(crate) fn cut_field(text: &[u8]) -> (&[u8], Option<&[u8]>)
+/// The first field of a text, which one space ends, and what follows that space; where no space ends it, the whole text is
+/// the field and nothing follows. Takes no memory.
+pub fn cut_field(text: &[u8]) -> (&[u8], Option<&[u8]>)
     ensures { slice_split is_space text.now ≡ result.0.now ∷ fields_left result.1 }
 {
     match cut_space(text) {
@@ -52,8 +53,8 @@ fn is_plain(field: &[u8]) -> bool
     field.len() == 1 || field[0] != b'0'
 }
 
-/// A number of 32 bits in decimal digits, with no needless 0 before them.
-pub(crate) fn read_number(field: &[u8]) -> Option<u32>
+/// A number of 32 bits in decimal digits, with no needless 0 before them. None for every other field. Takes no memory.
+pub fn read_number(field: &[u8]) -> Option<u32>
     ensures { result ≡ number field.now }
 {
     if !is_plain(field) {
@@ -102,9 +103,10 @@ pub(crate) fn middle_level(levels: u32) -> Option<Level>
     Level::new(levels.div_ceil(2))
 }
 
-/// A level by its number, or one of three by its name.
+/// A level of a market of so many levels, 1 to 8, by its number, or one of three by its name. A level above those that the
+/// market has is read too. None for every other field. Takes no memory.
 #[tactic(auto, unfolding(crate::specs::Reading::level))]
-pub(crate) fn read_level(field: &[u8], levels: u32) -> Option<Level>
+pub fn read_level(field: &[u8], levels: u32) -> Option<Level>
     ensures { result ≡ level levels field.now }
 {
     if levels == 3 && field == b"high".as_slice() {

@@ -18,6 +18,7 @@ mod spelling;
 mod writing;
 
 pub use command::{Call, Cmd};
+pub use field::{cut_field, read_level, read_number};
 pub use level::Level;
 pub use lists::{Correction, Imbalance, Lists};
 pub use number::{ArenaId, ControlId, SeatNo};

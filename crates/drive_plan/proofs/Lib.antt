@@ -1,0 +1,5 @@
+pub mod Sums
+pub mod Order
+pub mod Numbers
+pub mod Fields
+mod Examples

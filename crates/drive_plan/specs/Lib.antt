@@ -1,0 +1,6 @@
+pub mod Values
+pub mod Outcome
+pub mod Gathering
+pub mod Reading
+pub mod Plans
+pub mod Format

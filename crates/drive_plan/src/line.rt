@@ -1,0 +1,199 @@
+//! The lines of a plan, read.
+ghost use Rattle.std.specs.Prelude.{◌≡◌, ◌≤◌, ℕ, IfSome};
+ghost use Rattle.std.specs.Str.{all_ascii_digits};
+ghost use Rattle.market_types.specs.Fields.{fields_left};
+ghost use Rattle.market_types.specs.Reading.{is_number};
+ghost use Rattle.drive_plan.specs.Plans.{FitsLine};
+ghost use Rattle.drive_plan.specs.Reading.{alone, arena_line, control_line, job_line, level_in, line_of, long_number, market_line, number_in, task_of};
+
+use crate::plan::PlannedArena;
+use crate::task::{PlannedJob, Task};
+use market_types::{ArenaId, Level, cut_field, read_level, read_number};
+
+/// The most of a number of workers, jobs or slots.
+const MOST: u32 = 65_535;
+
+/// The greatest argument of a sum.
+const MOST_ADDED: u32 = 1_000_000;
+
+/// What a line of a plan says.
+#[derive(Clone, Copy)]
+pub(crate) enum PlanLine {
+    /// The market: base, hard limit, levels.
+    Market(u32, u32, u32),
+    /// The next arena.
+    Arena(PlannedArena),
+    /// A control of this value.
+    Control(u32),
+    /// The next job.
+    Job(PlannedJob),
+}
+
+/// A number from `least` to `most`.
+fn read_in(field: &[u8], least: u32, most: u32) -> Option<u32>
+    ensures exact { result ≡ number_in least most field.now }
+    ensures range { IfSome result (λ n. (least ≤ n) × (n ≤ most)) }
+{
+    let number = read_number(field)?;
+    if number < least || number > most {
+        return None;
+    }
+    Some(number)
+}
+
+/// Whether all bytes are decimal digits.
+fn is_digits(field: &[u8]) -> bool
+    ensures { result ≡ all_ascii_digits field.now }
+{
+    for byte in field {
+        if !byte.is_ascii_digit() {
+            return false;
+        }
+    }
+    true
+}
+
+/// Whether the field is decimal digits with no needless 0 before them.
+fn is_number(field: &[u8]) -> bool
+    ensures { result ≡ is_number field.now }
+{
+    if !is_digits(field) {
+        return false;
+    }
+    if field.is_empty() {
+        return false;
+    }
+    field.len() == 1 || field[0] != b'0'
+}
+
+/// A number of 64 bits.
+fn read_long_number(field: &[u8]) -> Option<u64>
+    ensures { result ≡ long_number field.now }
+{
+    if !is_number(field) {
+        return None;
+    }
+    let Ok(text) = str::from_utf8(field) else {
+        return None;
+    };
+    text.parse::<u64>().ok()
+}
+
+/// A level of a market that has so many.
+fn read_level_in(field: &[u8], levels: u32) -> Option<Level>
+    ensures exact { result ≡ level_in levels field.now }
+    ensures range { IfSome result (λ level. level ≤ levels) }
+{
+    let level = read_level(field, levels)?;
+    if level.get() > levels {
+        return None;
+    }
+    Some(level)
+}
+
+/// The line, where no field follows.
+fn alone(line: PlanLine, more: Option<&[u8]>) -> Option<PlanLine>
+    ensures exact { result ≡ alone line (fields_left more.entry) }
+    ensures fits { (levels arenas : ℕ) → FitsLine levels arenas line → IfSome result (FitsLine levels arenas) }
+{
+    match more {
+        None => Some(line),
+        Some(_) => None,
+    }
+}
+
+fn read_market(more: Option<&[u8]>) -> Option<PlanLine>
+    ensures exact { result ≡ market_line (fields_left more.entry) }
+    ensures fits { (levels arenas : ℕ) → IfSome result (FitsLine levels arenas) }
+{
+    let (field, more) = cut_field(more?);
+    let base = read_in(field, 1, 65_536)?;
+    let (field, more) = cut_field(more?);
+    let hard = read_in(field, 1, MOST)?;
+    let Some(more) = more else {
+        return Some(PlanLine::Market(base, hard, 3));
+    };
+    let (field, more) = cut_field(more);
+    let levels = read_in(field, 1, 8)?;
+    alone(PlanLine::Market(base, hard, levels), more)
+}
+
+fn read_arena(more: Option<&[u8]>, levels: u32) -> Option<PlanLine>
+    ensures exact { result ≡ arena_line levels (fields_left more.entry) }
+    ensures fits { (arenas : ℕ) → IfSome result (FitsLine levels arenas) }
+{
+    let (field, more) = cut_field(more?);
+    let slots = read_in(field, 1, MOST)?;
+    let (field, more) = cut_field(more?);
+    let reserved = read_in(field, 0, slots)?;
+    let (field, more) = cut_field(more?);
+    let level = read_level_in(field, levels)?;
+    let (field, more) = cut_field(more?);
+    let wanted = read_in(field, 0, MOST)?;
+    let (field, more) = cut_field(more?);
+    let mandatory = read_in(field, 0, MOST)?;
+    let arena = PlannedArena {
+        slots,
+        reserved,
+        level,
+        wanted,
+        mandatory,
+    };
+    alone(PlanLine::Arena(arena), more)
+}
+
+fn read_control(more: Option<&[u8]>) -> Option<PlanLine>
+    ensures exact { result ≡ control_line (fields_left more.entry) }
+    ensures fits { (levels arenas : ℕ) → IfSome result (FitsLine levels arenas) }
+{
+    let (field, more) = cut_field(more?);
+    let value = read_in(field, 1, 65_536)?;
+    alone(PlanLine::Control(value), more)
+}
+
+/// The task of a kind and its argument.
+fn read_task(kind: &[u8], field: &[u8]) -> Option<Task>
+    ensures { result ≡ task_of kind.now field.now }
+{
+    if kind == b"sum".as_slice() {
+        return Some(Task::Sum(read_in(field, 0, MOST_ADDED)?));
+    }
+    if kind == b"digits".as_slice() {
+        return Some(Task::Digits(read_long_number(field)?));
+    }
+    None
+}
+
+fn read_job(more: Option<&[u8]>, arenas: u32) -> Option<PlanLine>
+    ensures exact { result ≡ job_line arenas (fields_left more.entry) }
+    ensures fits { (levels : ℕ) → IfSome result (FitsLine levels arenas) }
+{
+    let (field, more) = cut_field(more?);
+    let arena = ArenaId::new(read_in(field, 1, arenas)?);
+    let (kind, more) = cut_field(more?);
+    let (field, more) = cut_field(more?);
+    let task = read_task(kind, field)?;
+    alone(PlanLine::Job(PlannedJob { arena, task }), more)
+}
+
+/// What a line says of a market of so many levels, after so many arenas.
+#[tactic(auto, unfolding(crate::specs::Reading::line_of))]
+pub(crate) fn read_plan_line(line: &[u8], levels: u32, arenas: u32) -> Option<PlanLine>
+    ensures exact { result ≡ line_of levels arenas line.now }
+    ensures fits { IfSome result (FitsLine levels arenas) }
+{
+    let (word, more) = cut_field(line);
+    if word == b"market".as_slice() {
+        return read_market(more);
+    }
+    if word == b"arena".as_slice() {
+        return read_arena(more, levels);
+    }
+    if word == b"control".as_slice() {
+        return read_control(more);
+    }
+    if word == b"job".as_slice() {
+        return read_job(more, arenas);
+    }
+    None
+}
