@@ -24,6 +24,7 @@ pub struct Visitor {
 }
 
 impl Visitor {
+    /// Of this seed, to call so many times.
     pub fn new(alloc: Global, seed: u64, turns: u32) -> Self {
         Visitor {
             random: SplitMix64::seed_from_u64(seed),
