@@ -31,6 +31,8 @@ pub enum Order {
     AtOnce,
     /// Each when the one of the seat before has ended its work.
     InTurn,
+    /// The one of seat 0, and when it has ended its work all others at the same time.
+    FirstAlone,
 }
 
 /// A caller of the room's office and its task. The caller is away only while its task has it.
@@ -124,6 +126,7 @@ pub(crate) fn work_all<
         |scope|
             requires { office.now.table ≡ B.table }
         {
+            let mut is_first = true;
             for member in places {
                 let started = scope.spawn(
                     move ||
@@ -132,12 +135,13 @@ pub(crate) fn work_all<
                 );
                 match started {
                     Ok(handle) => {
-                        if order == Order::InTurn {
+                        if order == Order::InTurn || (order == Order::FirstAlone && is_first) {
                             handle.join(rt);
                         }
                     }
                     Err(refused) => (refused.value)(),
                 }
+                is_first = false;
             }
         },
     );

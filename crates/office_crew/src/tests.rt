@@ -129,3 +129,77 @@ fn the_next_thread_sees_what_the_last_one_did(rt: HostRuntime) -> Result<(), All
     ];
     is_seen_next(&rt, rt.alloc(), &cmds)
 }
+
+/// Two callers ask for the limit so many times each, at the same time.
+fn are_told_the_limit<R: Threads + Wait + Sync + Abort>(
+    rt: &R,
+    alloc: Global,
+    cmds: &[Cmd],
+) -> Result<(), AllocError> {
+    let terms = Terms {
+        places: 2_000,
+        ..TERMS
+    };
+    let mut scripts = Vec::with_capacity(alloc, 2)?;
+    scripts.push(Script::new(alloc, cmds)?)?;
+    scripts.push(Script::new(alloc, cmds)?)?;
+    assert!(rt; scripts.len() == 2);
+    let Ok(Meeting { closed, tasks }) = meet(rt, alloc, terms, Order::AtOnce, scripts) else {
+        panic!(rt; "no office");
+    };
+    let line = b"value 8 limit 7 effective 7\n";
+    for script in tasks.iter() {
+        assert!(rt; script.told().len() == 1_000 * line.len());
+        assert!(rt;
+            script
+                .told()
+                .chunks(line.len())
+                .all(|told| told == line.as_slice())
+        );
+    }
+    assert!(rt; (closed.calls, closed.workers, closed.chronicle.len()) == (2_000, 0, 2_000));
+    Ok(())
+}
+
+#[test]
+fn two_threads_ask_a_thousand_times_each(rt: HostRuntime) -> Result<(), AllocError> {
+    are_told_the_limit(&rt, rt.alloc(), &[Cmd::Limit; 1_000])
+}
+
+/// The first caller gives two commands in its thread; when it has met, one visits while another comes to work.
+fn one_visits_and_one_stays<R: Threads + Wait + Sync + Abort>(
+    rt: &R,
+    alloc: Global,
+    cmds: &[Cmd],
+) -> Result<(), AllocError>
+    requires { length cmds.now ≡ 6 }
+{
+    let mut scripts = Vec::with_capacity(alloc, 3)?;
+    scripts.push(Script::new(alloc, &cmds[..2])?)?;
+    scripts.push(Script::new(alloc, &cmds[2..5])?)?;
+    scripts.push(Script::new(alloc, &cmds[5..])?)?;
+    assert!(rt; scripts.len() == 3);
+    let Ok(Meeting { closed, tasks }) = meet(rt, alloc, TERMS, Order::FirstAlone, scripts) else {
+        panic!(rt; "no office");
+    };
+    assert!(rt; tasks.len() == 3);
+    assert!(rt; tasks[1].told() == b"placed 1\nstays 1\nleft 1\n".as_slice());
+    assert!(rt; tasks[2].told() == b"placed 1\n".as_slice());
+    assert!(rt; (closed.calls, closed.workers, closed.chronicle.len()) == (6, 1, 6));
+    let view = closed.chronicle.market().view(ArenaId::new(1));
+    assert!(rt; matches!(view, Some(arena) if arena.active == 1));
+    Ok(())
+}
+
+#[test]
+fn a_worker_visits_while_another_comes(rt: HostRuntime) -> Result<(), AllocError> {
+    let cmds = [
+        Cmd::Open(8, 1, Level::from_index(1)),
+        Cmd::Request(ArenaId::new(1), 2, 0),
+        Cmd::Join,
+        Cmd::Stay,
+        Cmd::Leave,
+        Cmd::Join,
+    ];
+    one_visits_and_one_stays(&rt, rt.alloc(), &cmds)
+}
