@@ -3,7 +3,7 @@
 carry, and shares no code with the crates. Like `market` it reads a script and writes the replies, or the journal of its
 calls; or it reads a journal and writes what is found of it.
 
-    check/model.py [--base N] [--hard N] [--seats N] [--levels N] [--journal] < script
+    check/model.py [--base N] [--hard N] [--seats N] [--levels N] [--last N] [--journal] < script
     check/model.py --replay < journal
 """
 import argparse
@@ -11,7 +11,7 @@ import sys
 
 from json_reader import NotJson, json_of
 
-LAST = 1_048_576
+USUAL_LAST = 1_048_576
 MOST_WANTED, LEAST_WANTED = 2**31 - 1, -(2**31)
 MOST_ENTRIES, LONGEST_LINE = 1_048_576, 65_536
 NAMES = {"high": 1, "normal": 2, "low": 3}
@@ -44,8 +44,8 @@ class Arena:
 
 
 class Market:
-    def __init__(self, base, hard, seats, levels):
-        self.base, self.hard, self.levels = base, hard, levels
+    def __init__(self, base, hard, seats, levels, last=USUAL_LAST):
+        self.base, self.hard, self.levels, self.last = base, hard, levels, last
         self.arenas = []  # newest first
         self.controls = {}
         self.seats = [None] * seats
@@ -116,7 +116,7 @@ class Market:
             raise Refusal("F14 bad level")
         if len(self.arenas) >= 1024:
             raise Refusal("F03 too many arenas")
-        if max(self.next_arena, self.next_stamp) > LAST:
+        if max(self.next_arena, self.next_stamp) > self.last:
             raise Refusal("F04 out of numbers")
         self.arenas.insert(0, Arena(self.next_arena, level, slots, reserved))
         self.next_arena += 1
@@ -134,7 +134,7 @@ class Market:
         if level > self.levels:
             raise Refusal("F14 bad level")
         arena = self.find(number)
-        if self.next_stamp > LAST:
+        if self.next_stamp > self.last:
             raise Refusal("F04 out of numbers")
         self.next_stamp += 1
         self.arenas.remove(arena)
@@ -163,7 +163,7 @@ class Market:
             raise Refusal("F09 bad value")
         if len(self.controls) >= 256:
             raise Refusal("F10 too many controls")
-        if self.next_control > LAST:
+        if self.next_control > self.last:
             raise Refusal("F04 out of numbers")
         self.controls[self.next_control] = value
         self.next_control += 1
@@ -407,7 +407,7 @@ def verdict(text):
 
 def main():
     parser = argparse.ArgumentParser()
-    for name, default in (("base", 8), ("hard", 64), ("seats", 4), ("levels", 3)):
+    for name, default in (("base", 8), ("hard", 64), ("seats", 4), ("levels", 3), ("last", USUAL_LAST)):
         parser.add_argument(f"--{name}", type=int, default=default)
     parser.add_argument("--journal", action="store_true")
     parser.add_argument("--replay", action="store_true")
@@ -417,7 +417,7 @@ def main():
         found = verdict(text)
         print(found)
         return 0 if found.startswith("legal ") else 1
-    market = Market(words.base, words.hard, words.seats, words.levels)
+    market = Market(words.base, words.hard, words.seats, words.levels, words.last)
     called = list(calls(market, text))
     for line in journal(market, called) if words.journal else replies(called):
         print(line)

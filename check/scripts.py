@@ -44,15 +44,15 @@ def a_script(rng):
     """What a market is opened with, and a script for it."""
     base, hard = rng.choice([1, 2, 3, 8, 40]), rng.choice([1, 5, 64, 65535])
     seats, levels = rng.choice([1, 4, 16, 64]), rng.choice([1, 2, 3, 3, 5, 8])
-    arenas = rng.choice([2, 6, 30])
+    arenas, last = rng.choice([2, 6, 30]), rng.choice([1, 3, 12, 1048576, 4294967294])
     script = "\n".join(a_line(rng, seats, levels, arenas) for _ in range(rng.choice([20, 200, 600])))
     if rng.random() < 0.8:
         script += "\n"
-    return (base, hard, seats, levels), script.encode("latin-1")
+    return (base, hard, seats, levels, last), script.encode("latin-1")
 
 
 def options(opening):
-    words = zip(("--base", "--hard", "--seats", "--levels"), map(str, opening))
+    words = zip(("--base", "--hard", "--seats", "--levels", "--last"), map(str, opening))
     return [word for pair in words for word in pair]
 
 

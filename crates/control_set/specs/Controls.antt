@@ -4,19 +4,18 @@ use Rattle.std.specs.List.{filter, list_any, reduce}
 use Rattle.market_types.specs.declared.reply.Fault.{Fault}
 use Rattle.market_types.specs.declared.reply.Fault.TheVariants.{BadValue, TooManyControls, OutOfNumbers}
 use Rattle.market_types.specs.State.{Control}
-use Rattle.market_types.specs.Step.{last_number}
 
 -- the controls that live, oldest first, and the number of the next
 pub record Controls : Type 0 where
   pub living : List Control
   pub next : ℕ
 
--- the number of a new control of this value, or the first refusal that applies
-abbrev pub new_control : Controls → ℕ → Result ℕ Fault
-new_control c value =
+-- the number of a new control of this value, which is no later than the last, or the first refusal that applies
+abbrev pub new_control : Controls → ℕ → ℕ → Result ℕ Fault
+new_control c value last =
     if value == 0 || nat_lt 65536 value then Err BadValue
     else if nat_le 256 (length c.living) then Err TooManyControls
-    else if nat_lt last_number c.next then Err OutOfNumbers
+    else if nat_lt last c.next then Err OutOfNumbers
     else Ok c.next
 
 -- with a new control of this value, the youngest
@@ -41,8 +40,7 @@ abbrev pub least_with : Option ℕ → ℕ → Option ℕ
 least_with None value = Some value
 least_with (Some least) value = Some (min least value)
 
--- what is kept of the controls: their least value, and the ranges of values and numbers
-pub record IsKept (living : List Control) (next : ℕ) (least : Option ℕ) : Type 0 where
+-- what is kept of the controls: their least value, and the range of values
+pub record IsKept (living : List Control) (least : Option ℕ) : Type 0 where
   pub least_kept : least ≡ least_of living
   pub values : All (λ (d : Control). (1 ≤ d.value) × (d.value ≤ 65536)) living
-  pub numbers : next ≤ last_number + 1

@@ -8,15 +8,12 @@ ghost use Rattle.control_set.specs.Controls.{new_control, with_control, without_
 ghost use Rattle.control_set.specs.Market.{controls_of, with_controls, control_reply, uncontrol_reply};
 
 use crate::control::{LivingControl, is_among, least_of, least_with, take_out};
-use market_types::{ControlId, Fault};
+use market_types::{ControlId, Fault, LastNumber};
 use std::alloc::{AllocError, Global};
 use std::marker::Model;
 
 /// The most controls that live at once.
 const MOST_CONTROLS: usize = 256;
-
-/// The last number that a control gets.
-const LAST_NUMBER: u32 = 1_048_576;
 
 /// The controls that live, oldest first, and the number of the next.
 #[derive(Debug, Drop)]
@@ -33,7 +30,7 @@ impl Model for ControlSet {
 
     ghost view = { λ c. record { living = c.controls.items; next = c.next } };
 
-    ghost invariant = { λ c. IsKept c.controls.items c.next c.least };
+    ghost invariant = { λ c. IsKept c.controls.items c.least };
 }
 
 impl ControlSet {
@@ -48,19 +45,23 @@ impl ControlSet {
         }
     }
 
-    /// Makes a control of this value, 1 to 65,536, and gives its number: 1 to 1,048,576, never used before.
+    /// Makes a control of this value, 1 to 65,536, and gives its number: from 1 to the last, never used before.
     ///
     /// Refuses by F09 another value, by F10 where 256 controls live, by F04 where the last number has been given, and
     /// then may want memory. It is as before wherever no control is made.
-    pub fn make(&mut self, value: u32) -> Result<Result<ControlId, Fault>, AllocError>
-        ensures answer { IfOk result (λ answer. answer ≡ new_control self.old value) }
+    pub fn make(
+        &mut self,
+        value: u32,
+        last: LastNumber,
+    ) -> Result<Result<ControlId, Fault>, AllocError>
+        ensures answer { IfOk result (λ answer. answer ≡ new_control self.old value last) }
         ensures made { IfOk result (λ answer. OnOk answer (self.new ≡ with_control self.old value)) }
         ensures refused { IfOk result (λ answer. OnErr answer (self.new ≡ self.old)) }
-        ensures memory_last { OnErr result (IsOk (new_control self.old value)) }
+        ensures memory_last { OnErr result (IsOk (new_control self.old value last)) }
         ensures unchanged { OnErr result (self.new ≡ self.old) }
 
         // In a market this is the command Control.
-        ensures in_market { (s : State) → self.old ≡ controls_of s
+        ensures in_market { (s : State) → self.old ≡ controls_of s → s.last ≡ last
             → IfOk result (λ answer. control_step s value ≡ (control_reply answer, with_controls s self.new)) }
     {
         if value == 0 || value > 65536 {
@@ -69,7 +70,7 @@ impl ControlSet {
         if self.controls.len() >= MOST_CONTROLS {
             return Ok(Err(Fault::TooManyControls));
         }
-        if self.next > LAST_NUMBER {
+        if self.next > last.get() {
             return Ok(Err(Fault::OutOfNumbers));
         }
         let id = ControlId::new(self.next);

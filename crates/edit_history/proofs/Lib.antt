@@ -1,4 +1,5 @@
 mod Longer
 mod Placed
-mod Keeping
+mod KeptAfter
+mod Rows
 pub mod Crossing

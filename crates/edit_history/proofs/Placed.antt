@@ -12,9 +12,9 @@ use Rattle.market_types.specs.declared.reply.Reply.{Reply}
 use Rattle.market_types.specs.State.{State, opening}
 use Rattle.market_types.specs.Step.{place_of, step}
 use Rattle.market_types.specs.History.{IsLegal, calls_of, state_after, replies_to, of_seat, place_after, place_in}
-use Rattle.edit_history.specs.Chronicled.{HasNumbersOf}
+use Rattle.edit_history.specs.Chronicled.{Chronicled, HasNumbersOf, market_of}
 use Rattle.market_core.specs.Moves.{Answers}
-use Rattle.edit_history.specs.Places.{placed, takes}
+use Rattle.edit_history.specs.Places.{placed, takes, LacksPlaces}
 use Rattle.market_core.proofs.Moved.{steps, stays}
 
 -- ---- one seat
@@ -47,7 +47,7 @@ same-seats-after s [] = refl
 same-seats-after s (e ∷ es) = same-seats-after (step s e.call.seat e.call.cmd).1 es ∙ same-seats s e.call.seat e.call.cmd
 
 pub numbers-after : (s : State) (h : List Entry) → HasNumbersOf s (state_after s (calls_of h))
-numbers-after s [] = record { base = refl; hard = refl; seats = refl; levels = refl }
+numbers-after s [] = record { base = refl; hard = refl; seats = refl; levels = refl; last = refl }
 numbers-after s (e ∷ es) =
     let one = steps s e.call.seat e.call.cmd in
     let rest = numbers-after (step s e.call.seat e.call.cmd).1 es in
@@ -56,6 +56,7 @@ numbers-after s (e ∷ es) =
       hard = rest.hard ∙ one.hard;
       seats = rest.seats ∙ same-seats s e.call.seat e.call.cmd;
       levels = rest.levels ∙ one.levels;
+      last = rest.last ∙ one.last;
     }
 
 abbrev by_reply : Option ℕ → Entry → Option ℕ
@@ -169,3 +170,20 @@ pub takes-some : (p : Option ℕ) (cmd : Cmd) → 1 ≤ one_if_placed p + takes 
 takes-some None Join = omega arith
 takes-some None _ = omega arith
 takes-some (Some a) _ = omega arith
+
+-- ---- who has forgotten all
+
+few-placed : (l : List (Option ℕ)) → count_by is_some l ≤ length l
+few-placed [] = omega arith
+few-placed (None ∷ ys) = omega (arith, sum_by-cons one_if_placed None ys, few-placed ys)
+few-placed (Some a ∷ ys) = omega (arith, sum_by-cons one_if_placed (Some a) ys, few-placed ys)
+
+takes-few : (p : Option ℕ) (cmd : Cmd) → takes p cmd ≤ 2
+takes-few None Join = omega arith
+takes-few None _ = omega arith
+takes-few (Some a) Leave = omega arith
+takes-few (Some a) _ = omega arith
+
+pub never-full : (c : Chronicled) (seat : ℕ) (cmd : Cmd) → c.from ≡ length c.log → length c.start.seats + 2 ≤ c.places → LacksPlaces c seat cmd → ⊥
+never-full c seat cmd all enough lacks =
+    omega (arith, all, enough, lacks, same-seats-after c.start c.log, few-placed (market_of c).seats, takes-few (place_of (market_of c) seat) cmd)

@@ -1,20 +1,23 @@
 -- What contracts see of a chronicle, and what opening one answers.
-use Rattle.std.specs.Prelude.{◌≡◌, ◌<◌, ◌≤◌, ℕ, ◌||◌, ◌==◌, nat_lt, if◌then◌else◌, List, [], length, Result, Ok, Err}
+use Rattle.std.specs.Prelude.{◌≡◌, ◌<◌, ◌≤◌, ℕ, ◌+◌, ◌||◌, ◌==◌, nat_lt, if◌then◌else◌, List, [], length, Result, Ok, Err}
 use Rattle.market_types.specs.declared.command.Cmd.{Cmd}
 use Rattle.market_types.specs.declared.reply.Entry.{Entry}
 use Rattle.market_types.specs.declared.reply.Reply.{Reply}
 use Rattle.market_types.specs.declared.reply.OpenFault.{OpenFault}
 use Rattle.market_types.specs.declared.reply.OpenFault.TheVariants.{BadBase, BadHard, BadSeats, BadPlaces, BadLevels}
+use Rattle.edit_history.specs.declared.keeping.Keeping.{Keeping}
+use Rattle.edit_history.specs.declared.keeping.Keeping.TheVariants.{Everything, InParts, Nothing}
 use Rattle.market_types.specs.State.{State, opening}
 use Rattle.market_types.specs.Reading.{Fits}
 use Rattle.market_types.specs.History.{calls_of, state_after}
 
--- the market at its opening, the history since, the number of places, and how many of the first entries are no longer kept (own)
+-- the market at its opening, the history since, the number of places, how many of the first entries are no longer kept, and which entries are to be kept (own)
 pub record Chronicled : Type 0 where
   pub start : State
   pub log : List Entry
   pub places : ℕ
   pub from : ℕ
+  pub keeping : Keeping
 
 -- the market as it stands
 abbrev pub market_of : Chronicled → State
@@ -31,7 +34,7 @@ entry seat cmd reply = record { call = record { seat = seat; cmd = cmd }; reply 
 -- a chronicle that nothing has happened to
 abbrev pub begun : ℕ → ℕ → ℕ → ℕ → ℕ → Chronicled
 begun base hard seats places levels =
-    record { start = opening base hard seats levels; log = []; places = places; from = 0 }
+    record { start = opening base hard seats levels; log = []; places = places; from = 0; keeping = Everything }
 
 -- a new chronicle, or the first of its numbers that is out of range (own)
 abbrev pub opened_chronicle : ℕ → ℕ → ℕ → ℕ → ℕ → Result Chronicled OpenFault
@@ -42,6 +45,26 @@ opened_chronicle base hard seats places levels =
     else if places == 0 || nat_lt 1048576 places then Err BadPlaces
     else if levels == 0 || nat_lt 8 levels then Err BadLevels
     else Ok (begun base hard seats places levels)
+
+-- the same chronicle, whose entries are not to be kept; its places are those that its calls need at a time: one for each seat's Leave, and two for a call
+abbrev pub unrecorded : Result Chronicled OpenFault → Result Chronicled OpenFault
+unrecorded (Ok c) = Ok (record c { keeping = Nothing })
+unrecorded (Err fault) = Err fault
+
+abbrev pub opened_unrecorded : ℕ → ℕ → ℕ → ℕ → Result Chronicled OpenFault
+opened_unrecorded base hard seats levels = unrecorded (opened_chronicle base hard seats (seats + 2) levels)
+
+-- the same chronicle, whose entries are to be cut out in parts
+abbrev pub in_parts : Result Chronicled OpenFault → Result Chronicled OpenFault
+in_parts (Ok c) = Ok (record c { keeping = InParts })
+in_parts (Err fault) = Err fault
+
+abbrev pub opened_in_parts : ℕ → ℕ → ℕ → ℕ → ℕ → Result Chronicled OpenFault
+opened_in_parts base hard seats places levels = in_parts (opened_chronicle base hard seats places levels)
+
+-- how long a history is at most whose entries are all forgotten or cut out: behind these, a history has places still, and its calls are counted in 64 bits
+abbrev pub most_forgotten : ℕ
+most_forgotten = 18446744073708503039
 
 -- it is what a market is opened with, and its numbers are in their ranges
 pub record IsOpening (s : State) : Type 0 where
@@ -57,3 +80,4 @@ pub record HasNumbersOf (start s : State) : Type 0 where
   pub hard : s.hard ≡ start.hard
   pub seats : length s.seats ≡ length start.seats
   pub levels : s.levels ≡ start.levels
+  pub last : s.last ≡ start.last

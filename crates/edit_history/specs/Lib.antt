@@ -3,3 +3,4 @@ pub mod Places
 pub mod Kept
 pub mod Pasts
 pub mod Falls
+pub mod Parts

@@ -1,24 +1,31 @@
 //! The market and its history.
-ghost use Rattle.std.specs.Prelude.{◌≡◌, ◌+◌, ◌<◌, ◌≤◌, ◌++◌, [], ◌∷◌, Some, length, slice_get, IfOk, OnOk, OnErr, IfErr, IsErrOf, IsOk};
+ghost use Rattle.std.specs.Prelude.{◌≡◌, ◌+◌, ◌<◌, ◌≤◌, ◌++◌, [], ◌∷◌, Some, length, slice_get, vec_capacity, IfOk, OnOk, OnErr, IfErr, IsErrOf, IsOk, IfSome, IfNone, OnSome, IsSome};
 ghost use Rattle.std.specs.List.{All};
 ghost use Rattle.market_types.specs.Reading.{Fits};
 ghost use Rattle.market_types.specs.Step.{step, place_of};
 ghost use Rattle.market_types.specs.History.{IsLegal};
 ghost use Rattle.market_types.specs.Opening.{MemoryAside};
-ghost use Rattle.edit_history.specs.Chronicled.{entry, market_of, opened_chronicle, HasNumbersOf, IsCallOf, IsOpening};
-ghost use Rattle.edit_history.specs.Places.{takes, taken, LacksPlaces};
+ghost use Rattle.edit_history.specs.Chronicled.{entry, market_of, opened_chronicle, opened_in_parts, opened_unrecorded, most_forgotten, HasNumbersOf, IsCallOf, IsOpening};
+ghost use Rattle.edit_history.specs.Parts.{EndsWith};
+ghost use Rattle.edit_history.specs.Places.{placed, takes, taken, LacksPlaces};
 ghost use Rattle.edit_history.specs.declared.fault.CallFault.TheVariants.{HistoryFull, Memory};
 
 use crate::fault::CallFault;
+use crate::keeping::Keeping;
+use crate::part::Part;
 use crate::past::Past;
 use market_core::Market;
 use market_types::{ArenaId, Call, Cmd, Entry, OpenFault, Reply, SeatNo};
 use std::alloc::Global;
 use std::marker::Model;
+use std::mem;
 use std::snapshot::Snapshot;
 
 /// The most places that a history can have.
 const MOST_PLACES: u32 = 1_048_576;
+
+/// How long a history is at most whose entries are all forgotten or cut out: with all places after it, 64 bits still count its calls.
+const MOST_FORGOTTEN: u64 = u64::MAX - MOST_PLACES as u64;
 
 /// A market whose calls are recorded. Contracts see it as its opening, the history since, and its number of places.
 #[derive(Drop)]
@@ -30,6 +37,7 @@ pub struct Chronicle {
     from: u64,
     recent: Vec<Entry>,
     places: u32,
+    keeping: Keeping,
 }
 
 impl Model for Chronicle {
@@ -39,7 +47,7 @@ impl Model for Chronicle {
 
     ghost Value = { Chronicled };
 
-    ghost view = { λ c. record { start = c.opened.value; log = c.past ++ c.recent.items; places = c.places; from = c.from } };
+    ghost view = { λ c. record { start = c.opened.value; log = c.past ++ c.recent.items; places = c.places; from = c.from; keeping = c.keeping } };
 
     ghost invariant = { λ c. IsKept c.opened.value c.market c.past c.recent.items c.from c.places (vec_capacity c.recent) };
 }
@@ -71,8 +79,41 @@ impl Chronicle {
                 from: 0,
                 recent: Vec::new(alloc),
                 places,
+                keeping: Keeping::Everything,
             }),
         }
+    }
+
+    /// The same for a history whose entries are to be kept until they are cut out: whoever calls has it `cut` in time.
+    pub fn new_in_parts(
+        alloc: Global,
+        base: u32,
+        hard: u32,
+        seats: u8,
+        places: u32,
+        levels: u32,
+    ) -> Result<Self, OpenFault>
+        ensures exact { MemoryAside (opened_in_parts base hard seats places levels) result }
+    {
+        let mut chronicle = Chronicle::new(alloc, base, hard, seats, places, levels)?;
+        chronicle.keeping = Keeping::InParts;
+        Ok(chronicle)
+    }
+
+    /// The same for a history whose entries are not to be kept: whoever calls has it `forget` them after each call. It has the
+    /// places that its calls need at a time, which are two more than its seats.
+    pub fn new_unrecorded(
+        alloc: Global,
+        base: u32,
+        hard: u32,
+        seats: u8,
+        levels: u32,
+    ) -> Result<Self, OpenFault>
+        ensures exact { MemoryAside (opened_unrecorded base hard seats levels) result }
+    {
+        let mut chronicle = Chronicle::new(alloc, base, hard, seats, u32::from(seats) + 2, levels)?;
+        chronicle.keeping = Keeping::Nothing;
+        Ok(chronicle)
     }
 
     /// Does what a seat asks, as the market does, and records it with its reply, be it a refusal. A Join by a seat that is not
@@ -91,6 +132,7 @@ impl Chronicle {
         ensures start { self.new.start ≡ self.old.start }
         ensures places { self.new.places ≡ self.old.places }
         ensures from { self.new.from ≡ self.old.from }
+        ensures keeping { self.new.keeping ≡ self.old.keeping }
     {
         let call = Call { seat, cmd };
         command_holds_its_numbers(call.cmd);
@@ -114,9 +156,63 @@ impl Chronicle {
         Ok(reply)
     }
 
+    /// Forgets the entries that are kept: they take no place any more, and can't be read. The history stays what it is. It takes
+    /// no memory, and constant time for one entry. Where the history is longer than 18,446,744,073,708,503,039 entries nothing
+    /// is done, so that 64 bits count its calls.
+    pub fn forget(&mut self)
+        ensures same { self.new ≡ record self.old { from = self.new.from } }
+        ensures forgotten { length self.old.log ≤ most_forgotten → self.new.from ≡ length self.old.log }
+        ensures late { most_forgotten < length self.old.log → self.new.from ≡ self.old.from }
+    {
+        let calls = self.len();
+        if calls > MOST_FORGOTTEN {
+            return;
+        }
+        self.past.append(&self.recent);
+        self.from = calls;
+        self.recent.clear();
+    }
+
+    /// Takes out the entries that are kept, as the next part of the history: they take no place any more, and can be read in the
+    /// part. The history stays what it is. `spare` comes in their stead, emptied, so that no memory is taken; where it has no room
+    /// for an entry for each placed seat, which leaves without taking memory, the answer is `None`, and so it is where the history
+    /// is longer than 18,446,744,073,708,503,039 entries. Nothing is then changed. It takes constant time, but for the entries that
+    /// `spare` had.
+    pub fn cut(&mut self, spare: Vec<Entry>) -> Option<Part>
+        ensures part { IfSome result (λ part. EndsWith self.old.log part.from part.entries.items) }
+        ensures from { IfSome result (λ part. part.from ≡ self.old.from) }
+        ensures cut { OnSome result (self.new ≡ record self.old { from = length self.old.log }) }
+        ensures unchanged { IfNone result (self.new ≡ self.old) }
+        ensures room { OnSome result (placed (market_of self.old) ≤ vec_capacity spare) }
+        ensures countable { OnSome result (length self.old.log ≤ most_forgotten) }
+        ensures served { placed (market_of self.old) ≤ vec_capacity spare → length self.old.log ≤ most_forgotten → IsSome result }
+    {
+        let end = self.len();
+        if end > MOST_FORGOTTEN {
+            return None;
+        }
+        if spare.capacity() < self.market.placed() as usize {
+            return None;
+        }
+        let mut emptied = spare;
+        emptied.clear();
+        self.past.append(&self.recent);
+        let from = mem::replace(&mut self.from, end);
+        let entries = mem::replace(&mut self.recent, emptied);
+        Some(Part { from, entries })
+    }
+
+    /// Which entries are to be kept.
+    pub fn keeping(&self) -> Keeping
+        ensures exact { result ≡ self.now.keeping }
+    {
+        self.keeping
+    }
+
     /// How many calls were answered. The entries that are kept are 1,048,576 at most.
     pub fn len(&self) -> u64
         ensures exact { result ≡ length self.now.log }
+        ensures kept { self.now.from ≤ result }
         ensures few { result ≤ self.now.from + 1048576 }
     {
         self.from + self.recent.len() as u64
@@ -129,6 +225,14 @@ impl Chronicle {
         ensures exact { slice_get self.now.log index ≡ Some result.now }
     {
         &self.recent[(index - self.from) as usize]
+    }
+
+    /// The entries that are kept, the last ones of the history in its order. There are 1,048,576 at most. It takes no memory.
+    pub fn kept(&self) -> &[Entry]
+        ensures exact { EndsWith self.now.log self.now.from result.now }
+        ensures few { length result.now ≤ 1048576 }
+    {
+        self.recent.as_slice()
     }
 
     /// The market as it stands: what the opening becomes by the calls of the history. The history is legal: each reply is the

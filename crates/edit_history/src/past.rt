@@ -1,5 +1,5 @@
 //! A history that exists in proofs alone.
-ghost use Rattle.std.specs.Prelude.{◌≡◌, []};
+ghost use Rattle.std.specs.Prelude.{◌≡◌, ◌++◌, []};
 
 use market_types::Entry;
 use std::marker::Model;
@@ -47,6 +47,16 @@ impl Past {
     {
         Past {
             last: Last::Nothing,
+        }
+    }
+
+    /// These entries come behind the others. None of them is stored.
+    pub(crate) fn append(&mut self, part: &Vec<Entry>)
+        ensures { self.new ≡ self.old ++ part.now.items }
+    {
+        if part.len() > 0 {
+            let before = Snapshot::of(&*self);
+            self.last = Last::After(before, Snapshot::of(part));
         }
     }
 }

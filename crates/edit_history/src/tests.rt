@@ -1,6 +1,6 @@
 //! Histories that fill up, and what a chronicle answers at its bounds.
 use super::*;
-use market_types::{ArenaId, ArenaView, Cmd, Level, OpenFault, Reply, SeatNo};
+use market_types::{ArenaId, ArenaView, Cmd, Entry, Level, OpenFault, Reply, SeatNo};
 use std::alloc::Global;
 use std::process::Abort;
 use std::rt::HostRuntime;
@@ -80,8 +80,155 @@ fn an_opening_is_refused_by_the_first_number_out_of_range(rt: HostRuntime) {
     for (base, hard, seats, places, levels, due) in bad {
         let answer = Chronicle::new(rt.alloc(), base, hard, seats, places, levels);
         assert!(&rt; matches!(&answer, Err(fault) if *fault == due));
+        let answer = Chronicle::new_in_parts(rt.alloc(), base, hard, seats, places, levels);
+        assert!(&rt; matches!(&answer, Err(fault) if *fault == due));
     }
     assert!(&rt; Chronicle::new(rt.alloc(), 8, 64, 4, 1_048_576, 3).is_ok());
+}
+
+#[test]
+fn what_is_forgotten_takes_no_place(rt: HostRuntime) {
+    let alloc = rt.alloc();
+    let mut chronicle = opened(&rt, alloc, 4);
+    assert!(&rt; chronicle.keeping() == Keeping::Everything);
+    open_arena(&rt, alloc, &mut chronicle);
+    let joined = answer(&mut chronicle, alloc, Cmd::Join);
+    assert!(&rt; matches!(&joined, Ok(Reply::Placed(arena)) if arena.get() == 1));
+    assert!(&rt; chronicle.free() == 0);
+    chronicle.forget();
+    // The seat that is placed has its place for a Leave still.
+    assert!(&rt; chronicle.free() == 3);
+    assert!(&rt; chronicle.len() == 3);
+    let left = answer(&mut chronicle, alloc, Cmd::Leave);
+    assert!(&rt; matches!(&left, Ok(Reply::Left(arena)) if arena.get() == 1));
+    assert!(&rt; chronicle.free() == 3);
+    assert!(&rt; chronicle.len() == 4);
+}
+
+/// An empty vector with room for so many entries.
+fn empty(rt: &impl Abort, alloc: Global, room: usize) -> Vec<Entry> {
+    let Ok(spare) = Vec::with_capacity(alloc, room) else {
+        panic!(rt; "no memory");
+    };
+    spare
+}
+
+#[test]
+fn what_is_cut_out_takes_no_place(rt: HostRuntime) {
+    let alloc = rt.alloc();
+    let mut chronicle = opened(&rt, alloc, 4);
+    open_arena(&rt, alloc, &mut chronicle);
+    let joined = answer(&mut chronicle, alloc, Cmd::Join);
+    assert!(&rt; matches!(&joined, Ok(Reply::Placed(arena)) if arena.get() == 1));
+    // The seat that is placed has to keep its memory for a Leave.
+    assert!(&rt; chronicle.cut(Vec::new(alloc)).is_none());
+    assert!(&rt; chronicle.free() == 0);
+    let Some(first) = chronicle.cut(empty(&rt, alloc, 1)) else {
+        panic!(&rt; "no part");
+    };
+    assert!(&rt; first.from == 0 && first.entries.len() == 3);
+    assert!(&rt;
+        matches!(first.entries.last(), Some(entry) if matches!(entry.call.cmd, Cmd::Join))
+    );
+    assert!(&rt; chronicle.free() == 3);
+    let left = answer(&mut chronicle, alloc, Cmd::Leave);
+    assert!(&rt; matches!(&left, Ok(Reply::Left(arena)) if arena.get() == 1));
+    assert!(&rt;
+        matches!(chronicle.kept().last(), Some(entry) if matches!(entry.call.cmd, Cmd::Leave))
+    );
+    let Some(second) = chronicle.cut(first.entries) else {
+        panic!(&rt; "no part");
+    };
+    assert!(&rt; second.from == 3 && second.entries.len() == 1);
+    assert!(&rt;
+        matches!(second.entries.last(), Some(entry) if matches!(entry.call.cmd, Cmd::Leave))
+    );
+    // Nobody is placed any more, and nothing was kept: the next part is empty.
+    let Some(third) = chronicle.cut(Vec::new(alloc)) else {
+        panic!(&rt; "no part");
+    };
+    assert!(&rt; third.from == 4 && third.entries.len() == 0);
+    assert!(&rt; chronicle.len() == 4);
+}
+
+#[test]
+fn a_refused_growth_spares_the_leave_after_a_cut(rt: HostRuntime) {
+    let alloc = rt.alloc();
+    let Ok(mut chronicle) = Chronicle::new_in_parts(alloc, 8, 64, 4, 4, 3) else {
+        return;
+    };
+    let open = Cmd::Open(8, 1, Level::from_index(1));
+    for cmd in [open, Cmd::Request(ArenaId::new(1), 1, 0), Cmd::Join] {
+        if answer(&mut chronicle, alloc, cmd).is_err() {
+            return;
+        }
+    }
+    let Ok(spare) = Vec::with_capacity(alloc, 1) else {
+        return;
+    };
+    assert!(&rt; chronicle.cut(spare).is_some());
+    let left = answer(&mut chronicle, alloc, Cmd::Leave);
+    assert!(&rt; matches!(&left, Ok(Reply::Left(arena)) if arena.get() == 1));
+}
+
+#[test]
+fn a_chronicle_that_is_cut_in_time_is_never_full(rt: HostRuntime) {
+    let alloc = rt.alloc();
+    let Ok(mut chronicle) = Chronicle::new_in_parts(alloc, 8, 64, 4, 4, 3) else {
+        panic!(&rt; "no chronicle");
+    };
+    assert!(&rt; chronicle.keeping() == Keeping::InParts);
+    open_arena(&rt, alloc, &mut chronicle);
+    let mut spare = empty(&rt, alloc, 4);
+    for visits in 0_u64..1000 {
+        let Some(part) = chronicle.cut(spare) else {
+            panic!(&rt; "no part");
+        };
+        assert!(&rt; part.from == 2 * visits);
+        assert!(&rt; part.entries.len() == 2);
+        spare = part.entries;
+        let joined = answer(&mut chronicle, alloc, Cmd::Join);
+        assert!(&rt; matches!(&joined, Ok(Reply::Placed(arena)) if arena.get() == 1));
+        let left = answer(&mut chronicle, alloc, Cmd::Leave);
+        assert!(&rt; matches!(&left, Ok(Reply::Left(arena)) if arena.get() == 1));
+    }
+    assert!(&rt; chronicle.len() == 2002);
+}
+
+#[test]
+fn an_unrecorded_chronicle_that_forgets_each_call_is_never_full(rt: HostRuntime) {
+    let alloc = rt.alloc();
+    let Ok(mut chronicle) = Chronicle::new_unrecorded(alloc, 8, 64, 1, 3) else {
+        panic!(&rt; "no chronicle");
+    };
+    assert!(&rt; chronicle.keeping() == Keeping::Nothing);
+    assert!(&rt; chronicle.places() == 3);
+    open_arena(&rt, alloc, &mut chronicle);
+    for _ in 0_u32..1000 {
+        chronicle.forget();
+        let joined = answer(&mut chronicle, alloc, Cmd::Join);
+        assert!(&rt; matches!(&joined, Ok(Reply::Placed(arena)) if arena.get() == 1));
+        chronicle.forget();
+        let left = answer(&mut chronicle, alloc, Cmd::Leave);
+        assert!(&rt; matches!(&left, Ok(Reply::Left(arena)) if arena.get() == 1));
+    }
+    assert!(&rt; chronicle.len() == 2002);
+    assert!(&rt; chronicle.market().placed() == 0);
+}
+
+#[test]
+fn an_unrecorded_opening_is_refused_by_the_first_number_out_of_range(rt: HostRuntime) {
+    let bad = [
+        (0, 0, 0, 0, OpenFault::BadBase),
+        (8, 0, 0, 0, OpenFault::BadHard),
+        (8, 64, 0, 0, OpenFault::BadSeats),
+        (8, 64, 65, 9, OpenFault::BadSeats),
+        (8, 64, 64, 9, OpenFault::BadLevels),
+    ];
+    for (base, hard, seats, levels, due) in bad {
+        let answer = Chronicle::new_unrecorded(rt.alloc(), base, hard, seats, levels);
+        assert!(&rt; matches!(&answer, Err(fault) if *fault == due));
+    }
 }
 
 #[test]

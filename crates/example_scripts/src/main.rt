@@ -1,13 +1,18 @@
-//! Works the scripts and the journals of the folder `data`, and tells of each whether what is written of it is what stands
-//! beside it.
+//! Works the scripts, the journals and the plans of the folder `data`, and tells of each whether what is written of it is what
+//! stands beside it.
 #![tactic(auto)]
+
+ghost use Rattle.std.specs.Prelude.{◌<◌, ◌≤◌};
 
 use anyhow::Result;
 use byte_devices::{TestSink, TestSource};
 use market_prog::{
-    ScriptTask, explain_script, run_journal, run_replay, run_script, status_of_replay,
+    MarketOptions, ScriptTask, explain_script, run_drive, run_journal, run_replay, run_script,
+    status_of_drive, status_of_replay,
 };
 use std::fs;
+use std::sync::Wait;
+use std::thread::Threads;
 
 /// Room for what is written of any of the files.
 const MOST_WRITTEN: usize = 65_536;
@@ -110,6 +115,12 @@ const FAULTY: [&str; 11] = [
     "no_line",
 ];
 
+/// The plans of which all jobs are done. What is written of each stands beside it, in `NAME.outcome`.
+const FINISHED: [&str; 2] = ["three_jobs", "no_job"];
+
+/// The plans that are refused.
+const REFUSED: [&str; 3] = ["no_text", "a_job_of_no_arena", "only_reserved_slots"];
+
 /// Tells whether a file holds what was written, and the work ended as it should.
 fn compare(rt: &HostRuntime, file: &str, written: &[u8], ended_well: bool) -> Result<()> {
     let wanted = fs::read(rt, file)?;
@@ -129,20 +140,22 @@ fn try_script(rt: &HostRuntime, task: ScriptTask, name: &str) -> Result<()> {
         levels,
         unread,
     } = Example::named(name);
+    let options = MarketOptions {
+        base,
+        levels,
+        ..MarketOptions::USUAL
+    };
     let alloc = rt.alloc();
     let script = fs::read(rt, format!(in alloc; "{name}.txt")?)?;
     let source = &mut TestSource::new(&script);
     let sink = &mut TestSink::new(Vec::with_capacity(alloc, MOST_WRITTEN)?);
     let (outcome, ending) = match task {
-        ScriptTask::Answer => (run_script(alloc, base, 64, 4, levels, source, sink), "out"),
+        ScriptTask::Answer => (run_script(alloc, options, source, sink), "out"),
         ScriptTask::Journal => (
             run_journal(alloc, base, 64, 4, levels, source, sink),
             "journal",
         ),
-        ScriptTask::Explain => (
-            explain_script(alloc, base, 64, 4, levels, source, sink),
-            "explained",
-        ),
+        ScriptTask::Explain => (explain_script(alloc, options, source, sink), "explained"),
     };
     let file = format!(in alloc; "{name}.{ending}")?;
     compare(rt, &file, sink.taken(), outcome == Ok(unread))
@@ -164,6 +177,26 @@ fn try_journal(rt: &HostRuntime, name: &str, status: u8) -> Result<()> {
     )
 }
 
+/// Drives the plan `NAME.plan` with so many workers, in threads of the handle, and tells whether what is written and the exit
+/// status are as they should be.
+fn try_plan<T: Threads + Wait + Sync>(
+    rt: &HostRuntime,
+    threads: &T,
+    workers: usize,
+    name: &str,
+    status: u8,
+) -> Result<()>
+    requires { (0 < workers) × (workers ≤ 16) }
+{
+    let alloc = rt.alloc();
+    let plan = fs::read(rt, format!(in alloc; "{name}.plan")?)?;
+    let mut source = TestSource::new(&plan);
+    let mut sink = TestSink::new(Vec::with_capacity(alloc, MOST_WRITTEN)?);
+    let outcome = run_drive(threads, alloc, workers, &mut source, &mut sink);
+    let file = format!(in alloc; "{name}.outcome")?;
+    compare(rt, &file, sink.taken(), status_of_drive(&outcome) == status)
+}
+
 /// Works the scripts, one after the other.
 fn try_scripts(rt: &HostRuntime, task: ScriptTask, names: &[&str]) -> Result<()> {
     for name in names {
@@ -180,10 +213,28 @@ fn try_journals(rt: &HostRuntime, names: &[&str], status: u8) -> Result<()> {
     Ok(())
 }
 
+/// Drives all plans with so many workers, one after the other.
+fn try_plans<T: Threads + Wait + Sync>(rt: &HostRuntime, threads: &T, workers: usize) -> Result<()>
+    requires { (0 < workers) × (workers ≤ 16) }
+{
+    println!(rt; "workers: {workers}")?;
+    for name in FINISHED {
+        try_plan(rt, threads, workers, name, 0)?;
+    }
+    for name in REFUSED {
+        try_plan(rt, threads, workers, name, 1)?;
+    }
+    Ok(())
+}
+
 fn main(rt: HostRuntime) -> Result<()> {
     try_scripts(&rt, ScriptTask::Answer, &ANSWERED)?;
     try_scripts(&rt, ScriptTask::Journal, &RECORDED)?;
     try_scripts(&rt, ScriptTask::Explain, &EXPLAINED)?;
     try_journals(&rt, &LEGAL, 0)?;
-    try_journals(&rt, &FAULTY, 1)
+    try_journals(&rt, &FAULTY, 1)?;
+    for workers in [1, 2, 16] {
+        try_plans(&rt, &rt, workers)?;
+    }
+    Ok(())
 }

@@ -3,7 +3,7 @@ ghost use Rattle.std.specs.Prelude.{◌≡◌, false};
 
 use byte_devices::{TestSink, TestSource};
 use journal_replay::Verdict;
-use market_prog::{RunFault, explain_script, run_journal, run_replay, run_script};
+use market_prog::{MarketOptions, RunFault, explain_script, run_journal, run_replay, run_script};
 use std::alloc::Global;
 use std::process::Abort;
 use std::rt::HostRuntime;
@@ -59,9 +59,9 @@ impl Engine {
         let mut source = TestSource::new(SCRIPT).in_pieces_of(20);
         let mut sink = new_sink(rt, alloc);
         let told = match self {
-            Engine::Run => run_script(alloc, 8, 64, 4, 3, &mut source, &mut sink),
+            Engine::Run => run_script(alloc, MarketOptions::USUAL, &mut source, &mut sink),
             Engine::Journal => run_journal(alloc, 8, 64, 4, 3, &mut source, &mut sink),
-            Engine::Explain => explain_script(alloc, 8, 64, 4, 3, &mut source, &mut sink),
+            Engine::Explain => explain_script(alloc, MarketOptions::USUAL, &mut source, &mut sink),
         };
         (told, sink)
     }
@@ -82,7 +82,7 @@ impl Engine {
 }
 
 /// A sink with room for all that is written.
-fn new_sink(rt: &impl Abort, alloc: Global) -> TestSink
+pub(crate) fn new_sink(rt: &impl Abort, alloc: Global) -> TestSink
     ensures { result.failed ≡ false }
 {
     if let Ok(memory) = Vec::with_capacity(alloc, 4096) {

@@ -11,6 +11,8 @@ mod granted;
 #[cfg(test)]
 mod offices;
 #[cfg(test)]
+mod plans;
+#[cfg(test)]
 mod rows;
 #[cfg(test)]
 mod texts;

@@ -1,6 +1,6 @@
 //! Calls through an office.
 use market_types::{ArenaId, Cmd, Level, OpenFault};
-use office_crew::{Meeting, Order, Script, Terms, meet};
+use office_crew::{Meeting, Script, Terms, meet};
 use std::alloc::{AllocError, Global};
 use std::process::Abort;
 use std::rt::HostRuntime;
@@ -57,20 +57,24 @@ fn met<'a, R: Threads + Wait + Sync + Abort>(
     rt: &R,
     alloc: Global,
     cmds: &'a [Cmd],
-) -> Meeting<Script<'a>> {
+) -> Meeting<Script<'a>, Script<'a>> {
     for _ in 0..2 {
         let scripts = scripts(rt, alloc, cmds);
         assert!(rt; scripts.len() == 1);
-        match meet(rt, alloc, TERMS, Order::AtOnce, scripts) {
+        match meet(rt, alloc, TERMS, Vec::<Script>::new(alloc), scripts) {
             Ok(meeting) => return meeting,
-            Err(fault) => assert!(rt; fault == OpenFault::Memory),
+            Err(unmet) => assert!(rt; unmet.fault == OpenFault::Memory),
         }
     }
     panic!(rt; "no memory")
 }
 
 fn is_visited<R: Threads + Wait + Sync + Abort>(rt: &R, alloc: Global, cmds: &[Cmd]) {
-    let Meeting { closed, tasks } = met(rt, alloc, cmds);
+    let Meeting {
+        closed,
+        openers: _,
+        tasks,
+    } = met(rt, alloc, cmds);
     assert!(rt; tasks.len() == 1);
     are_told(rt, tasks[0].told());
     assert!(rt; (closed.calls, closed.workers, closed.chronicle.len()) == (7, 0, 7));
@@ -104,7 +108,8 @@ fn is_granted<R: Threads + Wait + Sync + Abort>(
     let mut scripts = Vec::with_capacity(alloc, 1)?;
     scripts.push(Script::new(alloc, cmds)?)?;
     assert!(rt; scripts.len() == 1);
-    let Ok(Meeting { closed: _, tasks }) = meet(rt, alloc, TERMS, Order::AtOnce, scripts) else {
+    let Ok(Meeting { tasks, .. }) = meet(rt, alloc, TERMS, Vec::<Script>::new(alloc), scripts)
+    else {
         panic!(rt; "no memory");
     };
     assert!(rt; tasks.len() == 1);

@@ -1,7 +1,5 @@
-//! Jobs through a queue: worked rows on one thread, and many threads at one small queue.
+//! Jobs through a queue: worked rows on one thread.
 ghost use Rattle.std.specs.Prelude.{◌≡◌};
-
-mod threads;
 
 use super::*;
 use std::alloc::{AllocError, Global};

@@ -15,7 +15,7 @@ use Rattle.market_types.specs.declared.reply.Fault.TheVariants.{WantedRange, Man
 use Rattle.market_types.specs.Claims.{new_claim, with_slots, is_wanted, is_mandatory, natural, added_claim, cap_of, clamp_total, request_of}
 use Rattle.market_types.specs.State.{Claim, Arena, Control as LivingControl, State}
 use Rattle.market_types.specs.Allotment.{at_level, levels_of, in_order, share_of, carry_past, carried, count_at, all_to, mandatory_pick, allotment_of, assigned_to, assigned, demand, bound_of, limit_of, has_mandatory, active, recall, need, is_just}
-use Rattle.market_types.specs.Step.{Outcome, last_number, if_arena, if_claim, arena_at, without, with_claim, open_step, close_step, priority_step, resize_step, request_step, control_step, uncontrol_step, place_of, join_from, stay_from, leave_from, step}
+use Rattle.market_types.specs.Step.{Outcome, if_arena, if_claim, arena_at, without, with_claim, open_step, close_step, priority_step, resize_step, request_step, control_step, uncontrol_step, place_of, join_from, stay_from, leave_from, step}
 
 -- ---- the arenas of a market
 
@@ -124,12 +124,12 @@ length-with n claim (a ∷ arenas) = ap (λ k. suc k) (length-with n claim arena
 few-with : (n : ℕ) (claim : Claim) (arenas : List Arena) → claim.slots ≤ 65535 → Few arenas → Few (with_claim n claim arenas)
 few-with n claim arenas small h = record { few = omega (arith, length-with n claim arenas, h.few); all = bounded-with n claim arenas small h.all }
 
-few-open : (s : State) (slots reserved level : ℕ) → Few s.arenas → Few (open_step s slots reserved level).1.arenas
-few-open s slots reserved level h =
+few-open : (s : State) (slots reserved level : ℕ) → s.last ≤ 1048576 → Few s.arenas → Few (open_step s slots reserved level).1.arenas
+few-open s slots reserved level last h =
     few-claim s (new_claim slots reserved) _ h (λ claim is.
     few-if (nat_lt s.levels level) _ _ h (λ _.
     few-if (nat_le 1024 (length s.arenas)) _ _ h (λ room.
-    few-if (nat_lt last_number s.next_arena || nat_lt last_number s.next_stamp) _ _ h (λ left.
+    few-if (nat_lt s.last s.next_arena || nat_lt s.last s.next_stamp) _ _ h (λ left.
     let slots_are = new-slots slots reserved claim is in
     let number : s.next_arena ≤ 1048576 = grind (arith, nat_tests) in
     let fewer : length s.arenas < 1024 = grind (arith, nat_tests) in
@@ -146,7 +146,7 @@ few-priority : (s : State) (a level : ℕ) → Few s.arenas → Few (priority_st
 few-priority s a level h =
     few-if (nat_lt s.levels level) _ _ h (λ _.
     few-arena s (arena_at a s.arenas) _ h (λ arena is.
-    few-if (nat_lt last_number s.next_stamp) _ _ h (λ _.
+    few-if (nat_lt s.last s.next_stamp) _ _ h (λ _.
     let f = found a s.arenas arena is in
     record { few = omega (arith, f.others, h.few); all = (f.bounded h.all, bounded-filter (λ (x : Arena). not (x.number == arena.number)) s.arenas h.all) })))
 
@@ -168,7 +168,7 @@ few-control : (s : State) (value : ℕ) → Few s.arenas → Few (control_step s
 few-control s value h =
     few-if (value == 0 || nat_lt 65536 value) _ _ h (λ _.
     few-if (nat_le 256 (length s.controls)) _ _ h (λ _.
-    few-if (nat_lt last_number s.next_control) _ _ h (λ _. h)))
+    few-if (nat_lt s.last s.next_control) _ _ h (λ _. h)))
 
 few-uncontrol : (s : State) (c : ℕ) → Few s.arenas → Few (uncontrol_step s c).1.arenas
 few-uncontrol s c h = few-if (list_any (λ (d : LivingControl). d.number == c) s.controls) _ _ h (λ _. h)
@@ -186,20 +186,20 @@ few-leave : (s : State) (seat : ℕ) (p : Option ℕ) → Few s.arenas → Few (
 few-leave s seat None h = h
 few-leave s seat (Some a) h = h
 
-pub few-step : (s : State) (seat : ℕ) (cmd : Cmd) → Few s.arenas → Few (step s seat cmd).1.arenas
-few-step s seat (Open slots reserved level) h = few-open s slots reserved level h
-few-step s seat (Close a) h = few-close s a h
-few-step s seat (Priority a level) h = few-priority s a level h
-few-step s seat (Resize a slots reserved) h = few-resize s a slots reserved h
-few-step s seat (Request a workers mandatory) h = few-request s a workers mandatory h
-few-step s seat (Control value) h = few-control s value h
-few-step s seat (Uncontrol c) h = few-uncontrol s c h
-few-step s seat Join h = few-join s seat (place_of s seat) (need s) h refl
-few-step s seat Stay h = few-stay s seat (place_of s seat) h
-few-step s seat Leave h = few-leave s seat (place_of s seat) h
-few-step s seat (Show a) h = few-arena s (arena_at a s.arenas) _ h (λ _ _. h)
-few-step s seat Lists h = h
-few-step s seat Limit h = h
+pub few-step : (s : State) (seat : ℕ) (cmd : Cmd) → s.last ≤ 1048576 → Few s.arenas → Few (step s seat cmd).1.arenas
+few-step s seat (Open slots reserved level) last h = few-open s slots reserved level last h
+few-step s seat (Close a) last h = few-close s a h
+few-step s seat (Priority a level) last h = few-priority s a level h
+few-step s seat (Resize a slots reserved) last h = few-resize s a slots reserved h
+few-step s seat (Request a workers mandatory) last h = few-request s a workers mandatory h
+few-step s seat (Control value) last h = few-control s value h
+few-step s seat (Uncontrol c) last h = few-uncontrol s c h
+few-step s seat Join last h = few-join s seat (place_of s seat) (need s) h refl
+few-step s seat Stay last h = few-stay s seat (place_of s seat) h
+few-step s seat Leave last h = few-leave s seat (place_of s seat) h
+few-step s seat (Show a) last h = few-arena s (arena_at a s.arenas) _ h (λ _ _. h)
+few-step s seat Lists last h = h
+few-step s seat Limit last h = h
 
 -- ---- the arenas in order
 

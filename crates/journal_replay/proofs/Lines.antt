@@ -1,6 +1,6 @@
 -- The lines of a history, written piece by piece.
 use Rattle.std.specs.Prelude.{slice_get, OnErr, Result, Ok, Err}
-use Rattle.std.proofs.Common.{◌≡◌, ℕ, zero, suc, ◌+◌, List, [], ◌∷◌, ◌++◌, length, take, drop, codes, append_assoc, append-nil, take-append-drop, Option, Some, ap, sym, ◌∙◌, subst, arith}
+use Rattle.std.proofs.Common.{◌≡◌, ℕ, zero, suc, ◌+◌, List, [], ◌∷◌, ◌++◌, length, take, drop, codes, append_assoc, append-nil, take-append-drop, Option, Some, refl, ap, sym, ◌∙◌, subst, arith}
 use Rattle.std.proofs.KnownBytes.{Appends-trans}
 use Rattle.std.proofs.lemmas.Grind.{flat_map-append}
 use Rattle.std.proofs.lemmas.Option.{same_Some}
@@ -11,7 +11,9 @@ use Rattle.byte_devices.specs.Devices.{WritesFront}
 use Rattle.market_types.specs.declared.reply.Entry.{Entry}
 use Rattle.market_types.specs.State.{State}
 use Rattle.edit_history.specs.Chronicled.{HasNumbersOf}
-use Rattle.journal_replay.specs.Journal.{entry_line, entry_lines, header_line, journal_text}
+use Rattle.edit_history.specs.Parts.{EndsWith, joined}
+use Rattle.edit_history.specs.declared.part.Part.{Part}
+use Rattle.journal_replay.specs.Journal.{entry_line, entry_lines, header_line, journal_text, part_lines}
 use Rattle.byte_devices.specs.Output.{Fronts}
 
 -- an entry's line with its LF
@@ -111,3 +113,24 @@ all-written a b c waiting text whole is f wrote =
 -- and at least a front of it
 pub some-written : (a b c : Option (List ℕ)) (waiting text whole : List ℕ) → text ≡ whole → Fronts a b waiting text → WritesFront b c waiting → WritesFront a c whole
 some-written a b c waiting text whole is f w = front-then a b c waiting text whole [] f (sym is ∙ sym (append-nil text)) w
+
+-- ---- parts
+
+no-front : (history before part : List Entry) → history ≡ before ++ part → length before ≡ 0 → part ≡ history
+no-front history [] part is n = sym is
+no-front history (x ∷ xs) part is n = absurd (omega arith)
+
+-- a part that has no entry before it is the history
+pub whole-end : (history part : List Entry) (from : ℕ) → from ≡ 0 → EndsWith history from part → part ≡ history
+whole-end history part from none end = no-front history end.0 part end.1 (end.2 ∙ none)
+
+pub lines-of-parts : (levels : ℕ) (parts : List Part) → part_lines levels parts ≡ entry_lines levels (joined parts)
+lines-of-parts levels [] = refl
+lines-of-parts levels (p ∷ ps) =
+    ap (λ xs. entry_lines levels p.entries.items ++ xs) (lines-of-parts levels ps) ∙ sym (flat_map-append (line levels) p.entries.items (joined ps))
+
+pub parts-are-journal : (start : State) (history : List Entry) (parts : List Part) → joined parts ≡ history
+    → (header_line start.base start.hard start.levels (length start.seats) ++ codes "\n") ++ part_lines start.levels parts ≡ journal_text start history
+parts-are-journal start history parts all =
+    append_assoc (header_line start.base start.hard start.levels (length start.seats)) (codes "\n") (part_lines start.levels parts)
+    ∙ ap (λ xs. header_line start.base start.hard start.levels (length start.seats) ++ (codes "\n" ++ xs)) (lines-of-parts start.levels parts ∙ ap (entry_lines start.levels) all)

@@ -26,7 +26,7 @@ use Rattle.market_types.specs.Texts.{has_name, level_name, level_text, cmd_text,
 use Rattle.market_types.specs.Claims.{new_claim, added_claim}
 use Rattle.market_types.specs.State.{Claim, Arena, Control as LivingControl, State}
 use Rattle.market_types.specs.Allotment.{in_order, recall, hire, active, need}
-use Rattle.market_types.specs.Step.{Outcome, last_number, if_arena, if_claim, arena_at, opened, open_step, close_step, priority_step, resize_step, request_step, control_step, uncontrol_step, place_of, join_at, join_from, stay_from, leave_from, show_step, above_zero, counts_of, step}
+use Rattle.market_types.specs.Step.{Outcome, if_arena, if_claim, arena_at, opened, open_step, close_step, priority_step, resize_step, request_step, control_step, uncontrol_step, place_of, join_at, join_from, stay_from, leave_from, show_step, above_zero, counts_of, step}
 use Rattle.market_types.specs.History.{IsLegal}
 use Rattle.edit_history.specs.Chronicled.{IsOpening}
 use Rattle.journal_replay.specs.Journal.{fields_line}
@@ -282,7 +282,7 @@ plain-open s slots reserved level =
     plain-claim s (new_claim slots reserved) _ (λ claim.
     plain-if (nat_lt s.levels level) _ _ refl
     (plain-if (nat_le 1024 (length s.arenas)) _ _ refl
-    (plain-if (nat_lt last_number s.next_arena || nat_lt last_number s.next_stamp) _ _ refl refl)))
+    (plain-if (nat_lt s.last s.next_arena || nat_lt s.last s.next_stamp) _ _ refl refl)))
 
 plain-close : (s : State) (a : ℕ) → Plain (close_step s a)
 plain-close s a = plain-arena s (arena_at a s.arenas) _ (λ _. plain-if (nat_lt 0 (active s a)) _ _ refl refl)
@@ -290,7 +290,7 @@ plain-close s a = plain-arena s (arena_at a s.arenas) _ (λ _. plain-if (nat_lt 
 plain-priority : (s : State) (a level : ℕ) → Plain (priority_step s a level)
 plain-priority s a level =
     plain-if (nat_lt s.levels level) _ _ refl
-    (plain-arena s (arena_at a s.arenas) _ (λ arena. plain-if (nat_lt last_number s.next_stamp) _ _ refl refl))
+    (plain-arena s (arena_at a s.arenas) _ (λ arena. plain-if (nat_lt s.last s.next_stamp) _ _ refl refl))
 
 plain-resize : (s : State) (a slots reserved : ℕ) → Plain (resize_step s a slots reserved)
 plain-resize s a slots reserved = plain-claim s (new_claim slots reserved) _ (λ _. plain-arena s (arena_at a s.arenas) _ (λ arena. refl))
@@ -302,7 +302,7 @@ plain-control : (s : State) (value : ℕ) → Plain (control_step s value)
 plain-control s value =
     plain-if (value == 0 || nat_lt 65536 value) _ _ refl
     (plain-if (nat_le 256 (length s.controls)) _ _ refl
-    (plain-if (nat_lt last_number s.next_control) _ _ refl refl))
+    (plain-if (nat_lt s.last s.next_control) _ _ refl refl))
 
 plain-uncontrol : (s : State) (c : ℕ) → Plain (uncontrol_step s c)
 plain-uncontrol s c = plain-if (list_any (λ (d : LivingControl). d.number == c) s.controls) _ _ refl refl
@@ -346,21 +346,22 @@ step-size s seat Limit h hard seats = plain-size (step s seat Limit) refl
 line-length : (cmd reply : List ℕ) (seat : ℕ) → length (escape cmd) ≤ 5000 → length (escape reply) ≤ 46000 → length (fields_line cmd reply seat) ≤ 65536
 line-length cmd reply seat c r = let s = decimal-length seat in simp length-append (omega arith)
 
-module _ (keeps : (s : State) (seat : ℕ) (cmd : Cmd) → (length (step s seat cmd).1.seats ≡ length s.seats) × ((step s seat cmd).1.hard ≡ s.hard)) where
-  all-short : (levels : ℕ) (log : List Entry) (s : State) → Few s.arenas → s.hard ≤ 65535 → length s.seats ≤ 64 → IsLegal s log → All (IsShort levels) log
+module _ (keeps : (s : State) (seat : ℕ) (cmd : Cmd) → (length (step s seat cmd).1.seats ≡ length s.seats) × ((step s seat cmd).1.hard ≡ s.hard) × ((step s seat cmd).1.last ≡ s.last)) where
+  all-short : (levels : ℕ) (log : List Entry) (s : State) → s.last ≤ 1048576 → Few s.arenas → s.hard ≤ 65535 → length s.seats ≤ 64 → IsLegal s log → All (IsShort levels) log
   unfolding size
-  all-short levels [] s h hard seats legal = All-nil (IsShort levels)
-  all-short levels (e ∷ log) s h hard seats legal =
+  all-short levels [] s last h hard seats legal = All-nil (IsShort levels)
+  all-short levels (e ∷ log) s last h hard seats legal =
       let o = step s e.call.seat e.call.cmd in
       let due : e.reply ≡ o.0 = cc in
       let rest : IsLegal o.1 log = cc in
       let same = keeps s e.call.seat e.call.cmd in
       let reply : size (reply_text e.reply) ≤ 46000 = subst (λ (r : Reply). size (reply_text r) ≤ 46000) (sym due) (step-size s e.call.seat e.call.cmd h hard seats) in
       All-cons (IsShort levels) e log (line-length (cmd_text levels e.call.cmd) (reply_text e.reply) e.call.seat (cmd-size levels e.call.cmd) reply)
-      (all-short levels log o.1 (few-step s e.call.seat e.call.cmd h) (omega (arith, same.1)) (omega (arith, same.0)) rest)
+      (all-short levels log o.1 (omega (arith, same.2)) (few-step s e.call.seat e.call.cmd last h) (omega (arith, same.1)) (omega (arith, same.0)) rest)
 
   pub short-history : (start : State) (history : List Entry) → IsOpening start → IsLegal start history → All (IsShort start.levels) history
   short-history start history opened legal =
       let none : start.arenas ≡ [] = ap (λ (s : State). s.arenas) opened.same in
       let begun : Few start.arenas = subst (λ (arenas : List Arena). Few arenas) (sym none) (let few : length {A = Arena} [] ≤ 1024 = omega arith in record { few = few; all = tt }) in
-      all-short start.levels history start begun opened.hard.1 opened.seats.1 legal
+      let usual : start.last ≡ 1048576 = ap (λ (s : State). s.last) opened.same in
+      all-short start.levels history start (omega arith) begun opened.hard.1 opened.seats.1 legal

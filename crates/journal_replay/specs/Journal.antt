@@ -1,9 +1,10 @@
 -- The text of a journal: a line for what the market was opened with, and a line for each call with its reply (own).
-use Rattle.std.specs.Prelude.{ℕ, List, ◌++◌, length, flat_map, codes, decimal}
+use Rattle.std.specs.Prelude.{ℕ, List, [], ◌∷◌, ◌++◌, length, flat_map, codes, decimal}
 use Rattle.json.specs.Print.{quoted}
 use Rattle.serde_json.specs.Data.{Data, number, unsigned, string, object, no_members, member}
 use Rattle.market_types.specs.declared.reply.Entry.{Entry}
 use Rattle.market_types.specs.State.{State}
+use Rattle.edit_history.specs.declared.part.Part.{Part}
 use Rattle.market_types.specs.Texts.{cmd_text, reply_text}
 
 -- ---- as JSON
@@ -47,3 +48,8 @@ entry_lines levels history = flat_map (λ (e : Entry). entry_line levels e ++ co
 abbrev pub journal_text : State → List Entry → List ℕ
 journal_text start history =
     header_line start.base start.hard start.levels (length start.seats) ++ (codes "\n" ++ entry_lines start.levels history)
+
+-- the lines of parts of a history, one part after the other
+abbrev pub part_lines : ℕ → List Part → List ℕ
+part_lines levels [] = []
+part_lines levels (p ∷ ps) = entry_lines levels p.entries.items ++ part_lines levels ps

@@ -1,19 +1,19 @@
 //! Writing a journal.
-ghost use Rattle.std.specs.Prelude.{◌≡◌, ◌≤◌, ◌++◌, codes, length, true, false, OnOk, OnErr, IfErr};
+ghost use Rattle.std.specs.Prelude.{◌≡◌, ◌≤◌, ◌<◌, ◌++◌, Some, codes, length, slice_get, true, false, OnOk, OnErr, IfErr};
 ghost use Rattle.std.specs.List.{All};
 ghost use Rattle.std.specs.Io.KnownBytes.{Appends};
 ghost use Rattle.byte_devices.specs.Devices.{WritesFront};
 ghost use Rattle.byte_devices.specs.Output.{Fronts, IsOutFault};
-ghost use Rattle.journal_replay.specs.Journal.{entry_lines, journal_text};
+ghost use Rattle.journal_replay.specs.Journal.{entry_lines, header_line, journal_text};
 ghost use Rattle.journal_replay.specs.Written.{IsReadBack};
 ghost use Rattle.journal_replay.specs.Verdicts.{most_entries, verdict};
 
 use crate::law::{legal_journals_tell_legal_histories, written_lines_are_short};
-use crate::line::{Texts, entry_line, header_line};
+use crate::line::{Texts, entry_line, header_line, numbers_line};
 use crate::verdict::Verdict;
 use byte_devices::{OutFault, Sink, put_all};
-use edit_history::Chronicle;
-use market_types::texts_spell_commands;
+use edit_history::{Chronicle, Part};
+use market_types::{Entry, texts_spell_commands};
 use std::alloc::{AllocError, Global};
 
 /// So many bytes that wait are handed over.
@@ -28,7 +28,44 @@ fn push_line(waiting: &mut Vec<u8>, line: &[u8]) -> Result<(), AllocError>
     Ok(())
 }
 
-/// Writes the lines of all entries behind what waits, piece by piece. What waits at the end is not written yet.
+/// The entry at a place.
+fn entry_at(entries: &[Entry], index: usize) -> &Entry
+    requires there { index < length entries.now }
+    ensures exact { slice_get entries.now index ≡ Some result.now }
+{
+    &entries[index]
+}
+
+/// Writes the lines of entries behind what waits, piece by piece, in a market of so many levels. What waits at the end is not
+/// written yet.
+fn write_lines<W: Sink>(
+    alloc: Global,
+    levels: u32,
+    entries: &[Entry],
+    waiting: &mut Vec<u8>,
+    sink: &mut W,
+) -> Result<(), OutFault>
+    requires working { W.failed sink.old ≡ false }
+    ensures all { OnOk result (Fronts (W.taken sink.old) (W.taken sink.new) waiting.new.items (waiting.old.items ++ entry_lines levels entries.now)) }
+    ensures reads_back { OnOk result (All (IsReadBack levels) entries.now) }
+    ensures working { OnOk result (W.failed sink.new ≡ false) }
+    ensures prefix { OnErr result (WritesFront (W.taken sink.old) (W.taken sink.new) (waiting.old.items ++ entry_lines levels entries.now)) }
+    ensures cause { IfErr result (λ fault. IsOutFault fault (W.failed sink.new)) }
+{
+    let mut line = Vec::new(alloc);
+    let mut texts = Texts::new(alloc);
+    for index in 0..entries.len() {
+        line = entry_line(line, &mut texts, levels, entry_at(entries, index))?;
+        push_line(waiting, &line)?;
+        if waiting.len() >= PIECE {
+            put_all(sink, waiting)?;
+            waiting.clear();
+        }
+    }
+    Ok(())
+}
+
+/// Writes the lines of all entries of a chronicle behind what waits. What waits at the end is not written yet.
 fn write_entries<W: Sink>(
     alloc: Global,
     chronicle: &Chronicle,
@@ -45,16 +82,57 @@ fn write_entries<W: Sink>(
     ensures cause { IfErr result (λ fault. IsOutFault fault (W.failed sink.new)) }
 {
     let levels = chronicle.market().levels();
-    let mut line = Vec::new(alloc);
-    let mut texts = Texts::new(alloc);
-    for index in 0..chronicle.len() {
-        line = entry_line(line, &mut texts, levels, chronicle.entry(index))?;
-        push_line(waiting, &line)?;
-        if waiting.len() >= PIECE {
-            put_all(sink, waiting)?;
-            waiting.clear();
-        }
-    }
+    write_lines(alloc, levels, chronicle.kept(), waiting, sink)
+}
+
+/// Writes the header of a journal, for a market that was opened with these numbers. Behind it come the parts of its history, by
+/// `write_part`. At the first write that fails it is `Write`, and out of memory is `Memory`; what was written is then a prefix
+/// of the header.
+pub fn write_header<W: Sink>(
+    alloc: Global,
+    base: u32,
+    hard: u32,
+    seats: u8,
+    levels: u32,
+    sink: &mut W,
+) -> Result<(), OutFault>
+    requires working { W.failed sink.old ≡ false }
+    ensures all { OnOk result (Appends (W.taken sink.old) (W.taken sink.new) (header_line base hard levels seats ++ codes "\n")) }
+    ensures working { OnOk result (W.failed sink.new ≡ false) }
+    ensures prefix { OnErr result (WritesFront (W.taken sink.old) (W.taken sink.new) (header_line base hard levels seats ++ codes "\n")) }
+    ensures cause { IfErr result (λ fault. IsOutFault fault (W.failed sink.new)) }
+{
+    let mut waiting = Vec::new(alloc);
+    let line = numbers_line(
+        alloc,
+        u64::from(base),
+        u64::from(hard),
+        u64::from(levels),
+        u64::from(seats),
+    )?;
+    push_line(&mut waiting, &line)?;
+    put_all(sink, &waiting)?;
+    Ok(())
+}
+
+/// Writes the lines of a part of a history, in a market of so many levels: what a journal has of them behind its header and the
+/// parts before. At the first write that fails it is `Write`, and out of memory is `Memory`; what was written is then a prefix of
+/// the lines. It is written in pieces of some 65,536 bytes, and takes the memory of one piece.
+pub fn write_part<W: Sink>(
+    alloc: Global,
+    levels: u32,
+    part: &Part,
+    sink: &mut W,
+) -> Result<(), OutFault>
+    requires working { W.failed sink.old ≡ false }
+    ensures all { OnOk result (Appends (W.taken sink.old) (W.taken sink.new) (entry_lines levels part.now.entries.items)) }
+    ensures working { OnOk result (W.failed sink.new ≡ false) }
+    ensures prefix { OnErr result (WritesFront (W.taken sink.old) (W.taken sink.new) (entry_lines levels part.now.entries.items)) }
+    ensures cause { IfErr result (λ fault. IsOutFault fault (W.failed sink.new)) }
+{
+    let mut waiting = Vec::new(alloc);
+    write_lines(alloc, levels, &part.entries, &mut waiting, sink)?;
+    put_all(sink, &waiting)?;
     Ok(())
 }
 

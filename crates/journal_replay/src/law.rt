@@ -1,14 +1,19 @@
 //! What is true of all journals. These functions do nothing: what they ensure holds wherever they are called.
-ghost use Rattle.std.specs.Prelude.{◌≡◌, ℕ, List};
+ghost use Rattle.std.specs.Prelude.{◌≡◌, ◌++◌, ℕ, List, codes, length};
 ghost use Rattle.std.specs.List.{All};
 ghost use Rattle.market_types.specs.declared.reply.Entry.{Entry};
 ghost use Rattle.market_types.specs.State.{State};
 ghost use Rattle.market_types.specs.History.{IsLegal};
 ghost use Rattle.edit_history.specs.Chronicled.{IsOpening};
+ghost use Rattle.edit_history.specs.Parts.{AreInARow};
+ghost use Rattle.edit_history.specs.declared.part.Part.{Part};
+ghost use Rattle.journal_replay.specs.Journal.{header_line, journal_text, part_lines};
 ghost use Rattle.journal_replay.specs.Legality.{IsLegalJournal};
 ghost use Rattle.journal_replay.specs.Verdicts.{verdict};
 ghost use Rattle.journal_replay.specs.Written.{IsShort};
 ghost use Rattle.journal_replay.specs.declared.verdict.Verdict.TheVariants.{Legal};
+
+use edit_history::parts_in_a_row_are_the_history;
 
 /// A text is found legal exactly where it reads as a header and a legal history, of at most 1,048,576 entries; so many are
 /// found.
@@ -22,3 +27,12 @@ pub fn legal_journals_tell_legal_histories()
 pub fn written_lines_are_short()
     ensures { (start : State) (history : List Entry) → IsOpening start → IsLegal start history → All (IsShort start.levels) history }
 {}
+
+/// The header of a journal, and behind it the lines of parts that are the history one after the other, are the journal of the
+/// history.
+pub fn header_and_parts_are_the_journal()
+    ensures { (start : State) (history : List Entry) (parts : List Part) → AreInARow 0 parts history
+        → (header_line start.base start.hard start.levels (length start.seats) ++ codes "\n") ++ part_lines start.levels parts ≡ journal_text start history }
+{
+    parts_in_a_row_are_the_history();
+}

@@ -1,6 +1,7 @@
 //! The journal of a chronicle: its text, one JSON line for the opening and one for each call with its reply.
 //!
-//! [`write_journal`] writes it. What is written is `specs/Journal`, said over the history's plain list. [`check`] reads one
+//! [`write_journal`] writes it. Where the history is taken out in parts, [`write_header`] and then [`write_part`] for each of them
+//! write the same ([`header_and_parts_are_the_journal`]). What is written is `specs/Journal`, said over the history's plain list. [`check`] reads one
 //! and replays it, and so does [`check_source`] with what a source has left. How a line reads is `specs/Reading`, what is found of a text `specs/Verdicts`, and what that is in terms of
 //! histories `specs/Legality`.
 #![tactic(auto)]
@@ -14,8 +15,10 @@ mod verdict;
 
 pub use byte_devices::OutFault;
 pub use checker::{check, check_source};
-pub use journal::write_journal;
-pub use law::{legal_journals_tell_legal_histories, written_lines_are_short};
+pub use journal::{write_header, write_journal, write_part};
+pub use law::{
+    header_and_parts_are_the_journal, legal_journals_tell_legal_histories, written_lines_are_short,
+};
 pub use verdict::{DueReply, Verdict};
 
 #[cfg(test)]

@@ -25,7 +25,7 @@ pub(crate) fn header_line(alloc: Global, market: &Market) -> Result<Vec<u8>, All
 }
 
 /// The line of these numbers of an opening.
-fn numbers_line(
+pub(crate) fn numbers_line(
     alloc: Global,
     base: u64,
     hard: u64,

@@ -1,5 +1,5 @@
 //! The journal of a short history, what is found of it, and what a failing sink has of it.
-ghost use Rattle.std.specs.Prelude.{◌≡◌, false};
+ghost use Rattle.std.specs.Prelude.{◌≡◌, false, OnOk};
 
 mod checking;
 mod histories;
@@ -90,5 +90,55 @@ fn a_failing_sink_has_a_front_of_the_journal(rt: HostRuntime) {
             assert!(&rt; JOURNAL.starts_with(sink.taken()));
             assert!(&rt; sink.taken().len() == most);
         }
+    }
+}
+
+/// Records a call of seat 0, takes it out, and writes it behind the others.
+fn write_next(
+    rt: &impl Abort,
+    alloc: Global,
+    chronicle: &mut Chronicle,
+    cmd: Cmd,
+    sink: &mut TestSink,
+) -> Result<(), OutFault>
+    requires working { sink.old.failed ≡ false }
+    ensures working { OnOk result (sink.new.failed ≡ false) }
+{
+    record(rt, alloc, chronicle, cmd);
+    let Some(part) = chronicle.cut(Vec::new(alloc)) else {
+        panic!(rt; "no part");
+    };
+    write_part(alloc, 3, &part, sink)
+}
+
+/// The same history as the other, in parts of one entry each.
+fn write_parts(rt: &impl Abort, alloc: Global, sink: &mut TestSink) -> Result<(), OutFault>
+    requires working { sink.old.failed ≡ false }
+{
+    let Ok(mut chronicle) = Chronicle::new_in_parts(alloc, 8, 64, 4, 1, 3) else {
+        panic!(rt; "no chronicle");
+    };
+    let open = Cmd::Open(8, 1, Level::from_index(1));
+    let request = Cmd::Request(ArenaId::new(1), 3, 0);
+    write_header(alloc, 8, 64, 4, 3, sink)?;
+    write_next(rt, alloc, &mut chronicle, open, sink)?;
+    write_next(rt, alloc, &mut chronicle, request, sink)?;
+    write_next(rt, alloc, &mut chronicle, Cmd::Show(ArenaId::new(1)), sink)
+}
+
+#[test]
+fn a_history_in_parts_has_the_same_journal(rt: HostRuntime) {
+    let mut sink = new_sink(&rt, rt.alloc());
+    assert!(&rt; write_parts(&rt, rt.alloc(), &mut sink) == Ok(()));
+    assert!(&rt; sink.taken() == JOURNAL);
+}
+
+#[test]
+fn a_failing_sink_has_a_front_of_the_parts(rt: HostRuntime) {
+    for most in [0, 1, 42, 100, 243] {
+        let mut sink = new_sink(&rt, rt.alloc()).refusing_after(most, Refusal::Fault);
+        assert!(&rt; write_parts(&rt, rt.alloc(), &mut sink) == Err(OutFault::Write));
+        assert!(&rt; JOURNAL.starts_with(sink.taken()));
+        assert!(&rt; sink.taken().len() == most);
     }
 }

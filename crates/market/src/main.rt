@@ -1,15 +1,24 @@
 //! The program `market`: its words, its streams and its exit status.
 #![tactic(auto)]
 
+ghost use Rattle.std.specs.Prelude.{◌≤◌};
+
+mod progress;
+
+use crate::progress::ProgressGate;
 use byte_devices::{ReadSource, WriteSink};
 use clap::Error;
 use clap::error::ErrorKind;
+use market_drive::DriveFault;
 use market_prog::{
-    Choice, MarketOptions, RunFault, ScriptTask, explain_script, read_words, run_journal,
-    run_replay, run_script, status_of_replay, status_of_run,
+    Choice, DriveEnd, DriveOptions, MarketOptions, RunFault, ScriptTask, explain_script,
+    read_words, run_drive, run_drive_through, run_journal, run_replay, run_script, status_of_drive,
+    status_of_replay, status_of_run,
 };
 use std::fmt::Display;
 use std::process::ExitCode;
+use std::sync::Wait;
+use std::thread::Threads;
 use std::{env, io};
 
 /// The exit status of a bad command line.
@@ -33,21 +42,31 @@ fn finish<T: Drop>(rt: &HostRuntime, outcome: Result<T, RunFault>, status: u8) -
     }
 }
 
+/// What is said where a journal is asked for of a market that it cannot tell.
+const NO_LAST_IN_JOURNALS: &str = "\
+error: '--journal' cannot be used with '--last <N>' but for the usual 1048576: no journal tells it
+
+For more information, try '--help'.";
+
 /// Writes what was chosen of the script on standard input.
 fn work_script(rt: &HostRuntime, task: ScriptTask, options: MarketOptions) -> u8 {
+    if task == ScriptTask::Journal && options.last != MarketOptions::USUAL.last {
+        return fail(rt, NO_LAST_IN_JOURNALS, BAD_COMMAND_LINE);
+    }
     let MarketOptions {
         base,
         hard,
         seats,
         levels,
+        last: _,
     } = options;
     let alloc = rt.alloc();
     let input = &mut ReadSource::new(rt.stdin());
     let output = &mut WriteSink::new(rt.stdout());
     let outcome = match task {
-        ScriptTask::Answer => run_script(alloc, base, hard, seats, levels, input, output),
+        ScriptTask::Answer => run_script(alloc, options, input, output),
         ScriptTask::Journal => run_journal(alloc, base, hard, seats, levels, input, output),
-        ScriptTask::Explain => explain_script(alloc, base, hard, seats, levels, input, output),
+        ScriptTask::Explain => explain_script(alloc, options, input, output),
     };
     let status = status_of_run(&outcome);
     finish(rt, outcome, status)
@@ -60,6 +79,38 @@ fn replay(rt: &HostRuntime) -> u8 {
     let outcome = run_replay(rt.alloc(), &mut input, &mut output);
     let status = status_of_replay(&outcome);
     finish(rt, outcome, status)
+}
+
+/// Drives the plan on standard input, with workers in threads of this handle.
+fn drive_plan<T: Threads + Wait + Sync>(
+    rt: &HostRuntime,
+    threads: &T,
+    options: DriveOptions,
+) -> Result<DriveEnd, RunFault>
+    requires { (1 ≤ options.workers) × (options.workers ≤ 16) }
+{
+    let workers = options.workers as usize;
+    let mut input = ReadSource::new(rt.stdin());
+    let mut output = WriteSink::new(rt.stdout());
+    if options.progress {
+        // Without a clock nothing is told.
+        if let Ok(gate) = ProgressGate::new(rt) {
+            return run_drive_through(threads, rt.alloc(), workers, &gate, &mut input, &mut output);
+        }
+    }
+    run_drive(threads, rt.alloc(), workers, &mut input, &mut output)
+}
+
+/// Drives the plan on standard input, and tells why where there was no memory for it.
+fn drive<T: Threads + Wait + Sync>(rt: &HostRuntime, threads: &T, options: DriveOptions) -> u8
+    requires { (1 ≤ options.workers) × (options.workers ≤ 16) }
+{
+    let outcome = drive_plan(rt, threads, options);
+    let status = status_of_drive(&outcome);
+    match outcome {
+        Ok(DriveEnd::Refused(DriveFault::Memory)) => fail(rt, "G06 memory", status),
+        outcome => finish(rt, outcome, status),
+    }
 }
 
 /// Prints the help that was asked for, or what is wrong with the words.
@@ -77,8 +128,8 @@ fn print_help(rt: &HostRuntime, error: &Error) -> u8 {
     }
 }
 
-/// Does what the words choose.
-fn obey(rt: &HostRuntime, words: &[String]) -> u8 {
+/// Does what the words choose. Threads are made by the handle.
+fn obey<T: Threads + Wait + Sync>(rt: &HostRuntime, threads: &T, words: &[String]) -> u8 {
     let texts: Result<Vec<&str>, _> = words.iter().map(|word| word.as_str()).collect(rt.alloc());
     let Ok(texts) = texts else {
         return fail(rt, "memory", SYSTEM_FAULT);
@@ -86,6 +137,7 @@ fn obey(rt: &HostRuntime, words: &[String]) -> u8 {
     match read_words(rt.alloc(), &texts) {
         Ok(Choice::Script(task, options)) => work_script(rt, task, options),
         Ok(Choice::Replay) => replay(rt),
+        Ok(Choice::Drive(options)) => drive(rt, threads, options),
         Err(error) => print_help(rt, &error),
     }
 }
@@ -98,7 +150,7 @@ fn command_line(rt: &HostRuntime) -> io::Result<Vec<String>> {
 
 fn main(rt: HostRuntime) -> ExitCode {
     let status = match command_line(&rt) {
-        Ok(words) => obey(&rt, &words),
+        Ok(words) => obey(&rt, &rt, &words),
         Err(error) if error.kind() == io::ErrorKind::InvalidData => {
             fail(
                 &rt,

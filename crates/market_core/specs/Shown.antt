@@ -14,6 +14,7 @@ shown m =
       arenas = m.arenas;
       controls = m.controls.living;
       seats = m.roster;
+      last = m.opening.last;
       next_arena = m.next_arena;
       next_control = m.controls.next;
       next_stamp = m.next_stamp;

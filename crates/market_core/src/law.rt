@@ -22,4 +22,5 @@ pub fn a_call_moves_its_own_seat()
     ensures base { (s : State) (seat : ℕ) (cmd : Cmd) → (step s seat cmd).1.base ≡ s.base }
     ensures hard { (s : State) (seat : ℕ) (cmd : Cmd) → (step s seat cmd).1.hard ≡ s.hard }
     ensures levels { (s : State) (seat : ℕ) (cmd : Cmd) → (step s seat cmd).1.levels ≡ s.levels }
+    ensures last { (s : State) (seat : ℕ) (cmd : Cmd) → (step s seat cmd).1.last ≡ s.last }
 {}

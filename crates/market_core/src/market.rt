@@ -1,8 +1,8 @@
 //! The market, and what can be read of it.
 ghost use Rattle.std.specs.Prelude.{◌≡◌, ◌≤◌, ◌<◌, Some, is_some, length, slice_get, IfOk};
 ghost use Rattle.std.specs.List.{count_by};
-ghost use Rattle.market_types.specs.State.{Arena, opening};
-ghost use Rattle.market_types.specs.Opening.{opened_market, MemoryAside};
+ghost use Rattle.market_types.specs.State.{Arena, opening, opening_to};
+ghost use Rattle.market_types.specs.Opening.{opened_market, opened_market_to, MemoryAside};
 ghost use Rattle.market_types.specs.Allotment.{limit_of, bound_of};
 ghost use Rattle.market_types.specs.Step.{arena_at, limits_of};
 ghost use Rattle.allotment.specs.Levels.{IsLeveled};
@@ -16,13 +16,13 @@ use crate::opening::Opening;
 use allotment::{bound_is_given_out, no_carry_to_keep};
 use arena_store::Arenas;
 use control_set::ControlSet;
-use market_types::{ArenaId, LimitView, OpenFault, SeatNo};
+use market_types::{ArenaId, LastNumber, LimitView, OpenFault, SeatNo};
 use recall_hire::Roster;
 use std::alloc::Global;
 use std::marker::Model;
 
 /// Arenas that share workers. Contracts see a market as its `State`: what it was opened with, its arenas, controls and
-/// seats, and its next numbers.
+/// seats, and its last and next numbers.
 #[derive(Drop)]
 pub struct Market {
     opening: Opening,
@@ -60,7 +60,22 @@ impl Market {
         ensures exact { MemoryAside (opened_market base hard seats levels) result }
         ensures opened { IfOk result (λ market. market ≡ opening base hard seats levels) }
     {
-        let opening = Opening::checked(base, hard, seats, levels)?;
+        Market::with_last(alloc, base, hard, seats, levels, LastNumber::USUAL)
+    }
+
+    /// The same, but that this is the last number of an arena, a stamp and a control. Where none is named it is 1,048,576.
+    pub fn with_last(
+        alloc: Global,
+        base: u32,
+        hard: u32,
+        seats: u8,
+        levels: u32,
+        last: LastNumber,
+    ) -> Result<Self, OpenFault>
+        ensures exact { MemoryAside (opened_market_to base hard seats levels last) result }
+        ensures opened { IfOk result (λ market. market ≡ opening_to base hard seats levels last) }
+    {
+        let opening = Opening::checked(base, hard, seats, levels, last)?;
         let Ok(roster) = Roster::new(alloc, seats) else {
             return Err(OpenFault::Memory);
         };
@@ -110,6 +125,13 @@ impl Market {
         ensures leveled { IsLeveled self.now }
     {
         self.opening.levels
+    }
+
+    /// The last number that an arena, a stamp or a control gets.
+    pub fn last(&self) -> LastNumber
+        ensures exact { result ≡ self.now.last }
+    {
+        self.opening.last
     }
 
     /// How many seats are placed, 0 to 64. It takes no memory.

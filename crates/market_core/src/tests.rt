@@ -1,6 +1,11 @@
 //! What no clause says: that the market answers at all where memory is ample.
 use crate::{Market, apply_all};
-use market_types::{ArenaId, Call, Cmd, Fault, Level, LimitView, OpenFault, Reply, SeatNo};
+use market_types::{
+    ArenaId, Call, Cmd, ControlId, Fault, LastNumber, Level, LimitView, OpenFault, Reply, SeatNo,
+    reply_text,
+};
+use std::alloc::Global;
+use std::process::Abort;
 use std::rt::HostRuntime;
 
 mod growth;
@@ -180,6 +185,79 @@ fn calls_are_answered_in_order(rt: HostRuntime) {
         )
     );
     assert!(&rt; matches!(&replies[1], Reply::Refused(Fault::NoArena)));
+}
+
+/// What a new market with the last number 3 answers to each of these commands.
+fn answers_to_three(rt: &impl Abort, alloc: Global, commands: &[(Cmd, &str)]) {
+    let Some(last) = LastNumber::new(3) else {
+        panic!(rt; "no last number");
+    };
+    let Ok(mut market) = Market::with_last(alloc, 8, 64, 4, 3, last) else {
+        panic!(rt; "no market");
+    };
+    assert!(rt; market.last() == last);
+    let seat = SeatNo::new(3);
+    for (cmd, due) in commands {
+        assert!(rt; market.seats() == 4);
+        let Ok(reply) = market.apply(alloc, seat, *cmd) else {
+            panic!(rt; "no reply");
+        };
+        let Ok(text) = reply_text(alloc, &reply) else {
+            panic!(rt; "no text");
+        };
+        assert!(rt; text.as_str() == *due);
+    }
+}
+
+#[test]
+fn a_fourth_arena_has_no_number(rt: HostRuntime) {
+    let level = Level::from_index(1);
+    let commands = [
+        (Cmd::Open(8, 1, level), "arena 1"),
+        (Cmd::Close(ArenaId::new(1)), "ok"),
+        (Cmd::Open(8, 1, level), "arena 2"),
+        (Cmd::Open(8, 1, level), "arena 3"),
+        (Cmd::Open(8, 1, level), "F04 out of numbers"),
+        (Cmd::Control(4), "control 1"),
+    ];
+    answers_to_three(&rt, rt.alloc(), &commands);
+}
+
+#[test]
+fn a_fourth_stamp_is_refused(rt: HostRuntime) {
+    let arena = ArenaId::new(1);
+    let level = Level::from_index(1);
+    let commands = [
+        (Cmd::Open(8, 1, level), "arena 1"),
+        (Cmd::Priority(arena, level), "ok"),
+        (Cmd::Priority(arena, Level::from_index(2)), "ok"),
+        (Cmd::Priority(arena, level), "F04 out of numbers"),
+        (Cmd::Open(8, 1, level), "F04 out of numbers"),
+        (Cmd::Close(arena), "ok"),
+    ];
+    answers_to_three(&rt, rt.alloc(), &commands);
+}
+
+#[test]
+fn a_fourth_control_has_no_number(rt: HostRuntime) {
+    let commands = [
+        (Cmd::Control(4), "control 1"),
+        (Cmd::Uncontrol(ControlId::new(1)), "ok"),
+        (Cmd::Control(5), "control 2"),
+        (Cmd::Control(6), "control 3"),
+        (Cmd::Control(6), "F04 out of numbers"),
+        (Cmd::Open(8, 1, Level::from_index(1)), "arena 1"),
+    ];
+    answers_to_three(&rt, rt.alloc(), &commands);
+}
+
+/// Where none is named the last number is 1,048,576.
+#[test]
+fn the_usual_last_number_is_two_to_the_twentieth(rt: HostRuntime) {
+    let Ok(market) = Market::new(rt.alloc(), 8, 64, 4, 3) else {
+        panic!(&rt; "no market");
+    };
+    assert!(&rt; market.last().get() == 1_048_576);
 }
 
 #[test]

@@ -1,8 +1,8 @@
 -- What a call that was answered does to the counts of its caller and of all.
 use Rattle.std.specs.Prelude.{slice_get}
-use Rattle.std.proofs.Common.{◌≡◌, ℕ, zero, suc, ◌+◌, ◌<◌, cond, List, [], ◌∷◌, ◌++◌, length, length-append, set, get_or, Option, Some, None, unwrap_or, is_some, refl, ap, sym, ◌∙◌}
+use Rattle.std.proofs.Common.{◌≡◌, ℕ, zero, suc, ◌+◌, ◌<◌, ◌≤◌, arith, cond, List, [], ◌∷◌, ◌++◌, length, length-append, set, get_or, Option, Some, None, unwrap_or, is_some, refl, ap, sym, ◌∙◌}
 use Rattle.std.specs.List.{count_by}
-use Rattle.std.proofs.lemmas.List.Sums.{sum_by-set}
+use Rattle.std.proofs.lemmas.List.Sums.{sum_by-cons, sum_by-set}
 use Rattle.market_types.specs.declared.command.Cmd.{Cmd}
 use Rattle.market_types.specs.declared.reply.Entry.{Entry}
 use Rattle.market_types.specs.declared.reply.Reply.{Reply}
@@ -12,6 +12,9 @@ use Rattle.market_types.specs.Step.{place_of, step}
 use Rattle.market_types.specs.History.{calls_of, state_after, place_after, place_in}
 use Rattle.edit_history.specs.Chronicled.{Chronicled, entry, market_of}
 use Rattle.edit_history.specs.Places.{placed}
+use Rattle.edit_history.specs.declared.keeping.Keeping.{Keeping}
+use Rattle.edit_history.specs.declared.keeping.Keeping.TheVariants.{Everything, InParts, Nothing}
+use Rattle.market_desk.specs.Forgetting.{forgotten}
 use Rattle.market_desk.specs.Workers.{workers_at, workers_after}
 
 -- ---- one entry more
@@ -48,6 +51,17 @@ placed-set : (s : State) (seat : ℕ) (x : Option ℕ) → seat < length s.seats
 placed-set s seat x h =
     ap (λ n. count_by is_some (set s.seats seat x) + n) (sym (one-seat (place_of s seat)) ∙ ap (λ (p : Option ℕ). cond (is_some p) 1 0) (at-get s.seats seat))
     ∙ (sum_by-set (λ (p : Option ℕ). cond (is_some p) 1 0) s.seats seat x None h ∙ ap (λ n. placed s + n) (one-seat x))
+
+-- what is not kept does not change by being told again
+pub forgotten-again : (q : Keeping) (calls cut from : ℕ) → from ≡ forgotten q calls cut → from ≡ forgotten q calls from
+forgotten-again Everything calls cut from is = is
+forgotten-again InParts calls cut from is = refl
+forgotten-again Nothing calls cut from is = is
+
+pub few-placed : (l : List (Option ℕ)) → count_by is_some l ≤ length l
+few-placed [] = omega arith
+few-placed (None ∷ ys) = omega (arith, sum_by-cons (λ (p : Option ℕ). cond (is_some p) 1 0) None ys, few-placed ys)
+few-placed (Some a ∷ ys) = omega (arith, sum_by-cons (λ (p : Option ℕ). cond (is_some p) 1 0) (Some a) ys, few-placed ys)
 
 -- ---- an answered call, by what a step does to the seats and where the seat's own entries place it
 

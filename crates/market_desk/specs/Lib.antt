@@ -1,2 +1,3 @@
 pub mod Workers
+pub mod Forgetting
 pub mod Booked

@@ -1,17 +1,20 @@
 //! The market with its history, and its book.
-ghost use Rattle.std.specs.Prelude.{◌≡◌, ℕ, ◌+◌, ◌<◌, ◌≤◌, ◌++◌, [], ◌∷◌, length, IfOk, OnOk, OnErr, IfErr, IsErrOf, IsOk};
+ghost use Rattle.std.specs.Prelude.{◌≡◌, ℕ, ◌+◌, ◌-◌, ◌<◌, ◌≤◌, ◌++◌, [], ◌∷◌, length, IfOk, OnOk, OnErr, IfErr, IsErrOf, IsOk, vec_capacity, IfSome, IfNone, OnSome, IsSome};
 ghost use Rattle.market_types.specs.Step.{step, place_of};
 ghost use Rattle.market_types.specs.History.{IsLegal, place_in};
 ghost use Rattle.market_core.specs.Moves.{Answers};
-ghost use Rattle.edit_history.specs.Chronicled.{entry, market_of};
+ghost use Rattle.edit_history.specs.Chronicled.{entry, market_of, most_forgotten};
+ghost use Rattle.edit_history.specs.Parts.{EndsWith};
 ghost use Rattle.edit_history.specs.Places.{takes, placed, LacksPlaces};
 ghost use Rattle.edit_history.specs.declared.fault.CallFault.TheVariants.{HistoryFull};
+ghost use Rattle.edit_history.specs.declared.keeping.Keeping.TheVariants.{InParts};
 ghost use Rattle.worker_ledger.specs.Counted.{nothing, most_counted};
 ghost use Rattle.market_desk.specs.Workers.{workers_at, workers_after, MayGet};
+ghost use Rattle.market_desk.specs.Forgetting.{forgotten};
 
-use edit_history::{CallFault, Chronicle, own_entries_place_a_seat};
+use edit_history::{CallFault, Chronicle, Keeping, Part, own_entries_place_a_seat};
 use market_core::a_call_moves_its_own_seat;
-use market_types::{Cmd, Reply, SeatNo};
+use market_types::{Cmd, Entry, Reply, SeatNo};
 use std::alloc::Global;
 use std::marker::Model;
 use std::sync::ledger::Ledger;
@@ -37,7 +40,7 @@ impl<C: Ledger, W: Ledger> Model for Desk<C, W> {
 }
 
 impl<C: Ledger, W: Ledger> Desk<C, W> {
-    /// A desk of a new chronicle and a new book, whose shares are dealt apart. It takes no memory.
+    /// A desk of a new chronicle, recorded or not, and a new book, whose shares are dealt apart. It takes no memory.
     pub fn new(chronicle: Chronicle, book: Book<C, W>) -> Self
         requires begun { chronicle.log ≡ [] }
         requires whole { chronicle.from ≡ 0 }
@@ -52,7 +55,7 @@ impl<C: Ledger, W: Ledger> Desk<C, W> {
     /// a worker that comes where the seat is placed, and goes where it is recalled or leaves. `HistoryFull`, where free places
     /// lack, and then `Memory` are as there: nothing is then changed, recorded or counted. A Leave by a placed seat takes no
     /// memory and always succeeds. The seat is one that the market has, and the share is its caller's: it has a worker
-    /// exactly where the seat's own entries place it.
+    /// exactly where the seat's own entries place it. An unrecorded chronicle forgets the entry at once.
     pub fn serve(
         &mut self,
         alloc: Global,
@@ -74,7 +77,9 @@ impl<C: Ledger, W: Ledger> Desk<C, W> {
         ensures leave { takes (place_in seat self.old.log) cmd ≡ 0 → IsOk result }
         ensures start { self.new.start ≡ self.old.start }
         ensures places { self.new.places ≡ self.old.places }
-        ensures from { self.new.from ≡ self.old.from }
+        ensures from { self.new.from ≡ forgotten self.new.keeping (length self.new.log) self.old.from }
+        ensures found_from { self.old.from ≡ forgotten self.old.keeping (length self.old.log) self.old.from }
+        ensures keeping { self.new.keeping ≡ self.old.keeping }
         ensures found { IsLegal self.old.start self.old.log }
         ensures legal { IsLegal self.new.start self.new.log }
     {
@@ -83,7 +88,30 @@ impl<C: Ledger, W: Ledger> Desk<C, W> {
         let reply = self.chronicle.call(alloc, seat, cmd)?;
         facts_of(&self.chronicle);
         count_reply(&mut self.book, share, &reply);
+        forget_unkept(&mut self.chronicle);
         Ok(reply)
+    }
+
+    /// Takes out the entries that are kept, as `Chronicle::cut` does, where they are to be kept in parts; else the answer is
+    /// `None`. Nothing is then changed, and nothing is counted either way.
+    pub fn cut(&mut self, spare: Vec<Entry>) -> Option<Part>
+        ensures part { IfSome result (λ part. EndsWith self.old.log part.from part.entries.items) }
+        ensures from { IfSome result (λ part. part.from ≡ self.old.from) }
+        ensures cut { OnSome result (self.new ≡ record self.old { from = length self.old.log }) }
+        ensures unchanged { IfNone result (self.new ≡ self.old) }
+        ensures in_parts { OnSome result (self.old.keeping ≡ InParts) }
+        ensures room { OnSome result (placed (market_of self.old) ≤ vec_capacity spare) }
+        ensures countable { OnSome result (length self.old.log ≤ most_forgotten) }
+        ensures served { self.old.keeping ≡ InParts → placed (market_of self.old) ≤ vec_capacity spare → length self.old.log ≤ most_forgotten → IsSome result }
+        ensures found { self.old.from ≤ length self.old.log }
+        ensures few { placed (market_of self.old) ≤ length self.old.start.seats }
+        ensures legal { IsLegal self.old.start self.old.log }
+    {
+        facts_of(&self.chronicle);
+        match self.chronicle.keeping() {
+            Keeping::InParts => self.chronicle.cut(spare),
+            Keeping::Everything | Keeping::Nothing => None,
+        }
     }
 
     /// The market with its history, as it stands.
@@ -100,6 +128,7 @@ impl<C: Ledger, W: Ledger> Desk<C, W> {
         ensures calls { result.1.calls ≡ length self.log }
         ensures workers { result.1.workers ≡ placed (market_of self) }
         ensures legal { IsLegal self.start self.log }
+        ensures from { self.from ≡ forgotten self.keeping (length self.log) self.from }
     {
         let Desk { chronicle, book } = self;
         facts_of(&chronicle);
@@ -115,7 +144,9 @@ fn facts_of(chronicle: &Chronicle)
         → place_of (market_of chronicle.now) seat ≡ place_in seat chronicle.now.log }
     ensures seats { length (market_of chronicle.now).seats ≡ length chronicle.now.start.seats }
     ensures few_seats { length chronicle.now.start.seats ≤ 64 }
-    ensures few_calls { length chronicle.now.log ≤ chronicle.now.from + 1048576 }
+    ensures few_calls { length chronicle.now.log ≤ most_counted }
+    ensures kept { chronicle.now.from ≤ length chronicle.now.log }
+    ensures few_placed { placed (market_of chronicle.now) ≤ length chronicle.now.start.seats }
     ensures unplaced { chronicle.now.log ≡ [] → placed (market_of chronicle.now) ≡ 0 }
 {
     own_entries_place_a_seat();
@@ -138,5 +169,18 @@ fn count_reply<C: Ledger, W: Ledger>(book: &mut Book<C, W>, share: &mut Share<C,
         Reply::Placed(_) => book.enter(share),
         Reply::Recalled(_) | Reply::Left(_) => book.exit(share),
         _ => {}
+    }
+}
+
+/// Forgets the entry of the last call, where none is to be kept.
+fn forget_unkept(chronicle: &mut Chronicle)
+    requires called { 0 < length chronicle.old.log }
+    requires before { chronicle.old.from ≡ forgotten chronicle.old.keeping (length chronicle.old.log - 1) chronicle.old.from }
+    ensures same { chronicle.new ≡ record chronicle.old { from = chronicle.new.from } }
+    ensures from { chronicle.new.from ≡ forgotten chronicle.new.keeping (length chronicle.new.log) chronicle.old.from }
+{
+    match chronicle.keeping() {
+        Keeping::Everything | Keeping::InParts => {}
+        Keeping::Nothing => chronicle.forget(),
     }
 }

@@ -129,6 +129,75 @@ fn a_worker_that_stays_is_counted(rt: HostRuntime) {
     assert!(&rt; counted == (3, totals));
 }
 
+/// A desk of one seat and four places that is kept in parts, or not: its caller joins, the entries are cut out, and it leaves.
+/// How many entries were cut out, and what the book has at the end.
+fn cut_and_left<C: Ledger, W: Ledger>(
+    rt: &impl Abort,
+    alloc: Global,
+    calls: Blank,
+    workers: Blank,
+    in_parts: bool,
+) -> (Option<usize>, Totals)
+    requires calls { calls.name ≡ C.name }
+    requires calls_parts { (calls.parts ≡ C.parts) × (C.parts ≡ 1) }
+    requires workers { workers.name ≡ W.name }
+    requires workers_parts { (workers.parts ≡ W.parts) × (W.parts ≡ 1) }
+{
+    let opened = if in_parts {
+        Chronicle::new_in_parts(alloc, 8, 64, 1, 4, 3)
+    } else {
+        Chronicle::new(alloc, 8, 64, 1, 4, 3)
+    };
+    let Ok(chronicle) = opened else {
+        panic!(rt; "no chronicle");
+    };
+    let Ok((book, mut shares)) = Book::<C, W>::new(alloc, 1, calls, workers) else {
+        panic!(rt; "no book");
+    };
+    let Ok(spare) = Vec::with_capacity(alloc, 1) else {
+        panic!(rt; "no spare");
+    };
+    let mut desk = Desk::new(chronicle, book);
+    let share = &mut shares.as_mut_slice()[0];
+    join(rt, &mut desk, share, alloc);
+    let part = desk.cut(spare);
+    let left = answer(&mut desk, share, alloc, &Cmd::Leave);
+    assert!(rt; matches!(&left, Ok(Reply::Left(arena)) if arena.get() == 1));
+    assert!(rt; desk.chronicle().len() == 4);
+    let (_chronicle, book) = desk.into_parts();
+    let entries = match &part {
+        Some(part) => Some(part.entries.len()),
+        None => None,
+    };
+    (entries, book.gather(shares))
+}
+
+#[test]
+fn a_desk_that_is_kept_in_parts_is_cut(rt: HostRuntime) {
+    let totals = Totals {
+        calls: 4,
+        workers: 0,
+    };
+    let counted = cut_and_left::<Brand, Brand>(&rt, rt.alloc(), Blank::new(1), Blank::new(1), true);
+    assert!(&rt; counted == (Some(3), totals));
+}
+
+#[test]
+fn another_desk_is_not_cut(rt: HostRuntime) {
+    let totals = Totals {
+        calls: 4,
+        workers: 0,
+    };
+    let counted = cut_and_left::<Brand, Brand>(
+        &rt,
+        rt.alloc(),
+        Blank::new(1),
+        Blank::new(1),
+        false,
+    );
+    assert!(&rt; counted == (None, totals));
+}
+
 /// What seat 0 is answered, asked for again where there was no memory: then nothing had changed, and nothing was counted.
 fn answer_at_last<C: Ledger, W: Ledger>(
     rt: &impl Abort,
@@ -214,4 +283,74 @@ fn a_granted_growth_is_counted(rt: HostRuntime) {
         workers: 0,
     };
     assert!(&rt; counted == Some(totals));
+}
+
+/// Seat 0 joins and leaves so many times. It is never told that the history is full.
+fn visits<C: Ledger, W: Ledger>(
+    rt: &impl Abort,
+    desk: &mut Desk<C, W>,
+    share: &mut Share<C, W>,
+    alloc: Global,
+    times: u32,
+)
+    requires worker { share.old.workers ≡ workers_at (place_in 0 desk.old.log) }
+{
+    for _ in 0..times {
+        let joined = answer(desk, share, alloc, &Cmd::Join);
+        assert!(rt; matches!(&joined, Ok(Reply::Placed(arena)) if arena.get() == 1));
+        let left = answer(desk, share, alloc, &Cmd::Leave);
+        assert!(rt; matches!(&left, Ok(Reply::Left(arena)) if arena.get() == 1));
+        assert!(rt; desk.chronicle().free() == 3);
+    }
+}
+
+/// An unrecorded desk of one seat, whose caller joins and leaves so many times: how many calls it counts, and how many the
+/// book has.
+fn unrecorded<C: Ledger, W: Ledger>(
+    rt: &impl Abort,
+    alloc: Global,
+    calls: Blank,
+    workers: Blank,
+    times: u32,
+) -> (u64, Totals)
+    requires calls { calls.name ≡ C.name }
+    requires calls_parts { (calls.parts ≡ C.parts) × (C.parts ≡ 1) }
+    requires workers { workers.name ≡ W.name }
+    requires workers_parts { (workers.parts ≡ W.parts) × (W.parts ≡ 1) }
+{
+    let Ok(chronicle) = Chronicle::new_unrecorded(alloc, 8, 64, 1, 3) else {
+        panic!(rt; "no chronicle");
+    };
+    let Ok((book, mut shares)) = Book::<C, W>::new(alloc, 1, calls, workers) else {
+        panic!(rt; "no book");
+    };
+    let mut desk = Desk::new(chronicle, book);
+    let share = &mut shares.as_mut_slice()[0];
+    let told = answer(
+        &mut desk,
+        share,
+        alloc,
+        &Cmd::Open(8, 1, Level::from_index(1)),
+    );
+    assert!(rt; matches!(&told, Ok(Reply::Opened(arena)) if arena.get() == 1));
+    let told = answer(
+        &mut desk,
+        share,
+        alloc,
+        &Cmd::Request(ArenaId::new(1), 1, 0),
+    );
+    assert!(rt; matches!(&told, Ok(Reply::Requested(1))));
+    visits(rt, &mut desk, share, alloc, times);
+    let (chronicle, book) = desk.into_parts();
+    (chronicle.len(), book.gather(shares))
+}
+
+#[test]
+fn an_unrecorded_desk_counts_each_call_and_is_never_full(rt: HostRuntime) {
+    let counted = unrecorded::<Brand, Brand>(&rt, rt.alloc(), Blank::new(1), Blank::new(1), 10_000);
+    let totals = Totals {
+        calls: 20_002,
+        workers: 0,
+    };
+    assert!(&rt; counted == (20_002, totals));
 }

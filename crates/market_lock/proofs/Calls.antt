@@ -1,7 +1,7 @@
--- What one call leaves: the desk was found after the history `log`, and `e` is given back.
-use Rattle.std.proofs.Common.{◌≡◌, ℕ, ◌<◌, List, [], ◌∷◌, ◌++◌, length, get_or, refl, ap, sym, ◌∙◌, subst, arith, length-append, Result, Ok, Err, Option, None, false}
+-- What one call leaves: the desk was found after the history `log`, of which so many entries were not kept, and `e` is given back.
+use Rattle.std.proofs.Common.{◌≡◌, ◌≢◌, ℕ, ◌<◌, ◌≤◌, List, [], ◌∷◌, ◌++◌, length, get_or, refl, ap, sym, ◌∙◌, subst, arith, length-append, Result, Ok, Err, Option, Some, None, false}
 use Rattle.std.proofs.lemmas.List.{length-replicate}
-use Rattle.std.specs.Prelude.{IfOk, IfErr, IsOk}
+use Rattle.std.specs.Prelude.{IfOk, IfErr, IsOk, IfSome, OnSome, IsSome}
 use mathlib.Core.List.{IsPrefix}
 use Rattle.atomic_table.specs.Table.{Me}
 use Rattle.atomic_table.specs.Seated.{TableId}
@@ -12,93 +12,123 @@ use Rattle.market_types.specs.State.{State}
 use Rattle.market_types.specs.Commands.{moves_seat}
 use Rattle.market_types.specs.History.{IsLegal, of_seat, place_after, place_in}
 use Rattle.market_core.specs.Moves.{Answers}
-use Rattle.edit_history.specs.Chronicled.{Chronicled, entry}
+use Rattle.edit_history.specs.Chronicled.{Chronicled, entry, most_forgotten}
+use Rattle.edit_history.specs.Parts.{EndsWith}
 use Rattle.edit_history.specs.Places.{takes, LacksPlaces}
+use Rattle.edit_history.specs.declared.part.Part.{Part}
 use Rattle.edit_history.specs.declared.fault.CallFault.{CallFault}
+use Rattle.edit_history.specs.declared.keeping.Keeping.{Keeping}
+use Rattle.edit_history.specs.declared.keeping.Keeping.TheVariants.{Everything, InParts, Nothing}
 use Rattle.worker_ledger.specs.Counted.{Counted}
 use Rattle.market_desk.specs.Workers.{own_place, workers_at}
+use Rattle.market_desk.specs.Forgetting.{forgotten}
 use Rattle.market_lock.specs.declared.view.Known.{Known}
 use Rattle.market_lock.specs.declared.view.View.{View}
 use Rattle.market_lock.specs.declared.view.View.TheVariants.{Idle, Holder}
-use Rattle.market_lock.specs.Views.{opening_of, chronicle_of, shown}
+use Rattle.market_lock.specs.Views.{opening_of, chronicle_from, chronicle_cut, shown}
 use Rattle.market_lock.specs.Rule.{Follows}
-use Rattle.market_lock.specs.Serving.{Serves, MayServe}
-use Rattle.market_lock.specs.Held.{HasTaken, HasDesk, HoldsDesk, HasGiven}
-use Rattle.market_lock.specs.Seen.{known_of, pass_of, Extends, IsTicket}
+use Rattle.market_lock.specs.Serving.{Serves, MayServe, Cuts}
+use Rattle.market_lock.specs.Held.{HasTaken, HasDesk, HoldsDesk, HasGiven, HasPart, IsSeenCut}
+use Rattle.market_lock.specs.Seen.{known_of, pass_of, Extends, Looks, IsTicket}
 use Rattle.market_lock.specs.Moves.{Fails}
 use Rattle.market_lock.proofs.Entries.{of-own, of-other, own_place-longer, unmoved}
 use Rattle.market_lock.proofs.Fronts.{prefix_self}
 
-pub record Served (k : Known) (number : ℕ) (cmd : Cmd) (r : Result Reply CallFault) (log : List Entry) (e : Chronicled) (s t : Counted) : Type 0 where
+-- what is not kept is not kept later either
+forgotten-later : (q : Keeping) (m n from : ℕ) → m ≤ n → from ≡ forgotten q m from → from ≤ forgotten q n from
+forgotten-later Everything m n from h e = omega (arith, e)
+forgotten-later InParts m n from h e = omega arith
+forgotten-later Nothing m n from h e = omega (arith, e, h)
+
+pub record Served (k : Known) (number : ℕ) (cmd : Cmd) (r : Result Reply CallFault) (log : List Entry) (from : ℕ) (e : Chronicled) (s t : Counted) : Type 0 where
   pub ticket : IsTicket k number s
   pub front : IsPrefix k.seen log
   pub own : of_seat k.seat log ≡ k.mine
-  pub did : Serves k.seat cmd r (chronicle_of k.terms log) e s t
+  pub later : k.from ≤ from
+  pub did : Serves k.seat cmd r (chronicle_from k.terms log from) e s t
 
-module _ (k : Known) (number : ℕ) (cmd : Cmd) (log : List Entry) (e : Chronicled) (a b : Counted) where
+module _ (k : Known) (number : ℕ) (cmd : Cmd) (log : List Entry) (from : ℕ) (e : Chronicled) (a b : Counted) where
   -- what is given back is the chronicle after its history
-  back : (r : Result Reply CallFault) → Served k number cmd r log e a b → e ≡ chronicle_of k.terms e.log
-  back r s = λ i. record { start = s.did.start i; log = e.log; places = s.did.places i; from = s.did.from i }
+  back : (r : Result Reply CallFault) → Served k number cmd r log from e a b → e ≡ chronicle_from k.terms e.log e.from
+  back r s = λ i. record { start = s.did.start i; log = e.log; places = s.did.places i; from = e.from; keeping = s.did.keeping i }
 
-  same_log : (f : CallFault) → Served k number cmd (Err f) log e a b → e.log ≡ log
+  same_log : (f : CallFault) → Served k number cmd (Err f) log from e a b → e.log ≡ log
   same_log f s = ap (λ (c : Chronicled). c.log) s.did.done.0
 
-  pub follows : (r : Result Reply CallFault) → Served k number cmd r log e a b → Follows (shown k log) e.log
-  follows (Ok x) s = (
-    (entry k.seat cmd x ∷ [], sym s.did.done.1),
-    λ n ne. ap (of_seat n) s.did.done.1 ∙ of-other k.seat n cmd x log (λ h. ne (sym h)),
-  )
-  follows (Err f) s = (
-    subst (λ (l : List Entry). IsPrefix log l) (sym (same_log f s)) (prefix_self log),
-    λ n ne. ap (of_seat n) (same_log f s),
-  )
+  goes_on : (r : Result Reply CallFault) → Served k number cmd r log from e a b → IsPrefix log e.log
+  goes_on (Ok x) s = (entry k.seat cmd x ∷ [], sym s.did.done.1)
+  goes_on (Err f) s = subst (λ (l : List Entry). IsPrefix log l) (sym (same_log f s)) (prefix_self log)
 
-  own_after : (x : Reply) → Served k number cmd (Ok x) log e a b → of_seat k.seat e.log ≡ k.mine ++ entry k.seat cmd x ∷ []
+  strangers : (r : Result Reply CallFault) → Served k number cmd r log from e a b → (n : ℕ) → n ≢ k.seat → of_seat n e.log ≡ of_seat n log
+  strangers (Ok x) s = λ n ne. ap (of_seat n) s.did.done.1 ∙ of-other k.seat n cmd x log (λ h. ne (sym h))
+  strangers (Err f) s = λ n ne. ap (of_seat n) (same_log f s)
+
+  -- no entry is kept again
+  kept_less : (r : Result Reply CallFault) → Served k number cmd r log from e a b → from ≤ e.from
+  kept_less r s =
+      let go = goes_on r s in
+      let longer : length log ≤ length e.log = omega (arith, ap length go.1, length-append log go.0) in
+      let was : from ≡ forgotten e.keeping (length log) from = s.did.found_from ∙ ap (λ (q : Keeping). forgotten q (length log) from) (sym s.did.keeping) in
+      let more = forgotten-later e.keeping (length log) (length e.log) from longer was in
+      omega (arith, more, s.did.from)
+
+  pub follows : (r : Result Reply CallFault) → Served k number cmd r log from e a b → Follows (shown k log from) e.log e.from
+  follows r s = (goes_on r s, strangers r s, kept_less r s)
+
+  pub later : (r : Result Reply CallFault) → Served k number cmd r log from e a b → k.from ≤ e.from
+  later r s = omega (arith, s.later, kept_less r s)
+
+  own_after : (x : Reply) → Served k number cmd (Ok x) log from e a b → of_seat k.seat e.log ≡ k.mine ++ entry k.seat cmd x ∷ []
   own_after x s = ap (of_seat k.seat) s.did.done.1 ∙ (of-own k.seat cmd x log ∙ ap (λ l. l ++ entry k.seat cmd x ∷ []) s.own)
 
-  own_same : (f : CallFault) → Served k number cmd (Err f) log e a b → of_seat k.seat e.log ≡ k.mine
+  own_same : (f : CallFault) → Served k number cmd (Err f) log from e a b → of_seat k.seat e.log ≡ k.mine
   own_same f s = ap (of_seat k.seat) (same_log f s) ∙ s.own
 
   -- the seat is where its own entries left it
-  here : (r : Result Reply CallFault) → Served k number cmd r log e a b → place_in k.seat log ≡ own_place k.mine
+  here : (r : Result Reply CallFault) → Served k number cmd r log from e a b → place_in k.seat log ≡ own_place k.mine
   here r s = ap own_place s.own
 
-  legal_after : (r : Result Reply CallFault) → Served k number cmd r log e a b → IsLegal (opening_of k.terms) e.log
+  legal_after : (r : Result Reply CallFault) → Served k number cmd r log from e a b → IsLegal (opening_of k.terms) e.log
   legal_after r s = subst (λ (o : State). IsLegal o e.log) s.did.start s.did.legal
 
-  pub extends : (t u : TableId) (r : Result Reply CallFault) → Served k number cmd r log e a b → IfOk r (λ x. Extends (pass_of t k) cmd x (pass_of u (shown k e.log)))
+  pub extends : (t u : TableId) (r : Result Reply CallFault) → Served k number cmd r log from e a b → IfOk r (λ x. Extends (pass_of t k) cmd x (pass_of u (shown k e.log e.from)))
   extends t u (Ok x) s =
       let mine = own_after x s in
       (s.front.0, s.did.done.1 ∙ ap (λ l. l ++ entry k.seat cmd x ∷ []) (sym s.front.1), mine, mine)
   extends t u (Err f) s = tt
 
-  pub fails : (t u : TableId) → u ≡ t → (r : Result Reply CallFault) → Served k number cmd r log e a b → IfErr r (λ f. Fails (pass_of t k) cmd f (pass_of u (shown k e.log)))
+  -- the desk is given back as it was found
+  as_found : (f : CallFault) → Served k number cmd (Err f) log from e a b → chronicle_cut k.terms e.log e.from ≡ chronicle_from k.terms log from
+  as_found f s = ap (λ (c : Chronicled). chronicle_cut k.terms c.log c.from) s.did.done.0 ∙ ap (chronicle_from k.terms log) (sym s.did.found_from)
+
+  pub fails : (t u : TableId) → u ≡ t → (r : Result Reply CallFault) → Served k number cmd r log from e a b → IfErr r (λ f. Fails (pass_of t k) cmd f (pass_of u (shown k e.log e.from)))
   fails t u same (Ok x) s = tt
   fails t u same (Err f) s = (
     (same, refl, refl),
     legal_after (Err f) s,
     (subst (λ (l : List Entry). IsPrefix k.seen l) (sym (same_log f s)) s.front, own_same f s, refl),
-    (λ is. subst (λ (l : List Entry). LacksPlaces (chronicle_of k.terms l) k.seat cmd) (sym (same_log f s)) (s.did.done.2 is)),
-    (λ lacks. s.did.done.3 (subst (λ (l : List Entry). LacksPlaces (chronicle_of k.terms l) k.seat cmd) (same_log f s) lacks)),
+    (λ is. subst (λ (c : Chronicled). LacksPlaces c k.seat cmd) (sym (as_found f s)) (s.did.done.2 is)),
+    (λ lacks. s.did.done.3 (subst (λ (c : Chronicled). LacksPlaces c k.seat cmd) (as_found f s) lacks)),
+    later (Err f) s,
   )
 
-  pub answers : (r : Result Reply CallFault) → Served k number cmd r log e a b → IfOk r (λ x. Answers (own_place k.mine) cmd x)
+  pub answers : (r : Result Reply CallFault) → Served k number cmd r log from e a b → IfOk r (λ x. Answers (own_place k.mine) cmd x)
   answers (Ok x) s = subst (λ (p : Option ℕ). Answers p cmd x) (here (Ok x) s) s.did.done.0
   answers (Err f) s = tt
 
-  pub never : (r : Result Reply CallFault) → Served k number cmd r log e a b → takes (own_place k.mine) cmd ≡ 0 → IsOk r
+  pub never : (r : Result Reply CallFault) → Served k number cmd r log from e a b → takes (own_place k.mine) cmd ≡ 0 → IsOk r
   never (Ok x) s free = refl
   never (Err f) s free = absurd (s.did.done.4 (ap (λ p. takes p cmd) (here (Err f) s) ∙ free))
 
-  pub moved : (r : Result Reply CallFault) → Served k number cmd r log e a b → IfOk r (λ x. own_place (of_seat k.seat e.log) ≡ place_after (own_place k.mine) x)
+  pub moved : (r : Result Reply CallFault) → Served k number cmd r log from e a b → IfOk r (λ x. own_place (of_seat k.seat e.log) ≡ place_after (own_place k.mine) x)
   moved (Ok x) s = ap own_place (own_after x s) ∙ own_place-longer k.mine (entry k.seat cmd x)
   moved (Err f) s = tt
 
-  pub still : (r : Result Reply CallFault) → Served k number cmd r log e a b → moves_seat cmd ≡ false → own_place (of_seat k.seat e.log) ≡ own_place k.mine
+  pub still : (r : Result Reply CallFault) → Served k number cmd r log from e a b → moves_seat cmd ≡ false → own_place (of_seat k.seat e.log) ≡ own_place k.mine
   still (Ok x) s quiet = moved (Ok x) s ∙ unmoved cmd (own_place k.mine) x quiet (answers (Ok x) s)
   still (Err f) s quiet = ap own_place (own_same f s)
 
-  counted : (r : Result Reply CallFault) → Served k number cmd r log e a b → b.calls ≡ length (of_seat k.seat e.log)
+  counted : (r : Result Reply CallFault) → Served k number cmd r log from e a b → b.calls ≡ length (of_seat k.seat e.log)
   counted (Ok x) s =
       let long = ap length (own_after x s) in
       let more = length-append k.mine (entry k.seat cmd x ∷ []) in
@@ -108,7 +138,7 @@ module _ (k : Known) (number : ℕ) (cmd : Cmd) (log : List Entry) (e : Chronicl
   counted (Err f) s = ap (λ (z : Counted). z.calls) s.did.done.1 ∙ (s.ticket.calls ∙ ap length (sym (own_same f s)))
 
   -- what the ticket then keeps
-  pub keeps_ticket : (r : Result Reply CallFault) → Served k number cmd r log e a b → IsTicket (shown k e.log) number b
+  pub keeps_ticket : (r : Result Reply CallFault) → Served k number cmd r log from e a b → IsTicket (shown k e.log e.from) number b
   keeps_ticket r s =
       record {
         number_is = s.ticket.number_is;
@@ -119,6 +149,70 @@ module _ (k : Known) (number : ℕ) (cmd : Cmd) (log : List Entry) (e : Chronicl
         workers = s.did.workers;
       }
 
+-- ---- a cut: the desk was found after the history `log`, of which so many entries were not kept, and `e` is given back
+
+pub record CutOff (k : Known) (number room : ℕ) (r : Option Part) (log : List Entry) (from : ℕ) (e : Chronicled) (s : Counted) : Type 0 where
+  pub ticket : IsTicket k number s
+  pub front : IsPrefix k.seen log
+  pub own : of_seat k.seat log ≡ k.mine
+  pub later : k.from ≤ from
+  pub did : Cuts room r (chronicle_from k.terms log from) e
+
+module _ (k : Known) (number room : ℕ) (log : List Entry) (from : ℕ) (e : Chronicled) (s : Counted) where
+  -- where the entries are kept from then on
+  abbrev cut_end : Option Part → ℕ
+  cut_end (Some part) = length log
+  cut_end None = from
+
+  cut_is : (r : Option Part) → CutOff k number room r log from e s → e ≡ chronicle_from k.terms log (cut_end r)
+  cut_is (Some part) o = o.did.out.2
+  cut_is None o = o.did.out.0
+
+  pub cut_log : (r : Option Part) → CutOff k number room r log from e s → e.log ≡ log
+  cut_log r o = ap (λ (c : Chronicled). c.log) (cut_is r o)
+
+  cut_back : (r : Option Part) → CutOff k number room r log from e s → e ≡ chronicle_from k.terms e.log e.from
+  cut_back r o = subst (λ (c : Chronicled). c ≡ chronicle_from k.terms c.log c.from) (sym (cut_is r o)) refl
+
+  cut_later : (r : Option Part) → CutOff k number room r log from e s → from ≤ e.from
+  cut_later (Some part) o = omega (arith, ap (λ (c : Chronicled). c.from) o.did.out.2, o.did.found)
+  cut_later None o = omega (arith, ap (λ (c : Chronicled). c.from) o.did.out.0)
+
+  cut_follows : (r : Option Part) → CutOff k number room r log from e s → Follows (shown k log from) e.log e.from
+  cut_follows r o = (subst (λ (l : List Entry). IsPrefix log l) (sym (cut_log r o)) (prefix_self log), λ n ne. ap (of_seat n) (cut_log r o), cut_later r o)
+
+  cut_own : (r : Option Part) → CutOff k number room r log from e s → of_seat k.seat e.log ≡ k.mine
+  cut_own r o = ap (of_seat k.seat) (cut_log r o) ∙ o.own
+
+  cut_looks : (t u : TableId) (r : Option Part) → CutOff k number room r log from e s → Looks (pass_of t k) (pass_of u (shown k e.log e.from))
+  cut_looks t u r o = (subst (λ (l : List Entry). IsPrefix k.seen l) (sym (cut_log r o)) o.front, cut_own r o, refl)
+
+  cut_legal : (r : Option Part) → CutOff k number room r log from e s → IsLegal (opening_of k.terms) e.log
+  cut_legal r o = subst (λ (l : List Entry). IsLegal (opening_of k.terms) l) (sym (cut_log r o)) o.did.legal
+
+  cut_ticket : (r : Option Part) → CutOff k number room r log from e s → IsTicket (shown k e.log e.from) number s
+  cut_ticket r o = record {
+    number_is = o.ticket.number_is;
+    small = o.ticket.small;
+    legal = cut_legal r o;
+    own = refl;
+    calls = o.ticket.calls ∙ ap length (sym (cut_own r o));
+    workers = o.ticket.workers ∙ ap (λ own. workers_at (own_place own)) (sym (cut_own r o));
+  }
+
+  -- what the caller is told
+  cut_told : (r : Option Part) → CutOff k number room r log from e s → HasPart k (shown k e.log e.from) room r
+  cut_told (Some part) o = (
+    subst (λ (l : List Entry). EndsWith l part.from part.entries.items) (sym (cut_log (Some part) o)) o.did.out.0,
+    omega (arith, o.later, o.did.out.1),
+    ap (λ (c : Chronicled). c.from) o.did.out.2 ∙ ap length (sym (cut_log (Some part) o)),
+    o.did.out.3,
+    omega (arith, o.did.out.4, ap length (cut_log (Some part) o)),
+  )
+  cut_told None o = λ keeps roomy few.
+      let seats : length (opening_of k.terms).seats ≡ k.terms.seats = length-replicate k.terms.seats None in
+      o.did.out.1 keeps (omega (arith, o.did.few, seats, roomy)) (omega (arith, few, ap length (cut_log None o)))
+
 -- ---- the three steps of a call
 abbrev M : Type 0
 M = Me Chronicled View
@@ -127,67 +221,145 @@ M = Me Chronicled View
 pub may_serve : (m0 m1 : M) (number : ℕ) (a : Counted) → IsTicket (known_of m0.0) number a → HasTaken m0 m1 → HasDesk m1 (λ d. MayServe number d a)
 may_serve m0 m1 number a ticket t =
     let k : Known = known_of m0.0 in
-    let d : Chronicled = chronicle_of k.terms t.0 in
+    let d : Chronicled = chronicle_from k.terms t.0 t.1 in
     let long : length d.start.seats ≡ k.terms.seats = length-replicate k.terms.seats None in
     let room : number < length d.start.seats = omega (arith, long, ticket.small, ticket.number_is) in
-    let own : place_in number d.log ≡ own_place k.mine = ap (λ n. place_in n d.log) (sym ticket.number_is) ∙ ap own_place t.3 in
-    (d, t.1 ∙ ap (λ (v : View). (v, (0, d) ∷ [])) (sym (ap (λ (m : M). m.0) t.1)), (room, ticket.workers ∙ ap workers_at (sym own)))
+    let own : place_in number d.log ≡ own_place k.mine = ap (λ n. place_in n d.log) (sym ticket.number_is) ∙ ap own_place t.4 in
+    (d, t.2 ∙ ap (λ (v : View). (v, (0, d) ∷ [])) (sym (ap (λ (m : M). m.0) t.2)), (room, ticket.workers ∙ ap workers_at (sym own)))
 
 pub record After (k : Known) (number : ℕ) (cmd : Cmd) (r : Result Reply CallFault) (a b : Counted) (m : M) : Type 0 where
   pub log : List Entry
+  pub from : ℕ
   pub e : Chronicled
-  pub served : Served k number cmd r log e a b
-  pub holds : m ≡ (Holder (shown k log), (0, e) ∷ [])
+  pub served : Served k number cmd r log from e a b
+  pub holds : m ≡ (Holder (shown k log from), (0, e) ∷ [])
 
 pub served_by : (m0 m1 m2 : M) (number : ℕ) (cmd : Cmd) (r : Result Reply CallFault) (a b : Counted) → IsTicket (known_of m0.0) number a → HasTaken m0 m1 → m2.0 ≡ m1.0
     → HasDesk m1 (λ d. HasDesk m2 (λ e. Serves number cmd r d e a b)) → After (known_of m0.0) number cmd r a b m2
 served_by m0 m1 m2 number cmd r a b ticket t view v =
     let k : Known = known_of m0.0 in
-    let d : Chronicled = chronicle_of k.terms t.0 in
+    let d : Chronicled = chronicle_from k.terms t.0 t.1 in
     let e : Chronicled = v.2.0 in
-    let same : v.0 ≡ d = ap (λ (m : M). (get_or m.1 0 (0, d)).1) (sym v.1 ∙ t.1) in
+    let same : v.0 ≡ d = ap (λ (m : M). (get_or m.1 0 (0, d)).1) (sym v.1 ∙ t.2) in
     record {
       log = t.0;
+      from = t.1;
       e = e;
       served = record {
         ticket = ticket;
-        front = t.2;
-        own = t.3;
+        front = t.3;
+        own = t.4;
+        later = t.5;
         did = subst (λ (z : ℕ × Chronicled). Serves z.0 cmd r z.1 e a b) (λ i. (sym ticket.number_is i, same i)) v.2.2;
       };
-      holds = v.2.1 ∙ ap (λ (x : View). (x, (0, e) ∷ [])) (view ∙ ap (λ (m : M). m.0) t.1);
+      holds = v.2.1 ∙ ap (λ (x : View). (x, (0, e) ∷ [])) (view ∙ ap (λ (m : M). m.0) t.2);
     }
 
 module _ (k : Known) (number : ℕ) (cmd : Cmd) (r : Result Reply CallFault) (a b : Counted) (m : M) (o : After k number cmd r a b m) where
-  given_back : m ≡ (Holder (shown k o.log), (0, chronicle_of k.terms o.e.log) ∷ [])
-  given_back = o.holds ∙ ap (λ (c : Chronicled). (Holder (shown k o.log), (0, c) ∷ [])) (back k number cmd o.log o.e a b r o.served)
+  given_back : m ≡ (Holder (shown k o.log o.from), (0, chronicle_from k.terms o.e.log o.e.from) ∷ [])
+  given_back = o.holds ∙ ap (λ (c : Chronicled). (Holder (shown k o.log o.from), (0, c) ∷ [])) (back k number cmd o.log o.from o.e a b r o.served)
 
   pub may_give : HoldsDesk m Follows
-  may_give = subst (λ (x : M). HoldsDesk x Follows) (sym given_back) (o.e.log, refl, follows k number cmd o.log o.e a b r o.served)
+  may_give = subst (λ (x : M). HoldsDesk x Follows) (sym given_back) (o.e.log, o.e.from, refl, follows k number cmd o.log o.from o.e a b r o.served)
 
-  pub gave : (n : M) → HasGiven m n → n ≡ (Idle (shown k o.e.log), [])
+  pub gave : (n : M) → HasGiven m n → n ≡ (Idle (shown k o.e.log o.e.from), [])
   gave n h =
-      let same : h.0 ≡ o.e.log = ap (λ (x : M). (get_or x.1 0 (0, o.e)).1.log) (sym h.1 ∙ given_back) in
-      let knew : known_of m.0 ≡ shown k o.log = ap (λ (x : M). known_of x.0) o.holds in
-      h.2 ∙ (λ i. (Idle (shown (knew i) (same i)), []))
+      let same : h.0 ≡ o.e.log = ap (λ (x : M). (get_or x.1 0 (0, o.e)).1.log) (sym h.2 ∙ given_back) in
+      let kept : h.1 ≡ o.e.from = ap (λ (x : M). (get_or x.1 0 (0, o.e)).1.from) (sym h.2 ∙ given_back) in
+      let knew : known_of m.0 ≡ shown k o.log o.from = ap (λ (x : M). known_of x.0) o.holds in
+      h.3 ∙ (λ i. (Idle (shown (knew i) (same i) (kept i)), []))
 
   pub ticket_after : (n : M) → HasGiven m n → (n ≡ (Idle (known_of n.0), [])) × IsTicket (known_of n.0) number b
-  ticket_after n h = subst (λ (x : M). (x ≡ (Idle (known_of x.0), [])) × IsTicket (known_of x.0) number b) (sym (gave n h)) (refl, keeps_ticket k number cmd o.log o.e a b r o.served)
+  ticket_after n h = subst (λ (x : M). (x ≡ (Idle (known_of x.0), [])) × IsTicket (known_of x.0) number b) (sym (gave n h)) (refl, keeps_ticket k number cmd o.log o.from o.e a b r o.served)
 
   pub extends_after : (n : M) → HasGiven m n → (t u : TableId) → IfOk r (λ x. Extends (pass_of t k) cmd x (pass_of u (known_of n.0)))
-  extends_after n h t u = subst (λ (x : M). IfOk r (λ y. Extends (pass_of t k) cmd y (pass_of u (known_of x.0)))) (sym (gave n h)) (extends k number cmd o.log o.e a b t u r o.served)
+  extends_after n h t u = subst (λ (x : M). IfOk r (λ y. Extends (pass_of t k) cmd y (pass_of u (known_of x.0)))) (sym (gave n h)) (extends k number cmd o.log o.from o.e a b t u r o.served)
 
   pub fails_after : (n : M) → HasGiven m n → (t u : TableId) → u ≡ t → IfErr r (λ f. Fails (pass_of t k) cmd f (pass_of u (known_of n.0)))
-  fails_after n h t u same = subst (λ (x : M). IfErr r (λ f. Fails (pass_of t k) cmd f (pass_of u (known_of x.0)))) (sym (gave n h)) (fails k number cmd o.log o.e a b t u same r o.served)
+  fails_after n h t u same = subst (λ (x : M). IfErr r (λ f. Fails (pass_of t k) cmd f (pass_of u (known_of x.0)))) (sym (gave n h)) (fails k number cmd o.log o.from o.e a b t u same r o.served)
+
+  pub later_after : (n : M) → HasGiven m n → k.from ≤ (known_of n.0).from
+  later_after n h = subst (λ (x : M). k.from ≤ (known_of x.0).from) (sym (gave n h)) (later k number cmd o.log o.from o.e a b r o.served)
 
   pub answers_after : IfOk r (λ x. Answers (own_place k.mine) cmd x)
-  answers_after = answers k number cmd o.log o.e a b r o.served
+  answers_after = answers k number cmd o.log o.from o.e a b r o.served
 
   pub never_after : takes (own_place k.mine) cmd ≡ 0 → IsOk r
-  never_after = never k number cmd o.log o.e a b r o.served
+  never_after = never k number cmd o.log o.from o.e a b r o.served
 
   pub moved_after : (n : M) → HasGiven m n → IfOk r (λ x. own_place (known_of n.0).mine ≡ place_after (own_place k.mine) x)
-  moved_after n h = subst (λ (x : M). IfOk r (λ y. own_place (known_of x.0).mine ≡ place_after (own_place k.mine) y)) (sym (gave n h)) (moved k number cmd o.log o.e a b r o.served)
+  moved_after n h = subst (λ (x : M). IfOk r (λ y. own_place (known_of x.0).mine ≡ place_after (own_place k.mine) y)) (sym (gave n h)) (moved k number cmd o.log o.from o.e a b r o.served)
 
   pub still_after : (n : M) → HasGiven m n → moves_seat cmd ≡ false → own_place (known_of n.0).mine ≡ own_place k.mine
-  still_after n h quiet = subst (λ (x : M). own_place (known_of x.0).mine ≡ own_place k.mine) (sym (gave n h)) (still k number cmd o.log o.e a b r o.served quiet)
+  still_after n h quiet = subst (λ (x : M). own_place (known_of x.0).mine ≡ own_place k.mine) (sym (gave n h)) (still k number cmd o.log o.from o.e a b r o.served quiet)
+
+-- ---- the same for a cut
+
+-- the desk that was taken is there
+pub may_cut : (m0 m1 : M) → HasTaken m0 m1 → HasDesk m1 (λ _. Unit {0})
+may_cut m0 m1 t =
+    let d : Chronicled = chronicle_from (known_of m0.0).terms t.0 t.1 in
+    (d, t.2 ∙ ap (λ (v : View). (v, (0, d) ∷ [])) (sym (ap (λ (m : M). m.0) t.2)), tt)
+
+pub record AfterCut (k : Known) (number room : ℕ) (r : Option Part) (s : Counted) (m : M) : Type 0 where
+  pub log : List Entry
+  pub from : ℕ
+  pub e : Chronicled
+  pub cut : CutOff k number room r log from e s
+  pub holds : m ≡ (Holder (shown k log from), (0, e) ∷ [])
+
+pub cut_by : (m0 m1 m2 : M) (number room : ℕ) (r : Option Part) (s : Counted) → IsTicket (known_of m0.0) number s → HasTaken m0 m1 → m2.0 ≡ m1.0
+    → HasDesk m1 (λ d. HasDesk m2 (λ e. Cuts room r d e)) → AfterCut (known_of m0.0) number room r s m2
+cut_by m0 m1 m2 number room r s ticket t view v =
+    let k : Known = known_of m0.0 in
+    let d : Chronicled = chronicle_from k.terms t.0 t.1 in
+    let e : Chronicled = v.2.0 in
+    let same : v.0 ≡ d = ap (λ (m : M). (get_or m.1 0 (0, d)).1) (sym v.1 ∙ t.2) in
+    record {
+      log = t.0;
+      from = t.1;
+      e = e;
+      cut = record { ticket = ticket; front = t.3; own = t.4; later = t.5; did = subst (λ (z : Chronicled). Cuts room r z e) same v.2.2 };
+      holds = v.2.1 ∙ ap (λ (x : View). (x, (0, e) ∷ [])) (view ∙ ap (λ (m : M). m.0) t.2);
+    }
+
+module _ (k : Known) (number room : ℕ) (r : Option Part) (s : Counted) (m : M) (o : AfterCut k number room r s m) where
+  cut_given_back : m ≡ (Holder (shown k o.log o.from), (0, chronicle_from k.terms o.e.log o.e.from) ∷ [])
+  cut_given_back = o.holds ∙ ap (λ (c : Chronicled). (Holder (shown k o.log o.from), (0, c) ∷ [])) (cut_back k number room o.log o.from o.e s r o.cut)
+
+  pub cut_may_give : HoldsDesk m Follows
+  cut_may_give = subst (λ (x : M). HoldsDesk x Follows) (sym cut_given_back) (o.e.log, o.e.from, refl, cut_follows k number room o.log o.from o.e s r o.cut)
+
+  cut_gave : (n : M) → HasGiven m n → n ≡ (Idle (shown k o.e.log o.e.from), [])
+  cut_gave n h =
+      let same : h.0 ≡ o.e.log = ap (λ (x : M). (get_or x.1 0 (0, o.e)).1.log) (sym h.2 ∙ cut_given_back) in
+      let kept : h.1 ≡ o.e.from = ap (λ (x : M). (get_or x.1 0 (0, o.e)).1.from) (sym h.2 ∙ cut_given_back) in
+      let knew : known_of m.0 ≡ shown k o.log o.from = ap (λ (x : M). known_of x.0) o.holds in
+      h.3 ∙ (λ i. (Idle (shown (knew i) (same i) (kept i)), []))
+
+  pub cut_ticket_after : (n : M) → HasGiven m n → (n ≡ (Idle (known_of n.0), [])) × IsTicket (known_of n.0) number s
+  cut_ticket_after n h = subst (λ (x : M). (x ≡ (Idle (known_of x.0), [])) × IsTicket (known_of x.0) number s) (sym (cut_gave n h)) (refl, cut_ticket k number room o.log o.from o.e s r o.cut)
+
+  -- all that is known of who cut
+  pub cut_after : (n : M) → HasGiven m n → (t u : TableId) → IsSeenCut k (known_of n.0) room r × Looks (pass_of t k) (pass_of u (known_of n.0))
+  cut_after n h t u = subst (λ (x : M). IsSeenCut k (known_of x.0) room r × Looks (pass_of t k) (pass_of u (known_of x.0))) (sym (cut_gave n h)) (
+    record {
+      terms = refl;
+      seat = refl;
+      legal = cut_legal k number room o.log o.from o.e s r o.cut;
+      later = omega (arith, o.cut.later, cut_later k number room o.log o.from o.e s r o.cut);
+      told = cut_told k number room o.log o.from o.e s r o.cut;
+    },
+    cut_looks k number room o.log o.from o.e s t u r o.cut,
+  )
+
+-- what is known of a part, and of none, apart
+pub told_part : (k l : Known) (room : ℕ) (r : Option Part) → HasPart k l room r
+    → IfSome r (λ part. EndsWith l.seen part.from part.entries.items) × IfSome r (λ part. k.from ≤ part.from) × OnSome r (l.from ≡ length l.seen) × OnSome r (k.terms.keeping ≡ InParts)
+    × OnSome r (length l.seen ≤ most_forgotten)
+told_part k l room (Some part) h = h
+told_part k l room None h = (tt, tt, tt, tt, tt)
+
+pub told_served : (k l : Known) (room : ℕ) (r : Option Part) → HasPart k l room r → k.terms.keeping ≡ InParts → k.terms.seats ≤ room → length l.seen ≤ most_forgotten → IsSome r
+told_served k l room (Some part) h keeps roomy few = refl
+told_served k l room None h keeps roomy few = absurd (h keeps roomy few)

@@ -18,7 +18,7 @@ use Rattle.market_lock.specs.declared.view.Known.{Known}
 use Rattle.market_lock.specs.declared.view.Terms.{Terms}
 use Rattle.market_lock.specs.declared.view.View.{View}
 use Rattle.market_lock.specs.declared.view.View.TheVariants.{Closer}
-use Rattle.market_lock.specs.Views.{opening_of, chronicle_of}
+use Rattle.market_lock.specs.Views.{opening_of, chronicle_from}
 use Rattle.market_lock.specs.Rule.{Kept, Once, Fitting}
 use Rattle.market_lock.specs.Seen.{OfPass, OfPlaced, Met}
 use Rattle.market_lock.specs.Held.{taken_in, whos, IsClosing, kept_of, known_for}
@@ -40,7 +40,7 @@ long_whos (q ∷ qs) = let rest = long_whos qs in omega arith
 pub record Ended (key : Terms) (ps qs : List OfPass) (desk : Chronicled) : Type 0 where
   pub kept : List Known
   pub kept_is : kept ≡ taken_in ps ++ taken_in qs
-  pub desk_is : desk ≡ chronicle_of key desk.log
+  pub desk_is : desk ≡ chronicle_from key desk.log desk.from
   pub once : Once kept
   pub fits : (i : ℕ) (k : Known) → get_elem? kept i ≡ some k → Fitting key desk.log k
 
@@ -55,13 +55,13 @@ ended_by key id m0 m1 m2 ps qs ws xs desk e0 e1 e2 all final got =
     let closed = subst (λ (v : View). Final (Seen (Kept key) id v) ws xs) last final in
     let en = ends_it key id key kept ws xs (omega (arith, all, length-append (taken_in ps) (taken_in qs), long_taken ps, long_taken qs)) closed in
     let log : List Entry = en.0 in
-    let same : chronicle_of key log ≡ desk = some-injective (chronicle_of key log) desk (ap (λ (l : List Chronicled). get_elem? l 0) (sym en.1) ∙ got) in
+    let same : chronicle_from key log en.1 ≡ desk = some-injective (chronicle_from key log en.1) desk (ap (λ (l : List Chronicled). get_elem? l 0) (sym en.2) ∙ got) in
     record {
       kept = kept;
       kept_is = refl;
-      desk_is = subst (λ (d : Chronicled). d ≡ chronicle_of key d.log) same refl;
-      once = en.2;
-      fits = λ i k e. subst (λ (x : Chronicled). Fitting key x.log k) same (en.3 i k e);
+      desk_is = subst (λ (d : Chronicled). d ≡ chronicle_from key d.log d.from) same refl;
+      once = en.3;
+      fits = λ i k e. subst (λ (x : Chronicled). Fitting key x.log k) same (en.4 i k e);
     }
 
 module _ (key : Terms) (ps qs : List OfPass) (desk : Chronicled) (o : Ended key ps qs desk) where

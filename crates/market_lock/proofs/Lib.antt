@@ -4,6 +4,7 @@ mod Steps
 mod Entries
 mod Calls
 mod Opened
+mod Endless
 mod Meeting
 pub mod Crossing
 mod Ending

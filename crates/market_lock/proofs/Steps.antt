@@ -17,9 +17,9 @@ use Rattle.market_lock.specs.declared.view.Terms.{Terms}
 use Rattle.market_lock.specs.declared.view.Known.{Known}
 use Rattle.market_lock.specs.declared.view.View.{View}
 use Rattle.market_lock.specs.declared.view.View.TheVariants.{Opener, Idle, Holder, Closer, Spent}
-use Rattle.market_lock.specs.Views.{known, shown, chronicle_of}
+use Rattle.market_lock.specs.Views.{known, shown, chronicle_from}
 use Rattle.market_lock.specs.Seen.{known_of}
-use Rattle.market_lock.specs.Rule.{Knows, seat_of, Fits, IsGone, Once, Kept, Wins, Takes, Gives, Enters, Follows, Fitting}
+use Rattle.market_lock.specs.Rule.{Knows, seat_of, Fits, Marks, IsGone, Once, Kept, Wins, Takes, Gives, Enters, Follows, Fitting}
 use Rattle.market_lock.proofs.Fronts.{prefix_self, prefix_trans, there, at_snoc, one_set}
 use Rattle.market_lock.proofs.Seats.{each_set, each_snoc, apart_set, gone_set, apart_snoc, gone_snoc, weights_set, weights_snoc, weights_two}
 
@@ -47,22 +47,24 @@ module _ (terms : Terms) where
 
   -- the desk goes out
   taken : (s : St) (r : Kept terms s) (id : ℕ) (k : Known) → get_elem? s.views id ≡ some (Idle k) → word s ≡ 0
-      → Kept terms record { words = set s.words 0 1; homes = set s.homes 0 none; views = set s.views id (Holder (shown k r.log)) }
+      → Kept terms record { words = set s.words 0 1; homes = set s.homes 0 none; views = set s.views id (Holder (shown k r.log r.from)) }
   taken s r id k at is =
-      let w : View = Holder (shown k r.log) in
+      let w : View = Holder (shown k r.log r.from) in
       let one : get_or (set s.words 0 1) 0 0 ≡ 1 = let wide = r.one_word in get_or-set_same s.words 0 1 0 (omega arith) in
       let knows : Knows terms r.made r.log k = r.each id (Idle k) at in
       record {
         log = r.log;
+        from = r.from;
         made = r.made;
         opener = r.opener;
         holder = id;
         one_word = length-set s.words 0 1 ∙ r.one_word;
         home = λ e. absurd (omega arith);
-        away = λ _. (shown k r.log, set_here s.views id w (there s.views id (Idle k) at));
+        away = λ _. (shown k r.log r.from, set_here s.views id w (there s.views id (Idle k) at));
         each = each_set (Fits terms r.made r.opener r.log (get_or (set s.words 0 1) 0 0) id) s.views id w
             (record { from = knows.from; below = knows.below; front = prefix_self r.log; own = refl }, refl, refl, λ e. omega arith)
             (λ j v _ p. free_fits r.made r.opener r.log (word s) r.holder (get_or (set s.words 0 1) 0 0) id j v is (r.each j v p));
+        marks = each_set (λ _. Marks r.from) s.views id w refl (λ j v _ p. r.marks j v p);
         apart = apart_set s.views id (Idle k) w at (λ n e. e) r.apart;
         keeps = λ j t kept p. each_set (λ j v. v ≡ Closer t kept → (i : ℕ) (x : Known) → get_elem? kept i ≡ some x → Knows terms r.made r.log x × IsGone (set s.views id w) x.seat) s.views id w
             (λ e. absurd cc)
@@ -78,14 +80,14 @@ module _ (terms : Terms) where
   takes_it slots id m k is = subst (λ (m : M). Allows (Kept terms) slots id m 0 (λ n. either (eqb n 0) 1 n) (Takes (step slots 0 0 1 none) m)) (sym is) (λ s r wide at small. dite (ℕ_discrete (word s) 0)
       (λ free.
       let knows : Knows terms r.made r.log k = r.each id (Idle k) at in
-      let d : Chronicled = chronicle_of k.terms r.log in
-      let home : s.homes ≡ some d ∷ [] = r.home free ∙ ap (λ (t : Terms). some (chronicle_of t r.log) ∷ []) (sym knows.from) in (
-        Holder (shown k r.log),
+      let d : Chronicled = chronicle_from k.terms r.log r.from in
+      let home : s.homes ≡ some d ∷ [] = r.home free ∙ ap (λ (t : Terms). some (chronicle_from t r.log r.from) ∷ []) (sym knows.from) in (
+        Holder (shown k r.log r.from),
         takes 0 d,
         ap (λ (l : List (Option Chronicled)). get_elem? l 0) home,
-        subst (λ b. Kept terms (stepped s 0 (either b 1 (word s)) id [] (Holder (shown k r.log)) (takes 0 d))) (sym (eq-eqb (word s) 0 free)) (taken s r id k at free),
-        λ k' e. let same : k ≡ k' = ap (λ (x : M). known_of x.0) e in subst (λ (x : Known). Wins (Idle k, []) x (word s) (Holder (shown k r.log), (0, d) ∷ [])) same
-            ((λ _. (r.log, refl, knows.front, knows.own)), λ ne. absurd (ne free)),
+        subst (λ b. Kept terms (stepped s 0 (either b 1 (word s)) id [] (Holder (shown k r.log r.from)) (takes 0 d))) (sym (eq-eqb (word s) 0 free)) (taken s r id k at free),
+        λ k' e. let same : k ≡ k' = ap (λ (x : M). known_of x.0) e in subst (λ (x : Known). Wins (Idle k, []) x (word s) (Holder (shown k r.log r.from), (0, d) ∷ [])) same
+            ((λ _. (r.log, r.from, refl, knows.front, knows.own, r.marks id (Idle k) at)), λ ne. absurd (ne free)),
       ))
       (λ busy. (
         Idle k,
@@ -108,11 +110,23 @@ module _ (terms : Terms) where
   others_fit made opener log more n id n' holder' j me ne front same (Closer t kept) away f = f
   others_fit made opener log more n id n' holder' j me ne front same Spent away f = tt
 
+  -- what another view knows of the last cut stays so, where there is a later one
+  marks_after : (from more j id : ℕ) (v : View) → from ≤ more → ((k : Known) → v ≡ Holder k → ⊥) → Marks from v → Marks more v
+  marks_after from more j id (Opener t m) later none' h = tt
+  marks_after from more j id (Idle k) later none' h = omega (arith, h, later)
+  marks_after from more j id (Holder k) later none' h = absurd (none' k refl)
+  marks_after from more j id (Closer t kept) later none' h = tt
+  marks_after from more j id Spent later none' h = tt
+
+  holds_it : (made opener : ℕ) (log : List Entry) (n holder j : ℕ) (v : View) (k : Known) → v ≡ Holder k → Fits terms made opener log n holder j v → j ≡ holder
+  holds_it made opener log n holder j v k is f = (subst (Fits terms made opener log n holder j) is f).2
+
   -- the desk comes home
-  given : (s : St) (r : Kept terms s) (id : ℕ) (k : Known) (log : List Entry) → length s.homes ≡ 1 → get_elem? s.views id ≡ some (Holder k) → Follows k log
-      → Kept terms record { words = set s.words 0 0; homes = set s.homes 0 (some (chronicle_of k.terms log)); views = set s.views id (Idle (shown k log)) }
-  given s r id k log one at goes =
-      let w : View = Idle (shown k log) in
+  given : (s : St) (r : Kept terms s) (id : ℕ) (k : Known) (log : List Entry) (from : ℕ) → length s.homes ≡ 1 → get_elem? s.views id ≡ some (Holder k) → Follows k log from
+      → Kept terms record { words = set s.words 0 0; homes = set s.homes 0 (some (chronicle_from k.terms log from)); views = set s.views id (Idle (shown k log from)) }
+  given s r id k log from one at goes =
+      let w : View = Idle (shown k log from) in
+      let later : r.from ≤ from = let mark : k.from ≡ r.from = r.marks id (Holder k) at in omega (arith, mark, goes.2) in
       let f : Fits terms r.made r.opener r.log (word s) r.holder id (Holder k) = r.each id (Holder k) at in
       let zero : get_or (set s.words 0 0) 0 0 ≡ 0 = let wide = r.one_word in get_or-set_same s.words 0 0 0 (omega arith) in
       let front : IsPrefix r.log log = subst (λ (l : List Entry). IsPrefix l log) f.1 goes.0 in
@@ -121,16 +135,19 @@ module _ (terms : Terms) where
       λ j v x ne p q e. ne (r.apart j id k.seat v (Holder k) p at (q ∙ ap some e) refl) in
       record {
         log = log;
+        from = from;
         made = r.made;
         opener = r.opener;
         holder = r.holder;
         one_word = length-set s.words 0 0 ∙ r.one_word;
-        home = λ _. one_set s.homes (some (chronicle_of k.terms log)) one ∙ ap (λ (t : Terms). some (chronicle_of t log) ∷ []) f.0.from;
+        home = λ _. one_set s.homes (some (chronicle_from k.terms log from)) one ∙ ap (λ (t : Terms). some (chronicle_from t log from) ∷ []) f.0.from;
         away = λ e. absurd (e zero);
         each = each_set (Fits terms r.made r.opener log (get_or (set s.words 0 0) 0 0) r.holder) s.views id w
             (record { from = f.0.from; below = f.0.below; front = prefix_self log; own = refl })
             (λ j v ne p. others_fit r.made r.opener r.log log (word s) id (get_or (set s.words 0 0) 0 0) r.holder j k ne front same v (λ x q. mine j v x ne p q)
             (subst (λ (h : ℕ). Fits terms r.made r.opener r.log (word s) h j v) (sym f.2) (r.each j v p)));
+        marks = each_set (λ _. Marks from) s.views id w (omega arith)
+            (λ j v ne p. marks_after r.from from j id v later (λ x is. ne (holds_it r.made r.opener r.log (word s) r.holder j v x is (r.each j v p) ∙ sym f.2)) (r.marks j v p));
         apart = apart_set s.views id (Holder k) w at (λ n e. e) r.apart;
         keeps = λ j t kept p. each_set (λ j v. v ≡ Closer t kept → (i : ℕ) (x : Known) → get_elem? kept i ≡ some x → Knows terms r.made log x × IsGone (set s.views id w) x.seat) s.views id w
             (λ e. absurd cc)
@@ -142,17 +159,18 @@ module _ (terms : Terms) where
         enough = r.enough;
       }
 
-  pub gives_it : (slots id : ℕ) (m : M) (k : Known) (log : List Entry) → slots ≡ 1 → m ≡ (Holder k, (0, chronicle_of k.terms log) ∷ []) → Follows k log
+  pub gives_it : (slots id : ℕ) (m : M) (k : Known) (log : List Entry) (from : ℕ) → slots ≡ 1 → m ≡ (Holder k, (0, chronicle_from k.terms log from) ∷ []) → Follows k log from
       → Allows (Kept terms) slots id m 0 (λ _. 0) (λ _. Gives (step slots 0 0 0 none) m 0)
-  gives_it slots id m k log one is goes = subst (λ (m : M). Allows (Kept terms) slots id m 0 (λ _. 0) (λ _. Gives (step slots 0 0 0 none) m 0)) (sym is) (λ s r wide at small. (
-    Idle (shown k log),
+  gives_it slots id m k log from one is goes = subst (λ (m : M). Allows (Kept terms) slots id m 0 (λ _. 0) (λ _. Gives (step slots 0 0 0 none) m 0)) (sym is) (λ s r wide at small. (
+    Idle (shown k log from),
     gives,
     tt,
-    given s r id k log (wide ∙ one) at goes,
-    λ k' log' e.
+    given s r id k log from (wide ∙ one) at goes,
+    λ k' log' from' e.
         let same : k ≡ k' = ap (λ (x : M). known_of x.0) e in
-        let other : log ≡ log' = ap (λ (x : M). (get_or x.1 0 (0, chronicle_of k.terms log)).1.log) e in
-        λ i. (Idle (shown (same i) (other i)), []),
+        let other : log ≡ log' = ap (λ (x : M). (get_or x.1 0 (0, chronicle_from k.terms log from)).1.log) e in
+        let cut : from ≡ from' = ap (λ (x : M). (get_or x.1 0 (0, chronicle_from k.terms log from)).1.from) e in
+        λ i. (Idle (shown (same i) (other i) (cut i)), []),
   ))
 
   more_made : (made : ℕ) (log : List Entry) (k : Known) → Knows terms made log k → Knows terms (made + 1) log k
@@ -184,6 +202,10 @@ module _ (terms : Terms) where
   first_fits zero v p = subst (Fits terms 0 0 [] 0 0 0) (some-injective (Opener terms 0) v p) (refl, refl, refl)
   first_fits (suc j) v p = absurd (some-ne-none v (sym p))
 
+  first_marks : (j : ℕ) (v : View) (from : ℕ) → get_elem? (Opener terms 0 ∷ []) j ≡ some v → Marks from v
+  first_marks zero v from p = subst (Marks from) (some-injective (Opener terms 0) v p) tt
+  first_marks (suc j) v from p = absurd (some-ne-none v (sym p))
+
   first_none : (j : ℕ) (v : View) → get_elem? (Opener terms 0 ∷ []) j ≡ some v → seat_of v ≡ none
   first_none zero v p = ap seat_of (sym (some-injective (Opener terms 0) v p))
   first_none (suc j) v p = absurd (some-ne-none v (sym p))
@@ -194,18 +216,19 @@ module _ (terms : Terms) where
 
   -- ---- a pass more
   module _ (t : Terms) (n : ℕ) where
-    pub splits_it : (id : ℕ) → n < terms.seats → Splits (Kept terms) id (Opener t n) (Opener t (n + 1)) (Idle (known t n [] []))
+    pub splits_it : (id : ℕ) → n < terms.seats → Splits (Kept terms) id (Opener t n) (Opener t (n + 1)) (Idle (known t n [] 0 []))
     splits_it id room s r at =
         let left : View = Opener t (n + 1) in
-        let right : View = Idle (known t n [] []) in
+        let right : View = Idle (known t n [] 0 []) in
         let f : Fits terms r.made r.opener r.log (word s) r.holder id (Opener t n) = r.each id (Opener t n) at in
         let vs : List View = set s.views id left in
         let below : (j m : ℕ) (v : View) → get_elem? s.views j ≡ some v → seat_of v ≡ some m → m < n = λ j m v p e. subst (λ (x : ℕ). m < x) (sym f.1) (number_below s r j m v p e) in
         let new : (m : ℕ) → seat_of right ≡ some m → IsGone vs m =
         λ m e. gone_set s.views id (Opener t n) left m at (λ _ e. e) (λ j v p q. let b = below j m v p q in let same : n ≡ m = some-injective n m e in omega arith) in
-        let knows : Knows terms (r.made + 1) r.log (known t n [] []) = record { from = f.0; below = let m = f.1 in omega arith; front = (r.log, refl); own = r.strangers n (let m = f.1 in omega arith) } in
+        let knows : Knows terms (r.made + 1) r.log (known t n [] 0 []) = record { from = f.0; below = let m = f.1 in omega arith; front = (r.log, refl); own = r.strangers n (let m = f.1 in omega arith) } in
         record {
           log = r.log;
+          from = r.from;
           made = r.made + 1;
           opener = r.opener;
           holder = r.holder;
@@ -218,6 +241,7 @@ module _ (terms : Terms) where
           );
           each = each_snoc (Fits terms (r.made + 1) r.opener r.log (word s) r.holder) vs right knows
               (each_set (Fits terms (r.made + 1) r.opener r.log (word s) r.holder) s.views id left (f.0, ap (λ x. x + 1) f.1, f.2) (λ j v ne p. more_fits r.made r.opener r.log (word s) r.holder j v (λ e. ne (e ∙ sym f.2)) (r.each j v p)));
+          marks = each_snoc (λ _. Marks r.from) vs right (omega arith) (each_set (λ _. Marks r.from) s.views id left tt (λ j v _ p. r.marks j v p));
           apart = apart_snoc vs right (apart_set s.views id (Opener t n) left at (λ _ e. e) r.apart) new;
           keeps = λ j u kept p. each_snoc (λ j v. v ≡ Closer u kept → (i : ℕ) (x : Known) → get_elem? kept i ≡ some x → Knows terms (r.made + 1) r.log x × IsGone (vs ++ right ∷ []) x.seat) vs right
               (λ e. absurd cc)
@@ -251,6 +275,7 @@ module _ (terms : Terms) where
         w,
         record {
           log = r.log;
+          from = r.from;
           made = r.made;
           opener = r.opener;
           holder = r.holder;
@@ -258,6 +283,7 @@ module _ (terms : Terms) where
           home = r.home;
           away = λ e. let h = r.away e in (h.0, at_longer s.views (w ∷ []) r.holder (Holder h.0) h.1);
           each = each_snoc (Fits terms r.made r.opener r.log (word s) r.holder) s.views w refl r.each;
+          marks = each_snoc (λ _. Marks r.from) s.views w tt r.marks;
           apart = apart_snoc s.views w r.apart (λ n e. absurd cc);
           keeps = λ j u kept p. each_snoc (λ j v. v ≡ Closer u kept → (i : ℕ) (x : Known) → get_elem? kept i ≡ some x → Knows terms r.made r.log x × IsGone (s.views ++ w ∷ []) x.seat) s.views w
               (λ e i x h. let empty : kept ≡ [] = cc in absurd (some-ne-none x (sym h ∙ ap (λ l. get_elem? l i) empty)))
@@ -287,6 +313,7 @@ module _ (terms : Terms) where
       let fits : (j : ℕ) (v : View) → get_elem? vs j ≡ some v → Fits terms r.made r.opener r.log (word s) r.holder j v = each_set (Fits terms r.made r.opener r.log (word s) r.holder) s.views id w f (λ j v _ p. r.each j v p) in
       record {
         log = r.log;
+        from = r.from;
         made = r.made;
         opener = r.opener;
         holder = r.holder;
@@ -298,6 +325,7 @@ module _ (terms : Terms) where
               ∙ (set_else s.views id r.holder w (λ same. absurd (cc (at, h.1, ap (get_elem? s.views) same))) ∙ h.1),
         );
         each = each_set (Fits terms r.made r.opener r.log (word s) r.holder) vs other Spent tt (λ j v _ p. fits j v p);
+        marks = each_set (λ _. Marks r.from) vs other Spent tt (λ j v _ p. each_set (λ _. Marks r.from) s.views id w tt (λ j v _ p. r.marks j v p) j v p);
         apart = apart_set vs other (Idle k) Spent there' (λ n e. absurd cc) (apart_set s.views id (Closer t kept) w at (λ n e. absurd cc) r.apart);
         keeps = λ j u all p. each_set (λ j v. v ≡ Closer u all → (i : ℕ) (x : Known) → get_elem? all i ≡ some x → Knows terms r.made r.log x × IsGone us x.seat) vs other Spent
             (λ e. absurd cc)
@@ -319,22 +347,23 @@ module _ (terms : Terms) where
 
   -- ---- the end
   pub ends_it : (id : ℕ) (t : Terms) (kept : List Known) (ws : List ℕ) (xs : List Chronicled) → terms.seats ≤ length kept → Final (Seen (Kept terms) id (Closer t kept)) ws xs
-      → (log : List Entry) × (xs ≡ chronicle_of terms log ∷ []) × Once kept × ((i : ℕ) (k : Known) → get_elem? kept i ≡ some k → Fitting terms log k)
+      → (log : List Entry) × (from : ℕ) × (xs ≡ chronicle_from terms log from ∷ []) × Once kept × ((i : ℕ) (k : Known) → get_elem? kept i ≡ some k → Fitting terms log k)
   ends_it id t kept ws xs all (s, r, same_words, long, values) =
       let k = r.0 in let at = r.1 in
       let free : word s ≡ 0 = dite (ℕ_discrete (word s) 0) (λ z. z) (λ busy. let h = k.away busy in
       let both = weights_two s.views id k.holder (Closer t kept) (Holder h.0) (λ e. absurd (cc (at, h.1, ap (get_elem? s.views) e))) at h.1 in
       let sum = k.counted in let most = k.enough in absurd (omega arith)) in
       let h = k.home free in
-      let d : Chronicled = chronicle_of terms k.log in
+      let d : Chronicled = chronicle_from terms k.log k.from in
       let first : get_elem? xs 0 ≡ some d = values 0 d (ap (λ (l : List (Option Chronicled)). get_elem? l 0) h) in
       let one : length xs ≡ 1 = sym long ∙ ap (λ (l : List (Option Chronicled)). length l) h in
-      (k.log, one_value xs d one first, k.once id t kept at, λ i x p. let old = k.keeps id t kept at i x p in (old.0.front, old.0.own, let b = old.0.below in let most = k.enough in omega arith))
+      (k.log, k.from, one_value xs d one first, k.once id t kept at, λ i x p. let old = k.keeps id t kept at i x p in (old.0.front, old.0.own, let b = old.0.below in let most = k.enough in omega arith))
 
   -- ---- the start
-  pub begins : (d : Chronicled) → d ≡ chronicle_of terms [] → Kept terms (opening (0 ∷ []) (d ∷ []) (Opener terms 0))
+  pub begins : (d : Chronicled) → d ≡ chronicle_from terms [] d.from → Kept terms (opening (0 ∷ []) (d ∷ []) (Opener terms 0))
   begins d is = record {
     log = [];
+    from = d.from;
     made = 0;
     opener = 0;
     holder = 0;
@@ -342,6 +371,7 @@ module _ (terms : Terms) where
     home = λ _. ap (λ (x : Chronicled). some x ∷ []) is;
     away = λ e. absurd (e refl);
     each = first_fits;
+    marks = λ j v p. first_marks j v d.from p;
     apart = λ i j n v w p q a b. absurd (some-ne-none n (sym a ∙ first_none i v p));
     keeps = λ j t kept p i k h. absurd (first_opens j t kept p);
     once = λ j t kept p. absurd (first_opens j t kept p);

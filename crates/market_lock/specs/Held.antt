@@ -1,15 +1,18 @@
 -- A seat before and after it took the desk, and the values that are taken back. No public clause has these words.
-use Rattle.std.specs.Prelude.{◌≡◌, [], ◌∷◌, ◌++◌, List}
+use Rattle.std.specs.Prelude.{◌≡◌, ℕ, ◌≤◌, [], ◌∷◌, ◌++◌, List, length, Option, Some, None}
 use mathlib.Core.List.{IsPrefix}
 use Rattle.atomic_table.specs.Table.{Me}
 use Rattle.market_types.specs.declared.reply.Entry.{Entry}
-use Rattle.market_types.specs.History.{of_seat}
-use Rattle.edit_history.specs.Chronicled.{Chronicled}
+use Rattle.market_types.specs.History.{IsLegal, of_seat}
+use Rattle.edit_history.specs.Chronicled.{Chronicled, most_forgotten}
+use Rattle.edit_history.specs.Parts.{EndsWith}
+use Rattle.edit_history.specs.declared.part.Part.{Part}
+use Rattle.edit_history.specs.declared.keeping.Keeping.TheVariants.{InParts}
 use Rattle.market_lock.specs.declared.view.Terms.{Terms}
 use Rattle.market_lock.specs.declared.view.Known.{Known}
 use Rattle.market_lock.specs.declared.view.View.{View}
 use Rattle.market_lock.specs.declared.view.View.TheVariants.{Idle, Holder, Closer}
-use Rattle.market_lock.specs.Views.{shown, known, chronicle_of}
+use Rattle.market_lock.specs.Views.{opening_of, shown, known, chronicle_from}
 use Rattle.market_lock.specs.Seen.{known_of, OfPass, OfPlaced}
 
 abbrev pub IsIdle : Me Chronicled View → Type 0
@@ -18,27 +21,41 @@ IsIdle m = m ≡ (Idle (known_of m.0), [])
 -- it has the desk, with a history that begins with all that it had seen
 abbrev pub HasTaken : Me Chronicled View → Me Chronicled View → Type 0
 HasTaken m n = let k = known_of m.0 in
-    (log : List Entry) × (n ≡ (Holder (shown k log), (0, chronicle_of k.terms log) ∷ [])) × IsPrefix k.seen log × (of_seat k.seat log ≡ k.mine)
+    (log : List Entry) × (from : ℕ) × (n ≡ (Holder (shown k log from), (0, chronicle_from k.terms log from) ∷ [])) × IsPrefix k.seen log × (of_seat k.seat log ≡ k.mine) × (k.from ≤ from)
 
 -- the seat has the desk, of which P holds
 abbrev pub HasDesk : Me Chronicled View → (Chronicled → Type 0) → Type 0
 HasDesk m P = (d : Chronicled) × (m ≡ (m.0, (0, d) ∷ [])) × P d
 
 -- it has the desk, after this history, of which P holds
-abbrev pub HoldsDesk : Me Chronicled View → (Known → List Entry → Type 0) → Type 0
-HoldsDesk m P = (log : List Entry) × (m ≡ (Holder (known_of m.0), (0, chronicle_of (known_of m.0).terms log) ∷ [])) × P (known_of m.0) log
+abbrev pub HoldsDesk : Me Chronicled View → (Known → List Entry → ℕ → Type 0) → Type 0
+HoldsDesk m P = (log : List Entry) × (from : ℕ) × (m ≡ (Holder (known_of m.0), (0, chronicle_from (known_of m.0).terms log from) ∷ [])) × P (known_of m.0) log from
 
 -- it has given the desk back
 abbrev pub HasGiven : Me Chronicled View → Me Chronicled View → Type 0
 HasGiven m n = let k = known_of m.0 in
-    (log : List Entry) × (m ≡ (Holder k, (0, chronicle_of k.terms log) ∷ [])) × (n ≡ (Idle (shown k log), []))
+    (log : List Entry) × (from : ℕ) × (m ≡ (Holder k, (0, chronicle_from k.terms log from) ∷ [])) × (n ≡ (Idle (shown k log from), []))
+
+-- who knows l, and knew k before, has a part that ends its history, of which no entry is kept then; or it has none, and could not have one by a spare with so much room
+abbrev pub HasPart : Known → Known → ℕ → Option Part → Type 0
+HasPart k l room (Some part) = EndsWith l.seen part.from part.entries.items × (k.from ≤ part.from) × (l.from ≡ length l.seen) × (k.terms.keeping ≡ InParts)
+    × (length l.seen ≤ most_forgotten)
+HasPart k l room None = k.terms.keeping ≡ InParts → k.terms.seats ≤ room → length l.seen ≤ most_forgotten → ⊥
+
+-- what is known after a cut
+pub record IsSeenCut (k l : Known) (room : ℕ) (r : Option Part) : Type 0 where
+  pub terms : l.terms ≡ k.terms
+  pub seat : l.seat ≡ k.seat
+  pub legal : IsLegal (opening_of k.terms) l.seen
+  pub later : k.from ≤ l.from
+  pub told : HasPart k l room r
 
 abbrev pub kept_of : View → List Known
 kept_of (Closer t kept) = kept
 kept_of v = []
 
 abbrev pub known_for : OfPass → Known
-known_for p = known p.terms p.seat p.seen p.mine
+known_for p = known p.terms p.seat p.seen p.from p.mine
 
 -- who takes passes back, with what it keeps
 abbrev pub IsClosing : Terms → Me Chronicled View → List Known → Type 0

@@ -1,5 +1,5 @@
 -- What the calls that move a seat give, and a call that is not answered (own).
-use Rattle.std.specs.Prelude.{◌≡◌}
+use Rattle.std.specs.Prelude.{◌≡◌, ◌≤◌}
 use Rattle.market_types.specs.declared.command.Cmd.{Cmd}
 use Rattle.market_types.specs.declared.command.Cmd.TheVariants.{Join, Stay}
 use Rattle.market_types.specs.declared.reply.Reply.{Reply}
@@ -12,19 +12,20 @@ use Rattle.market_lock.specs.declared.pass.Joined.{Joined}
 use Rattle.market_lock.specs.declared.pass.Joined.TheVariants as joined
 use Rattle.market_lock.specs.declared.pass.Stayed.{Stayed}
 use Rattle.market_lock.specs.declared.pass.Stayed.TheVariants as stayed
-use Rattle.market_lock.specs.Views.{opening_of, chronicle_of}
+use Rattle.market_lock.specs.Views.{opening_of, chronicle_cut}
 use Rattle.market_lock.specs.Seen.{OfPass, OfPlaced, Extends, Looks, IsSamePass}
 
--- the caller knows more of one legal history, and its call is in it
+-- the caller knows more of one legal history, and its call is in it; no entry is kept again
 abbrev pub Called : OfPass → Cmd → Reply → OfPass → Type 0
-Called p cmd reply q = IsSamePass p q × IsLegal (opening_of q.terms) q.seen × Extends p cmd reply q
+Called p cmd reply q = IsSamePass p q × IsLegal (opening_of q.terms) q.seen × Extends p cmd reply q × (p.from ≤ q.from)
 
 -- nothing was called, and more of the legal history was seen; it is full exactly where it has no places for the call
 abbrev pub Fails : OfPass → Cmd → CallFault → OfPass → Type 0
 Fails p cmd fault q =
     IsSamePass p q × IsLegal (opening_of q.terms) q.seen × Looks p q
-    × (fault ≡ HistoryFull → LacksPlaces (chronicle_of q.terms q.seen) q.seat cmd)
-    × (LacksPlaces (chronicle_of q.terms q.seen) q.seat cmd → fault ≡ HistoryFull)
+    × (fault ≡ HistoryFull → LacksPlaces (chronicle_cut q.terms q.seen q.from) q.seat cmd)
+    × (LacksPlaces (chronicle_cut q.terms q.seen q.from) q.seat cmd → fault ≡ HistoryFull)
+    × (p.from ≤ q.from)
 
 abbrev pub HasJoined : OfPass → Joined OfPass OfPlaced → Type 0
 HasJoined p (joined.Placed q) = Called p Join (PlacedAt q.arena) q.who

@@ -11,7 +11,7 @@ use Rattle.market_lock.specs.declared.view.Terms.{Terms}
 use Rattle.market_lock.specs.declared.view.Known.{Known}
 use Rattle.market_lock.specs.declared.view.View.{View}
 use Rattle.market_lock.specs.declared.view.View.TheVariants.{Opener, Idle, Holder, Closer, Spent}
-use Rattle.market_lock.specs.Views.{shown, terms_of, chronicle_of}
+use Rattle.market_lock.specs.Views.{shown, terms_of, chronicle_from}
 
 -- what a caller saw begins the history, and its entries are all that the history has of its seat
 pub record Knows (terms : Terms) (made : ℕ) (log : List Entry) (k : Known) : Type 0 where
@@ -46,6 +46,12 @@ module _ (terms : Terms) (made opener : ℕ) (log : List Entry) (word holder : �
   Fits j (Closer t kept) = t ≡ terms
   Fits j Spent = Unit {0}
 
+-- a caller knows of no later cut than the last, and who has the desk knows of that one
+abbrev pub Marks : ℕ → View → Type 0
+Marks from (Idle k) = k.from ≤ from
+Marks from (Holder k) = k.from ≡ from
+Marks from v = Unit {0}
+
 -- live views have different seat numbers
 abbrev pub Apart : List View → Type 0
 Apart views = (i j n : ℕ) (v w : View) → get_elem? views i ≡ some v → get_elem? views j ≡ some w → seat_of v ≡ some n → seat_of w ≡ some n → i ≡ j
@@ -60,14 +66,17 @@ Once kept = (i j : ℕ) (k l : Known) → get_elem? kept i ≡ some k → get_el
 
 pub record Kept (terms : Terms) (s : State Chronicled View) : Type 0 where
   pub log : List Entry
+  -- how many of its first entries are not kept
+  pub from : ℕ
   -- how many passes were dealt, by which seat, and which seat has the desk while the word is not 0
   pub made : ℕ
   pub opener : ℕ
   pub holder : ℕ
   pub one_word : length s.words ≡ 1
-  pub home : slice_index s.words 0 ≡ 0 → s.homes ≡ some (chronicle_of terms log) ∷ []
+  pub home : slice_index s.words 0 ≡ 0 → s.homes ≡ some (chronicle_from terms log from) ∷ []
   pub away : slice_index s.words 0 ≢ 0 → (k : Known) × (get_elem? s.views holder ≡ some (Holder k))
   pub each : (j : ℕ) (v : View) → get_elem? s.views j ≡ some v → Fits terms made opener log (slice_index s.words 0) holder j v
+  pub marks : (j : ℕ) (v : View) → get_elem? s.views j ≡ some v → Marks from v
   pub apart : Apart s.views
   -- who takes passes back keeps what is true of the history, of numbers that no live view has
   pub keeps : (j : ℕ) (t : Terms) (kept : List Known) → get_elem? s.views j ≡ some (Closer t kept)
@@ -80,7 +89,7 @@ pub record Kept (terms : Terms) (s : State Chronicled View) : Type 0 where
 -- a take by who knew k found the desk at home, with a history that goes on from what was seen; or nothing changed
 abbrev pub Wins : Me Chronicled View → Known → ℕ → Me Chronicled View → Type 0
 Wins m k r n =
-    (r ≡ 0 → (log : List Entry) × (n ≡ (Holder (shown k log), (0, chronicle_of k.terms log) ∷ [])) × IsPrefix k.seen log × (of_seat k.seat log ≡ k.mine))
+    (r ≡ 0 → (log : List Entry) × (from : ℕ) × (n ≡ (Holder (shown k log from), (0, chronicle_from k.terms log from) ∷ [])) × IsPrefix k.seen log × (of_seat k.seat log ≡ k.mine) × (k.from ≤ from))
     × (r ≢ 0 → n ≡ m)
 
 abbrev pub Takes : Step Chronicled → Me Chronicled View → ℕ → Me Chronicled View → Type 0
@@ -88,14 +97,14 @@ Takes st m r n = (k : Known) → m ≡ (Idle k, []) → Wins m k r n
 
 -- who gives the desk back has seen the history that it gives back
 abbrev pub Gives : Step Chronicled → Me Chronicled View → ℕ → Me Chronicled View → Type 0
-Gives st m r n = (k : Known) (log : List Entry) → m ≡ (Holder k, (0, chronicle_of k.terms log) ∷ []) → n ≡ (Idle (shown k log), [])
+Gives st m r n = (k : Known) (log : List Entry) (from : ℕ) → m ≡ (Holder k, (0, chronicle_from k.terms log from) ∷ []) → n ≡ (Idle (shown k log from), [])
 
 abbrev pub Enters : Step Chronicled → Me Chronicled View → ℕ → Me Chronicled View → Type 0
 Enters st m r n = n ≡ (Closer (terms_of m.0) [], [])
 
--- what the holder may give back: a history that goes on from what it found, by its own entries alone
-abbrev pub Follows : Known → List Entry → Type 0
-Follows k log = IsPrefix k.seen log × ((n : ℕ) → n ≢ k.seat → of_seat n log ≡ of_seat n k.seen)
+-- what the holder may give back: a history that goes on from what it found, by its own entries alone, and of which no entry is kept again
+abbrev pub Follows : Known → List Entry → ℕ → Type 0
+Follows k log from = IsPrefix k.seen log × ((n : ℕ) → n ≢ k.seat → of_seat n log ≡ of_seat n k.seen) × (k.from ≤ from)
 
 -- what was kept is true of the history
 abbrev pub Fitting : Terms → List Entry → Known → Type 0

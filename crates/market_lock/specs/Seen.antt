@@ -16,12 +16,13 @@ use Rattle.market_lock.specs.declared.view.View.{View}
 use Rattle.market_lock.specs.declared.view.View.TheVariants.{Idle, Holder}
 use Rattle.market_lock.specs.Views.{known, no_terms, opening_of, chronicle_of}
 
--- a caller: of which office, which seat; the history that it saw last; and its own entries in it
+-- a caller: of which office, which seat; the history that it saw last, and how many of its first entries were not kept then; and its own entries in it
 pub record OfPass : Type 0 where
   pub table : TableId
   pub terms : Terms
   pub seat : ℕ
   pub seen : List Entry
+  pub from : ℕ
   pub mine : List Entry
 
 -- a caller that is placed, and where
@@ -51,7 +52,7 @@ Looks p q = IsPrefix p.seen q.seen × (q.mine ≡ p.mine) × (of_seat p.seat q.s
 
 -- a pass of the seat k that has seen nothing and called nothing
 abbrev pub fresh : OfOffice → ℕ → OfPass
-fresh o k = record { table = o.table; terms = o.terms; seat = k; seen = []; mine = [] }
+fresh o k = record { table = o.table; terms = o.terms; seat = k; seen = []; from = 0; mine = [] }
 
 -- the chronicle that a new office keeps, or why there is none
 abbrev pub kept_by : {A : Type 0} → Result (OfOffice × A) OpenFault → Result Chronicled OpenFault
@@ -69,10 +70,10 @@ Met history p = IsPrefix p.seen history × (of_seat p.seat history ≡ p.mine)
 abbrev pub known_of : View → Known
 known_of (Idle k) = k
 known_of (Holder k) = k
-known_of v = known no_terms 0 [] []
+known_of v = known no_terms 0 [] 0 []
 
 abbrev pub pass_of : TableId → Known → OfPass
-pass_of t k = record { table = t; terms = k.terms; seat = k.seat; seen = k.seen; mine = k.mine }
+pass_of t k = record { table = t; terms = k.terms; seat = k.seat; seen = k.seen; from = k.from; mine = k.mine }
 
 abbrev pub office_of : TableId → Terms → OfOffice
 office_of t terms = record { table = t; terms = terms }

@@ -1,9 +1,13 @@
--- What each kind of step does to the views of the seats. No public clause has these words but `opening_of` and `chronicle_of`.
-use Rattle.std.specs.Prelude.{ℕ, ◌+◌, List, [], ◌∷◌, ◌++◌}
+-- What each kind of step does to the views of the seats. No public clause has these words but the first five.
+use Rattle.std.specs.Prelude.{ℕ, ◌+◌, ◌≤◌, List, [], ◌∷◌, ◌++◌, length}
+use Rattle.market_types.specs.declared.command.Cmd.{Cmd}
 use Rattle.market_types.specs.declared.reply.Entry.{Entry}
 use Rattle.market_types.specs.State.{State, opening}
 use Rattle.market_types.specs.History.{of_seat}
-use Rattle.edit_history.specs.Chronicled.{Chronicled}
+use Rattle.edit_history.specs.Chronicled.{Chronicled, most_forgotten}
+use Rattle.edit_history.specs.Places.{LacksPlaces}
+use Rattle.edit_history.specs.declared.keeping.Keeping.TheVariants.{Everything}
+use Rattle.market_desk.specs.Forgetting.{forgotten}
 use Rattle.market_lock.specs.declared.view.Terms.{Terms}
 use Rattle.market_lock.specs.declared.view.Known.{Known}
 use Rattle.market_lock.specs.declared.view.View.{View}
@@ -13,19 +17,31 @@ use Rattle.market_lock.specs.declared.view.View.TheVariants.{Opener, Idle, Close
 abbrev pub opening_of : Terms → State
 opening_of t = opening t.base t.hard t.seats t.levels
 
--- the chronicle that lies on the desk after this history
+-- the chronicle of an office after this history, which keeps the entries from this one on
+abbrev pub chronicle_from : Terms → List Entry → ℕ → Chronicled
+chronicle_from t log from = record { start = opening_of t; log = log; places = t.places; from = from; keeping = t.keeping }
+
+-- the chronicle that lies on the desk after this history, of which so many entries were cut out where it is kept in parts
+abbrev pub chronicle_cut : Terms → List Entry → ℕ → Chronicled
+chronicle_cut t log cut = chronicle_from t log (forgotten t.keeping (length log) cut)
+
+-- the same where none was cut out
 abbrev pub chronicle_of : Terms → List Entry → Chronicled
-chronicle_of t log = record { start = opening_of t; log = log; places = t.places; from = 0 }
+chronicle_of t log = chronicle_cut t log 0
+
+-- it has places for each call, whatever was called before: it is never full
+abbrev pub IsEndless : Terms → Type 0
+IsEndless t = (log : List Entry) (seat : ℕ) (cmd : Cmd) → length log ≤ most_forgotten → LacksPlaces (chronicle_of t log) seat cmd → ⊥
 
 abbrev pub no_terms : Terms
-no_terms = record { base = 0; hard = 0; seats = 0; places = 0; levels = 0 }
+no_terms = record { base = 0; hard = 0; seats = 0; places = 0; levels = 0; keeping = Everything }
 
-abbrev pub known : Terms → ℕ → List Entry → List Entry → Known
-known terms seat seen mine = record { terms = terms; seat = seat; seen = seen; mine = mine }
+abbrev pub known : Terms → ℕ → List Entry → ℕ → List Entry → Known
+known terms seat seen from mine = record { terms = terms; seat = seat; seen = seen; from = from; mine = mine }
 
--- the caller, once it has seen this history
-abbrev pub shown : Known → List Entry → Known
-shown k log = known k.terms k.seat log (of_seat k.seat log)
+-- the caller, once it has seen this history, and from where on it is kept
+abbrev pub shown : Known → List Entry → ℕ → Known
+shown k log from = known k.terms k.seat log from (of_seat k.seat log)
 
 -- one pass more is dealt
 abbrev pub one_more : View → View
@@ -34,7 +50,7 @@ one_more v = v
 
 -- the next pass, which has seen nothing and called nothing
 abbrev pub next_pass : View → View
-next_pass (Opener t made) = Idle (known t made [] [])
+next_pass (Opener t made) = Idle (known t made [] 0 [])
 next_pass v = Spent
 
 -- who takes passes back keeps what one of them knew

@@ -1,14 +1,18 @@
 //! The office: what each call does to what its caller knows.
-ghost use Rattle.std.specs.Prelude.{◌≡◌, ℕ, ◌+◌, ◌<◌, ◌==◌, length, false, vec_len, slice_get, Some, IfOk, IfErr, All, sum_by, count_by};
+ghost use Rattle.std.specs.Prelude.{◌≡◌, ℕ, ◌+◌, ◌<◌, ◌≤◌, ◌==◌, [], length, false, vec_len, vec_capacity, slice_get, Some, IfOk, IfErr, IfSome, OnSome, IsSome, All, sum_by, count_by};
 ghost use Rattle.market_types.specs.declared.command.Cmd.TheVariants.{Leave};
+ghost use Rattle.market_types.specs.declared.reply.OpenFault.TheVariants.{Memory};
 ghost use Rattle.market_types.specs.declared.reply.Reply.TheVariants.{Left};
 ghost use Rattle.market_types.specs.Allotment.{active};
 ghost use Rattle.market_types.specs.Commands.{moves_seat};
 ghost use Rattle.market_types.specs.Opening.{MemoryAside};
-ghost use Rattle.edit_history.specs.Chronicled.{market_of, opened_chronicle};
+ghost use Rattle.edit_history.specs.Chronicled.{market_of, most_forgotten, opened_chronicle, opened_in_parts, opened_unrecorded};
+ghost use Rattle.edit_history.specs.Parts.{EndsWith};
 ghost use Rattle.edit_history.specs.Places.{placed as seats_placed};
-ghost use Rattle.market_lock.specs.Views.{opening_of, chronicle_of};
-ghost use Rattle.market_lock.specs.Seen.{OfPass, OfPlaced, IsSamePass, fresh, kept_by, Met};
+ghost use Rattle.edit_history.specs.declared.keeping.Keeping.TheVariants.{InParts};
+ghost use Rattle.market_types.specs.History.{IsLegal};
+ghost use Rattle.market_lock.specs.Views.{opening_of, chronicle_of, chronicle_cut, IsEndless};
+ghost use Rattle.market_lock.specs.Seen.{OfPass, OfPlaced, IsSamePass, Looks, fresh, kept_by, Met};
 ghost use Rattle.market_lock.specs.Moves.{Called, Fails, HasJoined, HasStayed};
 ghost use Rattle.market_lock.specs.Headline.{IsGivenBy};
 
@@ -17,8 +21,11 @@ use crate::opening::{Furnished, deal, furnish};
 use crate::pass::{Joined, Pass, Placed, Stayed};
 use crate::rule::{Enter, Shelf};
 use crate::view::Terms;
-use edit_history::{CallFault, Chronicle, own_entries_place_a_seat};
-use market_types::{Cmd, OpenFault, Reply, SeatNo};
+use edit_history::{
+    CallFault, Chronicle, Keeping, Part, a_forgetful_chronicle_is_never_full,
+    own_entries_place_a_seat,
+};
+use market_types::{Cmd, Entry, OpenFault, Reply, SeatNo};
 use std::alloc::Global;
 use std::marker::Model;
 use std::sync::Wait;
@@ -42,7 +49,7 @@ impl<C: Ledger, W: Ledger> Model for Office<C, W> {
     ghost invariant = { λ o. (o.table.shared.table_id.words ≡ 1) × (o.table.shared.table_id.slots ≡ 1) × (C.parts ≡ o.table.shared.key.seats) × (W.parts ≡ o.table.shared.key.seats) };
 }
 
-/// What an office leaves: its market with the whole history, the calls that all callers counted, and their placed workers.
+/// What an office leaves: its market with its history, the calls that all callers counted, and their placed workers.
 #[derive(Drop)]
 pub struct Closed {
     pub chronicle: Chronicle,
@@ -78,11 +85,98 @@ impl<C: Ledger, W: Ledger> Office<C, W> {
             seats,
             places,
             levels,
+            keeping: Keeping::Everything,
         };
+        Self::with_chronicle(alloc, &terms, chronicle, calls, workers)
+    }
+
+    /// An office whose entries are taken out in parts by `cut`. Its places are taken by the entries since the last cut alone, so
+    /// that no call is answered `HistoryFull` where it is cut in time. All else is as with `open`: the numbers and their faults,
+    /// and what each call does.
+    pub fn open_in_parts(
+        alloc: Global,
+        base: u32,
+        hard: u32,
+        seats: u8,
+        places: u32,
+        levels: u32,
+        calls: Blank,
+        workers: Blank,
+    ) -> Result<(Self, Vec<Pass<C, W>>), OpenFault>
+        requires calls { (calls.name ≡ C.name) × (calls.parts ≡ C.parts) × (C.parts ≡ seats) }
+        requires workers { (workers.name ≡ W.name) × (workers.parts ≡ W.parts) × (W.parts ≡ seats) }
+        ensures exact { MemoryAside (opened_in_parts base hard seats places levels) (kept_by result) }
+        ensures one_for_each { IfOk result (λ o. length o.1.items ≡ seats) }
+        ensures passes { IfOk result (λ o. (k : ℕ) → k < seats → slice_get o.1.items k ≡ Some (fresh o.0 k)) }
+        ensures own { IfOk result (λ o. All (λ (p : OfPass). p.table ≡ o.0.table) o.1.items) }
+    {
+        let chronicle = Chronicle::new_in_parts(alloc, base, hard, seats, places, levels)?;
+        let terms = Terms {
+            base,
+            hard,
+            seats,
+            places,
+            levels,
+            keeping: Keeping::InParts,
+        };
+        Self::with_chronicle(alloc, &terms, chronicle, calls, workers)
+    }
+
+    /// An office that keeps no entries. Its history exists in proofs alone, so that a call takes no memory but the market's own
+    /// and a vector that has a few entries at most: one for each seat, and two. It never answers `HistoryFull` in the first
+    /// 18,446,744,073,708,503,039 calls. All else is as with `open`: the numbers and their faults, and what each call does.
+    pub fn open_unrecorded(
+        alloc: Global,
+        base: u32,
+        hard: u32,
+        seats: u8,
+        levels: u32,
+        calls: Blank,
+        workers: Blank,
+    ) -> Result<(Self, Vec<Pass<C, W>>), OpenFault>
+        requires calls { (calls.name ≡ C.name) × (calls.parts ≡ C.parts) × (C.parts ≡ seats) }
+        requires workers { (workers.name ≡ W.name) × (workers.parts ≡ W.parts) × (W.parts ≡ seats) }
+        ensures exact { MemoryAside (opened_unrecorded base hard seats levels) (kept_by result) }
+        ensures one_for_each { IfOk result (λ o. length o.1.items ≡ seats) }
+        ensures passes { IfOk result (λ o. (k : ℕ) → k < seats → slice_get o.1.items k ≡ Some (fresh o.0 k)) }
+        ensures own { IfOk result (λ o. All (λ (p : OfPass). p.table ≡ o.0.table) o.1.items) }
+        ensures endless { IfOk result (λ o. IsEndless o.0.terms) }
+    {
+        a_forgetful_chronicle_is_never_full();
+        let chronicle = Chronicle::new_unrecorded(alloc, base, hard, seats, levels)?;
+        let terms = Terms {
+            base,
+            hard,
+            seats,
+            places: u32::from(seats) + 2,
+            levels,
+            keeping: Keeping::Nothing,
+        };
+        Self::with_chronicle(alloc, &terms, chronicle, calls, workers)
+    }
+
+    /// An office of a new chronicle, and its passes. Out of memory is the only fault.
+    fn with_chronicle(
+        alloc: Global,
+        terms: &Terms,
+        chronicle: Chronicle,
+        calls: Blank,
+        workers: Blank,
+    ) -> Result<(Self, Vec<Pass<C, W>>), OpenFault>
+        requires calls { (calls.name ≡ C.name) × (calls.parts ≡ C.parts) × (C.parts ≡ terms.now.seats) }
+        requires workers { (workers.name ≡ W.name) × (workers.parts ≡ W.parts) × (W.parts ≡ terms.now.seats) }
+        requires chronicle { chronicle ≡ chronicle_of terms.now [] }
+        ensures terms { IfOk result (λ o. o.0.terms ≡ terms.now) }
+        ensures fault { IfErr result (λ fault. fault ≡ Memory) }
+        ensures one_for_each { IfOk result (λ o. length o.1.items ≡ terms.now.seats) }
+        ensures passes { IfOk result (λ o. (k : ℕ) → k < terms.now.seats → slice_get o.1.items k ≡ Some (fresh o.0 k)) }
+        ensures own { IfOk result (λ o. All (λ (p : OfPass). p.table ≡ o.0.table) o.1.items) }
+    {
+        let seats = terms.seats;
         let Ok(mut passes) = Vec::<Pass<C, W>>::with_capacity(alloc, seats as usize) else {
             return Err(OpenFault::Memory);
         };
-        let Ok(furnished) = furnish::<C, W>(alloc, &terms, chronicle, calls, workers) else {
+        let Ok(furnished) = furnish::<C, W>(alloc, terms, chronicle, calls, workers) else {
             passes.destroy_empty();
             return Err(OpenFault::Memory);
         };
@@ -200,14 +294,39 @@ impl<C: Ledger, W: Ledger> Office<C, W> {
         }
     }
 
+    /// Takes out the entries that the office keeps, as the next part of its history: they take no place any more. The caller has
+    /// then seen the whole history, which the part ends; the part begins where the last cut was, by whichever caller. `spare` comes
+    /// in the entries' stead: it is emptied before the lock is taken, and nothing is allocated, so that the lock is held for a
+    /// constant time. The answer is `None` unless the office was opened by `open_in_parts`, where `spare` has no room for an entry for
+    /// each placed seat (so much as there are seats is enough), and where the history is longer than
+    /// 18,446,744,073,708,503,039 entries; nothing is then cut out. It waits for the lock, and for nothing else.
+    pub fn cut<R: Wait>(&self, rt: &R, pass: &mut Pass<C, W>, spare: Vec<Entry>) -> Option<Part>
+        requires office { pass.old.table ≡ self.now.table }
+        ensures same { IsSamePass pass.old pass.new }
+        ensures legal { IsLegal (opening_of pass.new.terms) pass.new.seen }
+        ensures looks { Looks pass.old pass.new }
+        ensures later { pass.old.from ≤ pass.new.from }
+        ensures part { IfSome result (λ part. EndsWith pass.new.seen part.from part.entries.items) }
+        ensures goes_on { IfSome result (λ part. pass.old.from ≤ part.from) }
+        ensures all { OnSome result (pass.new.from ≡ length pass.new.seen) }
+        ensures countable { OnSome result (length pass.new.seen ≤ most_forgotten) }
+        ensures in_parts { OnSome result (pass.old.terms.keeping ≡ InParts) }
+        ensures served { pass.old.terms.keeping ≡ InParts → pass.old.terms.seats ≤ vec_capacity spare → length pass.new.seen ≤ most_forgotten → IsSome result }
+    {
+        let mut emptied = spare;
+        emptied.clear();
+        pass.ticket.cut(rt, &self.table, emptied)
+    }
+
     /// Takes all passes and placed workers back, and leaves one history: each of them had seen a beginning of it, and its entries
-    /// are all that the history has of its seat. It doesn't wait, and takes no memory.
+    /// are all that the history has of its seat. The entries that can be read are those since the last cut. It doesn't wait, and
+    /// takes no memory.
     pub fn close(self, passes: Vec<Pass<C, W>>, placed: Vec<Placed<C, W>>) -> Closed
         requires own { All (λ (p : OfPass). p.table ≡ self.table) passes.items }
         requires own_placed { All (λ (p : OfPlaced). p.who.table ≡ self.table) placed.items }
         requires all { vec_len passes + vec_len placed ≡ self.terms.seats }
         ensures headline { IsGivenBy (opening_of self.terms) result.chronicle }
-        ensures whole { result.chronicle ≡ chronicle_of self.terms result.chronicle.log }
+        ensures whole { result.chronicle ≡ chronicle_cut self.terms result.chronicle.log result.chronicle.from }
         ensures passes { All (Met result.chronicle.log) passes.items }
         ensures placed { All (λ (p : OfPlaced). Met result.chronicle.log p.who) placed.items }
         ensures calls { result.calls ≡ length result.chronicle.log }

@@ -1,4 +1,4 @@
-//! Three callers of one office, one after another: two come to work, and one of them stays.
+//! Three callers of one office, one after another: two come to work, and one of them stays. An office that is never full.
 ghost use Rattle.std.specs.Prelude.{◌≡◌, ◌<◌, ◌+◌, vec_len, vec_capacity, All};
 ghost use Rattle.market_lock.specs.Seen.{OfPass, OfPlaced};
 
@@ -136,4 +136,90 @@ fn three_callers_meet(rt: HostRuntime) {
     assert!(&rt; closed.chronicle.len() == 6);
     let view = closed.chronicle.market().view(ArenaId::new(1));
     assert!(&rt; matches!(view, Some(arena) if arena.active == 1 && arena.hire == 1));
+}
+
+/// The caller joins, stays and leaves so many times.
+fn visit_often<C: Ledger, W: Ledger, R: Wait>(
+    rt: &R,
+    alloc: Global,
+    office: &Office<C, W>,
+    pass: Pass<C, W>,
+    times: u32,
+) -> Pass<C, W>
+    requires { pass.table ≡ office.now.table }
+    ensures { result.table ≡ office.now.table }
+{
+    let mut pass = pass;
+    for _ in 0..times {
+        pass = match office.join(rt, alloc, pass) {
+            Joined::Placed(worker) => stay_and_leave(rt, alloc, office, worker),
+            Joined::Idle(pass) => pass,
+            Joined::Failed(pass, _) => pass,
+        };
+    }
+    pass
+}
+
+/// Seat 0 opens an arena that asks for one worker, and seat 1 visits it 400,000 times.
+fn visited<C: Ledger, W: Ledger, R: Wait>(
+    rt: &R,
+    alloc: Global,
+    office: Office<C, W>,
+    passes: Vec<Pass<C, W>>,
+    placed: Vec<Placed<C, W>>,
+) -> Closed
+    requires own { All (λ (p : OfPass). p.table ≡ office.table) passes.items }
+    requires two { (vec_len passes ≡ 2) × (office.terms.seats ≡ 2) }
+    requires nobody { vec_len placed ≡ 0 }
+{
+    let mut passes = passes;
+    let Some(second) = passes.pop() else {
+        unreachable!()
+    };
+    let Some(first) = passes.pop() else {
+        unreachable!()
+    };
+    let mut first = first;
+    drop(office.call(rt, alloc, &mut first, Cmd::Open(8, 1, Level::from_index(1))));
+    drop(office.call(rt, alloc, &mut first, Cmd::Request(ArenaId::new(1), 1, 0)));
+    let second = visit_often(rt, alloc, &office, second, 400_000);
+    put(&office, &mut passes, first);
+    put(&office, &mut passes, second);
+    office.close(passes, placed)
+}
+
+fn unrecorded<C: Ledger, W: Ledger, R: Wait>(
+    rt: &R,
+    alloc: Global,
+    calls: Blank,
+    workers: Blank,
+) -> Result<Closed, OpenFault>
+    requires calls { (calls.name ≡ C.name) × (calls.parts ≡ C.parts) × (calls.parts ≡ 2) }
+    requires workers { (workers.name ≡ W.name) × (workers.parts ≡ W.parts) × (workers.parts ≡ 2) }
+{
+    let Ok(placed) = Vec::<Placed<C, W>>::with_capacity(alloc, 1) else {
+        return Err(OpenFault::Memory);
+    };
+    match Office::<C, W>::open_unrecorded(alloc, 8, 64, 2, 3, calls, workers) {
+        Ok((office, passes)) => Ok(visited(rt, alloc, office, passes, placed)),
+        Err(fault) => {
+            placed.destroy_empty();
+            Err(fault)
+        }
+    }
+}
+
+#[test]
+fn an_unrecorded_office_answers_more_calls_than_a_history_has_places(rt: HostRuntime) {
+    let alloc = rt.alloc();
+    let answer = unrecorded::<Brand, Brand, _>(&rt, alloc, Blank::new(2), Blank::new(2));
+    let Ok(closed) = answer else {
+        panic!(&rt; "no office");
+    };
+    // Each visit is three calls: it joins, stays and leaves.
+    assert!(&rt; closed.calls == 1_200_002);
+    assert!(&rt; closed.workers == 0);
+    assert!(&rt; closed.chronicle.len() == 1_200_002);
+    let view = closed.chronicle.market().view(ArenaId::new(1));
+    assert!(&rt; matches!(view, Some(arena) if arena.active == 0 && arena.hire == 1));
 }

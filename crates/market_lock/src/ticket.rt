@@ -1,20 +1,23 @@
 //! What a pass and a placed worker have in common, and one call of it.
-ghost use Rattle.std.specs.Prelude.{◌≡◌, ◌+◌, ◌<◌, length, false, IfOk, IfErr, IsOk, OnErr};
+ghost use Rattle.std.specs.Prelude.{◌≡◌, ◌+◌, ◌<◌, ◌≤◌, length, false, vec_capacity, IfOk, IfErr, IsOk, OnErr, IfSome, OnSome, IsSome};
 ghost use Rattle.market_types.specs.Commands.{moves_seat};
 ghost use Rattle.market_types.specs.History.{IsLegal, of_seat, place_after, place_in};
 ghost use Rattle.market_core.specs.Moves.{Answers};
+ghost use Rattle.edit_history.specs.Chronicled.{most_forgotten};
+ghost use Rattle.edit_history.specs.Parts.{EndsWith};
 ghost use Rattle.edit_history.specs.Places.{takes};
+ghost use Rattle.edit_history.specs.declared.keeping.Keeping.TheVariants.{InParts};
 ghost use Rattle.market_desk.specs.Workers.{own_place};
 ghost use Rattle.market_lock.specs.Views.{opening_of};
 ghost use Rattle.market_lock.specs.Rule.{Follows};
-ghost use Rattle.market_lock.specs.Seen.{Extends, IsSamePass};
+ghost use Rattle.market_lock.specs.Seen.{Extends, IsSamePass, Looks};
 ghost use Rattle.market_lock.specs.Moves.{Fails};
 ghost use Rattle.market_lock.specs.Held.{IsIdle, HasTaken, HasDesk, HoldsDesk, HasGiven};
-ghost use Rattle.market_lock.specs.Serving.{Serves, MayServe};
+ghost use Rattle.market_lock.specs.Serving.{Serves, MayServe, Cuts};
 
 use crate::rule::{Give, Place, Shelf, Take};
-use edit_history::CallFault;
-use market_types::{Cmd, Reply, SeatNo};
+use edit_history::{CallFault, Part};
+use market_types::{Cmd, Entry, Reply, SeatNo};
 use std::alloc::Global;
 use std::hint::spin_loop;
 use std::marker::Model;
@@ -98,6 +101,22 @@ fn serve<C: Ledger, W: Ledger>(
     desk.serve(alloc, share, number, cmd)
 }
 
+/// The desk that the seat has hands out the entries that it keeps.
+fn cut_off<C: Ledger, W: Ledger>(
+    table: &Shelf<C, W>,
+    seat: &mut Place<C, W>,
+    spare: Vec<Entry>,
+) -> Option<Part>
+    requires table { seat.old.table_id ≡ table.now.shared.table_id }
+    requires desk { HasDesk seat.old.me (λ _. Unit {0}) }
+    ensures table { seat.new.table_id ≡ seat.old.table_id }
+    ensures view { seat.new.me.0 ≡ seat.old.me.0 }
+    ensures desk { HasDesk seat.old.me (λ d. HasDesk seat.new.me (λ e. Cuts (vec_capacity spare) result d e)) }
+{
+    let desk = seat.slot_mut(&table.shared, 0);
+    desk.cut(spare)
+}
+
 /// Gives the desk back.
 fn give<C: Ledger, W: Ledger>(table: &Shelf<C, W>, seat: &mut Place<C, W>)
     requires table { (seat.old.table_id ≡ table.now.shared.table_id) × (table.now.shared.table_id.words ≡ 1) × (table.now.shared.table_id.slots ≡ 1) }
@@ -122,6 +141,7 @@ impl<C: Ledger, W: Ledger> Ticket<C, W> {
         ensures legal { IsLegal (opening_of self.new.terms) self.new.seen }
         ensures ok { IfOk result (λ reply. Extends self.old cmd reply self.new) }
         ensures err { IfErr result (λ fault. Fails self.old cmd fault self.new) }
+        ensures later { self.old.from ≤ self.new.from }
         ensures answers { IfOk result (λ reply. Answers (own_place self.old.mine) cmd reply) }
         ensures moved { IfOk result (λ reply. own_place self.new.mine ≡ place_after (own_place self.old.mine) reply) }
         ensures still { moves_seat cmd ≡ false → own_place self.new.mine ≡ own_place self.old.mine }
@@ -138,6 +158,26 @@ impl<C: Ledger, W: Ledger> Ticket<C, W> {
         );
         give(table, &mut self.seat);
         answer
+    }
+
+    /// The desk is taken, hands out the entries that it keeps, and is given back.
+    pub fn cut<R: Wait>(&mut self, rt: &R, table: &Shelf<C, W>, spare: Vec<Entry>) -> Option<Part>
+        requires { (self.old.table ≡ table.now.shared.table_id) × (table.now.shared.table_id.words ≡ 1) × (table.now.shared.table_id.slots ≡ 1) }
+        ensures same { IsSamePass self.old self.new }
+        ensures legal { IsLegal (opening_of self.new.terms) self.new.seen }
+        ensures looks { Looks self.old self.new }
+        ensures later { self.old.from ≤ self.new.from }
+        ensures part { IfSome result (λ part. EndsWith self.new.seen part.from part.entries.items) }
+        ensures goes_on { IfSome result (λ part. self.old.from ≤ part.from) }
+        ensures all { OnSome result (self.new.from ≡ length self.new.seen) }
+        ensures countable { OnSome result (length self.new.seen ≤ most_forgotten) }
+        ensures in_parts { OnSome result (self.old.terms.keeping ≡ InParts) }
+        ensures served { self.old.terms.keeping ≡ InParts → self.old.terms.seats ≤ vec_capacity spare → length self.new.seen ≤ most_forgotten → IsSome result }
+    {
+        take(rt, table, &mut self.seat);
+        let part = cut_off(table, &mut self.seat, spare);
+        give(table, &mut self.seat);
+        part
     }
 
     /// Its seat.

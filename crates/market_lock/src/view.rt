@@ -1,4 +1,5 @@
 //! What the seats of the lock's table know. But for the terms no value of these types is made: they exist in proofs alone.
+use edit_history::Keeping;
 use market_types::{Entry, SeatNo};
 use std::collections::LinkedList;
 
@@ -10,13 +11,15 @@ pub(crate) struct Terms {
     pub seats: u8,
     pub places: u32,
     pub levels: u32,
+    pub keeping: Keeping,
 }
 
-/// What a caller knows: the history that it saw last, and its own entries in it.
+/// What a caller knows: the history that it saw last, how many of its first entries were not kept then, and its own entries in it.
 pub(crate) struct Known {
     pub terms: Terms,
     pub seat: SeatNo,
     pub seen: LinkedList<Entry>,
+    pub from: u64,
     pub mine: LinkedList<Entry>,
 }
 

@@ -1,4 +1,4 @@
--- Words that clap takes name the subcommand `run` or `explain`, with a number for each of its options, or `replay`.
+-- Words that clap takes name the subcommand `run`, `explain` or `drive`, with a number for each of its options, or `replay`.
 use Rattle.std.proofs.Common.{◌≡◌, ◌∙◌, ◌&&◌, ◌||◌, cond, not, ℕ, Bool, true, false, refl, sym, subst, List, [], ◌∷◌, Option, Some, None, is_some, option_map, inl, inr, true≢false, codes, pos, bytes_eq, drop, find, fold, slice_get}
 use Rattle.std.specs.List.{list_any}
 use Rattle.std.specs.Option.{option_map_or}
@@ -121,6 +121,9 @@ explain = first_shape (drop 1 market.subs)
 abbrev replay : Shape
 replay = first_shape (drop 2 market.subs)
 
+abbrev drive : Shape
+drive = first_shape (drop 3 market.subs)
+
 other : {X : Type 0} → false ≡ true → X
 other e = absurd (true≢false (sym e))
 
@@ -130,33 +133,39 @@ record HasMarketRules (rules : List Rule) : Type 0 where
   pub only_hard : Only (codes "hard") (codes "64") 65535 rules
   pub only_seats : Only (codes "seats") (codes "4") 64 rules
   pub only_levels : Only (codes "levels") (codes "3") 8 rules
+  pub only_last : Only (codes "last") (codes "1048576") 4294967294 rules
   pub has_base : HasRule (codes "base") (codes "8") 65536 rules
   pub has_hard : HasRule (codes "hard") (codes "64") 65535 rules
   pub has_seats : HasRule (codes "seats") (codes "4") 64 rules
   pub has_levels : HasRule (codes "levels") (codes "3") 8 rules
+  pub has_last : HasRule (codes "last") (codes "1048576") 4294967294 rules
 
 run_rules : HasMarketRules run.rules
 run_rules = record {
-  only_base = ((λ _. refl), (other, (other, (other, (other, (other, tt))))));
-  only_hard = (other, ((λ _. refl), (other, (other, (other, (other, tt))))));
-  only_seats = (other, (other, ((λ _. refl), (other, (other, (other, tt))))));
-  only_levels = (other, (other, (other, ((λ _. refl), (other, (other, tt))))));
+  only_base = ((λ _. refl), (other, (other, (other, (other, (other, (other, tt)))))));
+  only_hard = (other, ((λ _. refl), (other, (other, (other, (other, (other, tt)))))));
+  only_seats = (other, (other, ((λ _. refl), (other, (other, (other, (other, tt)))))));
+  only_levels = (other, (other, (other, ((λ _. refl), (other, (other, (other, tt)))))));
+  only_last = (other, (other, (other, (other, ((λ _. refl), (other, (other, tt)))))));
   has_base = inl refl;
   has_hard = inr (inl refl);
   has_seats = inr (inr (inl refl));
   has_levels = inr (inr (inr (inl refl)));
+  has_last = inr (inr (inr (inr (inl refl))));
 }
 
 explain_rules : HasMarketRules explain.rules
 explain_rules = record {
-  only_base = ((λ _. refl), (other, (other, (other, (other, tt)))));
-  only_hard = (other, ((λ _. refl), (other, (other, (other, tt)))));
-  only_seats = (other, (other, ((λ _. refl), (other, (other, tt)))));
-  only_levels = (other, (other, (other, ((λ _. refl), (other, tt)))));
+  only_base = ((λ _. refl), (other, (other, (other, (other, (other, tt))))));
+  only_hard = (other, ((λ _. refl), (other, (other, (other, (other, tt))))));
+  only_seats = (other, (other, ((λ _. refl), (other, (other, (other, tt))))));
+  only_levels = (other, (other, (other, ((λ _. refl), (other, (other, tt))))));
+  only_last = (other, (other, (other, (other, ((λ _. refl), (other, tt))))));
   has_base = inl refl;
   has_hard = inr (inl refl);
   has_seats = inr (inr (inl refl));
   has_levels = inr (inr (inr (inl refl)));
+  has_last = inr (inr (inr (inr (inl refl))));
 }
 
 number_held : (name : Text) (high : ℕ) (rows : List Row) → Holds name high rows → HasNumber name high rows
@@ -175,19 +184,28 @@ number_held name high rows h = go (find (is_at name) rows) refl h
     go None is fits = absurd (true≢false (sym fits))
     go (Some r) is fits = first r (slice_get r.values 0) is refl fits
 
--- a subcommand with the market's options
-module _ (s : Shape) (rules : HasMarketRules s.rules) (single : s.args_override_self ≡ false) where
+-- a subcommand in which a second use of an option is an error
+module _ (s : Shape) (single : s.args_override_self ≡ false) where
   option_held : (name default : Text) (high : ℕ) → Only name default high s.rules → HasRule name default high s.rules → is_signed_in (pos 1) (pos high) default ≡ true
       → (words : List Text) → level_fault s [] nothing_held words false [] ≡ [] → HasNumber name high (rows_after s.rules [] words)
   option_held name default high only has passes words e = number_held name high _ (level_holds name default high s only single words false [] passes has e)
 
+-- a subcommand with the market's options
+module _ (s : Shape) (rules : HasMarketRules s.rules) (single : s.args_override_self ≡ false) where
   numbers : (words : List Text) → level_fault s [] nothing_held words false [] ≡ [] → HasMarketNumbers (rows_after s.rules [] words)
   numbers words e = record {
-    base = option_held (codes "base") (codes "8") 65536 rules.only_base rules.has_base refl words e;
-    hard = option_held (codes "hard") (codes "64") 65535 rules.only_hard rules.has_hard refl words e;
-    seats = option_held (codes "seats") (codes "4") 64 rules.only_seats rules.has_seats refl words e;
-    levels = option_held (codes "levels") (codes "3") 8 rules.only_levels rules.has_levels refl words e;
+    base = option_held s single (codes "base") (codes "8") 65536 rules.only_base rules.has_base refl words e;
+    hard = option_held s single (codes "hard") (codes "64") 65535 rules.only_hard rules.has_hard refl words e;
+    seats = option_held s single (codes "seats") (codes "4") 64 rules.only_seats rules.has_seats refl words e;
+    levels = option_held s single (codes "levels") (codes "3") 8 rules.only_levels rules.has_levels refl words e;
+    last = option_held s single (codes "last") (codes "1048576") 4294967294 rules.only_last rules.has_last refl words e;
   }
+
+drive_only : Only (codes "workers") (codes "4") 16 drive.rules
+drive_only = ((λ _. refl), (other, (other, tt)))
+
+workers_held : (words : List Text) → level_fault drive [] nothing_held words false [] ≡ [] → HasNumber (codes "workers") 16 (rows_after drive.rules [] words)
+workers_held words e = option_held drive refl (codes "workers") (codes "4") 16 drive_only (inl refl) refl words e
 
 -- ---- the subcommand
 
@@ -214,25 +232,26 @@ enters_one : (stop : Option (Text × List Text)) → NoHelp stop → is_some (en
     → (found : Text × List Row) × (entered market stop ≡ Some found) × NamesSubcommand found
 enters_one None no_help some e = absurd (true≢false (sym some))
 enters_one (Some p) no_help some e =
-    go (bytes_eq (codes "run") p.0) (bytes_eq (codes "explain") p.0) (bytes_eq (codes "replay") p.0) (bytes_eq (codes "help") p.0) (not_help p.0 no_help) some e
+    go (bytes_eq (codes "run") p.0) (bytes_eq (codes "explain") p.0) (bytes_eq (codes "replay") p.0) (bytes_eq (codes "drive") p.0) (bytes_eq (codes "help") p.0) (not_help p.0 no_help) some e
   where
     help : Shape
-    help = first_shape (drop 3 market.subs)
+    help = first_shape (drop 4 market.subs)
 
-    met : Bool → Bool → Bool → Bool → Option Shape
-    met is_run is_explain is_replay is_help =
-        cond (is_run || false) (Some run) (cond (is_explain || false) (Some explain) (cond (is_replay || false) (Some replay) (cond (is_help || false) (Some help) None)))
+    met : Bool → Bool → Bool → Bool → Bool → Option Shape
+    met is_run is_explain is_replay is_drive is_help =
+        cond (is_run || false) (Some run) (cond (is_explain || false) (Some explain) (cond (is_replay || false) (Some replay) (cond (is_drive || false) (Some drive) (cond (is_help || false) (Some help) None))))
 
-    go : (is_run is_explain is_replay is_help : Bool) → is_help ≡ false → is_some (option_map (λ s. rows_at s p.1) (met is_run is_explain is_replay is_help)) ≡ true
-        → option_map_or (λ s. level_fault s [] nothing_held p.1 false []) (met is_run is_explain is_replay is_help) [] ≡ []
-        → (found : Text × List Row) × (option_map (λ s. rows_at s p.1) (met is_run is_explain is_replay is_help) ≡ Some found) × NamesSubcommand found
-    go true is_explain is_replay is_help none has free =
+    go : (is_run is_explain is_replay is_drive is_help : Bool) → is_help ≡ false → is_some (option_map (λ s. rows_at s p.1) (met is_run is_explain is_replay is_drive is_help)) ≡ true
+        → option_map_or (λ s. level_fault s [] nothing_held p.1 false []) (met is_run is_explain is_replay is_drive is_help) [] ≡ []
+        → (found : Text × List Row) × (option_map (λ s. rows_at s p.1) (met is_run is_explain is_replay is_drive is_help) ≡ Some found) × NamesSubcommand found
+    go true is_explain is_replay is_drive is_help none has free =
         (rows_at run p.1, refl, inl (record { name = inl refl; numbers = numbers run run_rules refl p.1 free }))
-    go false true is_replay is_help none has free =
+    go false true is_replay is_drive is_help none has free =
         (rows_at explain p.1, refl, inl (record { name = inr refl; numbers = numbers explain explain_rules refl p.1 free }))
-    go false false true is_help none has free = (rows_at replay p.1, refl, inr refl)
-    go false false false false none has free = absurd (true≢false (sym has))
-    go false false false true none has free = absurd (true≢false none)
+    go false false true is_drive is_help none has free = (rows_at replay p.1, refl, inr (inl refl))
+    go false false false true is_help none has free = (rows_at drive p.1, refl, inr (inr (record { name = refl; workers = workers_held p.1 free })))
+    go false false false false false none has free = absurd (true≢false (sym has))
+    go false false false false true none has free = absurd (true≢false none)
 
 -- where clap finds no fault the words name a subcommand
 pub entered_one : (words : List Text) → fault_of market_app words ≡ []

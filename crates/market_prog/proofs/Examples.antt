@@ -1,12 +1,12 @@
 -- Command lines worked out by hand.
-use Rattle.std.proofs.Common.{◌≡◌, refl, List, [], ◌∷◌, Option, Some, codes, option_map}
+use Rattle.std.proofs.Common.{◌≡◌, refl, Bool, true, false, List, [], ◌∷◌, Option, Some, codes, option_map}
 use Rattle.clap.specs.Faults.{fault_of}
 use Rattle.clap.specs.Kinds.{Kinds}
 use Rattle.clap.specs.Walk.{Text, first_of}
 use Rattle.clap.specs.Simple.{subcommand_of}
 use Rattle.clap.specs.declared.error.kind.ErrorKind.TheVariants.{ArgumentConflict, DisplayHelp, DisplayHelpOnMissingArgumentOrSubcommand, InvalidSubcommand, InvalidValue, UnknownArgument, ValueValidation}
 use Rattle.clap.proofs.OnLiterals.{clap_on_literals}
-use Rattle.market_prog.specs.Words.{market_app}
+use Rattle.market_prog.specs.Words.{asks, market_app}
 
 -- the words after `market`
 abbrev line : List Text → List Text
@@ -63,6 +63,25 @@ replay_has_no_options : (chosen (line (codes "replay" ∷ [])) ≡ Some (codes "
     × (fault (line (codes "replay" ∷ codes "first.journal" ∷ [])) ≡ UnknownArgument ∷ [])
 unfolding clap_on_literals
 replay_has_no_options = (refl, refl, refl, refl, refl)
+
+abbrev drive_line : List Text → List Text
+drive_line words = line (codes "drive" ∷ words)
+
+abbrev progress_asked : List Text → Option Bool
+progress_asked words = option_map (λ found. asks (codes "progress") found.1) (subcommand_of market_app (drive_line words))
+
+drive_has_a_number_of_workers : (chosen (drive_line []) ≡ Some (codes "drive"))
+    × (word_of (codes "workers") (drive_line []) ≡ Some (Some (codes "4")))
+    × (word_of (codes "workers") (drive_line (codes "--workers" ∷ codes "16" ∷ [])) ≡ Some (Some (codes "16")))
+    × (fault (drive_line (codes "--workers=0" ∷ [])) ≡ ValueValidation ∷ [])
+    × (fault (drive_line (codes "--workers=17" ∷ [])) ≡ ValueValidation ∷ [])
+    × (fault (drive_line (codes "--base=8" ∷ [])) ≡ UnknownArgument ∷ [])
+unfolding clap_on_literals
+drive_has_a_number_of_workers = (refl, refl, refl, refl, refl, refl)
+
+drive_tells_its_progress : (progress_asked [] ≡ Some false) × (progress_asked (codes "--progress" ∷ codes "--workers=1" ∷ []) ≡ Some true)
+unfolding clap_on_literals
+drive_tells_its_progress = (refl, refl)
 
 no_subcommand : (fault (line []) ≡ DisplayHelpOnMissingArgumentOrSubcommand ∷ []) × (fault (line (codes "fly" ∷ [])) ≡ UnknownArgument ∷ InvalidSubcommand ∷ [])
 unfolding clap_on_literals

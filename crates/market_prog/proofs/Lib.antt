@@ -1,4 +1,5 @@
 mod Examples
+mod DriveExamples
 pub mod Rows
 pub mod Walked
 pub mod Entered
@@ -10,3 +11,4 @@ pub mod Runs
 pub mod Explaining
 pub mod History
 pub mod Journaling
+pub mod Driven

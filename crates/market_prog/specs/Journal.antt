@@ -5,6 +5,7 @@ use Rattle.market_types.specs.State.{State}
 use Rattle.market_types.specs.Script.{told}
 use Rattle.edit_history.specs.Chronicled.{Chronicled}
 use Rattle.edit_history.specs.declared.fault.CallFault.TheVariants.{HistoryFull as NoPlace}
+use Rattle.edit_history.specs.declared.keeping.Keeping.TheVariants.{Everything}
 use Rattle.journal_replay.specs.Journal.{journal_text}
 use Rattle.line_engine.specs.Lines.{lines_of}
 use Rattle.line_engine.specs.Input.{StopsAt, longest_input}
@@ -29,7 +30,7 @@ pub record Journals (start : State) (left left' taken taken' : Option (List ℕ)
 
 -- the chronicle of a script before its first line
 abbrev pub unwritten : State → Chronicled
-unwritten start = record { start = start; log = []; places = script_places; from = 0 }
+unwritten start = record { start = start; log = []; places = script_places; from = 0; keeping = Everything }
 
 -- why a journal was not written: the history is full at one of the lines, or what stops a run too
 abbrev pub JournalCauseOf : RunFault → State → List ℕ → Bool → Bool → Type 0

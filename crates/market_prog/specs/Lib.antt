@@ -1,3 +1,4 @@
+pub mod Options
 pub mod Words
 pub mod Passed
 pub mod Command
@@ -10,3 +11,5 @@ pub mod Status
 pub mod Recorded
 pub mod Recording
 pub mod Journal
+pub mod DriveTexts
+pub mod Drive

@@ -14,12 +14,18 @@ pub record HasMarketNumbers (rows : List Row) : Type 0 where
   pub hard : HasNumber (codes "hard") 65535 rows
   pub seats : HasNumber (codes "seats") 64 rows
   pub levels : HasNumber (codes "levels") 8 rows
+  pub last : HasNumber (codes "last") 4294967294 rows
 
 -- clap's subcommand is `run` or `explain`, with the numbers of its options
 pub record NamesScript (found : Text × List Row) : Type 0 where
   pub name : (found.0 ≡ codes "run") ⊎ (found.0 ≡ codes "explain")
   pub numbers : HasMarketNumbers found.1
 
--- that, or `replay`
+-- it is `drive`, with its number of workers
+pub record NamesDrive (found : Text × List Row) : Type 0 where
+  pub name : found.0 ≡ codes "drive"
+  pub workers : HasNumber (codes "workers") 16 found.1
+
+-- one of these, or `replay`
 abbrev pub NamesSubcommand : Text × List Row → Type 0
-NamesSubcommand found = NamesScript found ⊎ (found.0 ≡ codes "replay")
+NamesSubcommand found = NamesScript found ⊎ ((found.0 ≡ codes "replay") ⊎ NamesDrive found)

@@ -6,10 +6,11 @@ use Rattle.clap.specs.Words.{App, Row, Rule, Text, first_of, new_app, new_rule, 
 use Rattle.clap.specs.declared.builder.ArgAction.TheVariants.{Set, SetTrue}
 use Rattle.clap.specs.declared.builder.value_parser.ValueParser.TheVariants.{Signed}
 use Rattle.market_prog.specs.declared.words.Choice.{Choice}
-use Rattle.market_prog.specs.declared.words.Choice.TheVariants.{Script, Replay}
+use Rattle.market_prog.specs.declared.words.Choice.TheVariants.{Script, Replay, Drive}
 use Rattle.market_prog.specs.declared.words.ScriptTask.{ScriptTask}
 use Rattle.market_prog.specs.declared.words.ScriptTask.TheVariants.{Answer, Journal, Explain}
-use Rattle.market_prog.specs.declared.words.MarketOptions.{MarketOptions}
+use Rattle.market_prog.specs.declared.options.MarketOptions.{MarketOptions}
+use Rattle.market_prog.specs.declared.words.DriveOptions.{DriveOptions}
 
 -- the option `--name` with a number from 1 to high
 abbrev pub number_rule : Text → Text → ℕ → Rule
@@ -23,23 +24,30 @@ number_rule name default high = record (new_rule name) {
 
 -- a subcommand that reads a script, with the market's options
 abbrev pub script_app : Text → App
-script_app name = with_rule (with_rule (with_rule (with_rule (new_app name)
+script_app name = with_rule (with_rule (with_rule (with_rule (with_rule (new_app name)
     (number_rule (codes "base") (codes "8") 65536))
     (number_rule (codes "hard") (codes "64") 65535))
     (number_rule (codes "seats") (codes "4") 64))
-    (number_rule (codes "levels") (codes "3") 8)
+    (number_rule (codes "levels") (codes "3") 8))
+    (number_rule (codes "last") (codes "1048576") 4294967294)
 
--- the option `--journal`
-abbrev pub journal_rule : Rule
-journal_rule = record (new_rule (codes "journal")) { long = Some (codes "journal"); action = Some SetTrue }
+-- the option `--name` without a value
+abbrev pub flag_rule : Text → Rule
+flag_rule name = record (new_rule name) { long = Some name; action = Some SetTrue }
 
 -- the subcommand `run`
 abbrev pub run_app : App
-run_app = with_rule (script_app (codes "run")) journal_rule
+run_app = with_rule (script_app (codes "run")) (flag_rule (codes "journal"))
 
 -- the subcommand `replay`, which has no options
 abbrev pub replay_app : App
 replay_app = new_app (codes "replay")
+
+-- the subcommand `drive`
+abbrev pub drive_app : App
+drive_app = with_rule (with_rule (new_app (codes "drive"))
+    (number_rule (codes "workers") (codes "4") 16))
+    (flag_rule (codes "progress"))
 
 -- a command that tells its version, and is nothing without a subcommand
 abbrev pub with_choice_asked : App → App
@@ -48,10 +56,11 @@ with_choice_asked a =
 
 -- the program's command
 abbrev pub market_app : App
-market_app = with_subcommand (with_subcommand (with_subcommand (with_choice_asked (new_app (codes "market")))
+market_app = with_subcommand (with_subcommand (with_subcommand (with_subcommand (with_choice_asked (new_app (codes "market")))
     run_app.top)
     (script_app (codes "explain")).top)
-    replay_app.top
+    replay_app.top)
+    drive_app.top
 
 -- n, from 1 to high, is the number that the option's word spells in these matches
 pub record IsNumberOf (name : Text) (high : ℕ) (rows : List Row) (n : ℕ) : Type 0 where
@@ -67,21 +76,28 @@ pub record IsMarketOf (rows : List Row) (options : MarketOptions) : Type 0 where
   pub hard : IsNumberOf (codes "hard") 65535 rows options.hard
   pub seats : IsNumberOf (codes "seats") 64 rows options.seats
   pub levels : IsNumberOf (codes "levels") 8 rows options.levels
+  pub last : IsNumberOf (codes "last") 4294967294 rows options.last
 
--- `--journal` is among these matches
-abbrev pub asks_journal : List Row → Bool
-asks_journal rows = option_map_or (λ word. bytes_eq word (codes "true")) (first_of (codes "journal") rows) false
+-- the option `--name` without a value is among these matches
+abbrev pub asks : Text → List Row → Bool
+asks name rows = option_map_or (λ word. bytes_eq word (codes "true")) (first_of name rows) false
 
 -- the task is that of the named subcommand with these matches
 abbrev pub IsTaskOf : Text × List Row → ScriptTask → Type 0
-IsTaskOf found Answer = (found.0 ≡ codes "run") × (asks_journal found.1 ≡ false)
-IsTaskOf found Journal = (found.0 ≡ codes "run") × (asks_journal found.1 ≡ true)
+IsTaskOf found Answer = (found.0 ≡ codes "run") × (asks (codes "journal") found.1 ≡ false)
+IsTaskOf found Journal = (found.0 ≡ codes "run") × (asks (codes "journal") found.1 ≡ true)
 IsTaskOf found Explain = found.0 ≡ codes "explain"
+
+-- the options of `drive` are those of these matches
+pub record IsDriveOf (rows : List Row) (options : DriveOptions) : Type 0 where
+  pub workers : IsNumberOf (codes "workers") 16 rows options.workers
+  pub progress : options.progress ≡ asks (codes "progress") rows
 
 -- the choice is the named subcommand with these matches
 abbrev pub IsChoiceOf : Text × List Row → Choice → Type 0
 IsChoiceOf found (Script task options) = IsTaskOf found task × IsMarketOf found.1 options
 IsChoiceOf found Replay = found.0 ≡ codes "replay"
+IsChoiceOf found (Drive options) = (found.0 ≡ codes "drive") × IsDriveOf found.1 options
 
 -- the choice is that of clap's subcommand for the words, with its matches
 pub record Chooses (words : List Text) (choice : Choice) : Type 0 where

@@ -2,18 +2,18 @@
 ghost use Rattle.std.specs.Prelude.{◌≡◌, ◌↔◌, true, false, IsOk, IsErr, Err, OnOk, IfOk, IfErr};
 ghost use Rattle.std.specs.Io.KnownBytes.{IsAtEnd};
 ghost use Rattle.market_types.specs.declared.reply.OpenFault.{OpenFault};
-ghost use Rattle.market_types.specs.State.{opening};
-ghost use Rattle.market_types.specs.Opening.{opened_market};
+ghost use Rattle.market_prog.specs.Options.{opening_of, opened_of};
 ghost use Rattle.market_prog.specs.Run.{Answers, Stops, HandsOver};
 
 use crate::fault::RunFault;
+use crate::options::MarketOptions;
 use crate::session::Session;
 use byte_devices::{Sink, Source};
 use line_engine::take_lines;
 use market_core::Market;
 use std::alloc::Global;
 
-/// Runs a script over a new market: each of its lines is answered by a line, but for the empty ones and those that
+/// Runs a script over a new market, opened with these options: each of its lines is answered by a line, but for the empty ones and those that
 /// begin with `#`. The result is the number of lines that were unread.
 ///
 /// Before each read, all replies to the lines that have ended are handed over to the sink, so that a caller can write a
@@ -25,10 +25,7 @@ use std::alloc::Global;
 /// takes none `Write`, an input of more than 268,435,456 bytes `TooLong`, running out of memory `Memory`.
 pub fn run_script<R: Source, W: Sink>(
     alloc: Global,
-    base: u32,
-    hard: u32,
-    seats: u8,
-    levels: u32,
+    options: MarketOptions,
     source: &mut R,
     sink: &mut W,
 ) -> Result<u64, RunFault>
@@ -37,20 +34,27 @@ pub fn run_script<R: Source, W: Sink>(
     requires sink_working { W.failed sink.old ≡ false }
 
     // The whole script is read and answered.
-    ensures answers { IfOk result (λ unread. Answers (opening base hard seats levels) (R.left source.old) (R.left source.new) (W.taken sink.old) (W.taken sink.new) unread) }
+    ensures answers { IfOk result (λ unread. Answers (opening_of options) (R.left source.old) (R.left source.new) (W.taken sink.old) (W.taken sink.new) unread) }
     ensures end { OnOk result (R.ended source.new ≡ true) }
     ensures whole { OnOk result (IsAtEnd (R.left source.new)) }
     ensures working { OnOk result ((R.failed source.new ≡ false) × (W.failed sink.new ≡ false)) }
 
     // After a fault a prefix of the replies is written; before a read that fails, all replies to ended lines are.
-    ensures stops { IsOk (opened_market base hard seats levels) → IfErr result (λ fault. Stops (opening base hard seats levels) (R.left source.old) (R.left source.new) (W.taken sink.old) (W.taken sink.new) (R.failed source.new) (W.failed sink.new) fault) }
-    ensures prompt { result ≡ Err RunFault.Read → HandsOver (opening base hard seats levels) (R.left source.old) (R.left source.new) (W.taken sink.old) (W.taken sink.new) }
+    ensures stops { IsOk (opened_of options) → IfErr result (λ fault. Stops (opening_of options) (R.left source.old) (R.left source.new) (W.taken sink.old) (W.taken sink.new) (R.failed source.new) (W.failed sink.new) fault) }
+    ensures prompt { result ≡ Err RunFault.Read → HandsOver (opening_of options) (R.left source.old) (R.left source.new) (W.taken sink.old) (W.taken sink.new) }
 
     // Without a market nothing is read or written.
-    ensures opening { (fault : OpenFault) → (result ≡ Err (RunFault.Open fault)) ↔ (opened_market base hard seats levels ≡ Err fault) }
-    ensures untouched { IsErr (opened_market base hard seats levels) → (source.new ≡ source.old) × (sink.new ≡ sink.old) }
+    ensures opening { (fault : OpenFault) → (result ≡ Err (RunFault.Open fault)) ↔ (opened_of options ≡ Err fault) }
+    ensures untouched { IsErr (opened_of options) → (source.new ≡ source.old) × (sink.new ≡ sink.old) }
 {
-    let market = Market::new(alloc, base, hard, seats, levels)?;
+    let MarketOptions {
+        base,
+        hard,
+        seats,
+        levels,
+        last,
+    } = options;
+    let market = Market::with_last(alloc, base, hard, seats, levels, last)?;
     let session = take_lines(alloc, Session::new(alloc, market), source, sink)?;
     Ok(session.unread())
 }

@@ -2,11 +2,11 @@
 ghost use Rattle.std.specs.Prelude.{◌≡◌, ◌↔◌, true, false, IsOk, IsErr, Err, OnOk, IfOk, IfErr};
 ghost use Rattle.std.specs.Io.KnownBytes.{IsAtEnd};
 ghost use Rattle.market_types.specs.declared.reply.OpenFault.{OpenFault};
-ghost use Rattle.market_types.specs.State.{opening};
-ghost use Rattle.market_types.specs.Opening.{opened_market};
+ghost use Rattle.market_prog.specs.Options.{opening_of, opened_of};
 ghost use Rattle.market_prog.specs.Explain.{Explains, StopsExplaining};
 
 use crate::fault::RunFault;
+use crate::options::MarketOptions;
 use crate::quiet::QuietSession;
 use byte_devices::{Sink, Source};
 use explainer::explain;
@@ -24,10 +24,7 @@ use std::alloc::Global;
 /// before the whole script is read.
 pub fn explain_script<R: Source, W: Sink>(
     alloc: Global,
-    base: u32,
-    hard: u32,
-    seats: u8,
-    levels: u32,
+    options: MarketOptions,
     source: &mut R,
     sink: &mut W,
 ) -> Result<u64, RunFault>
@@ -36,20 +33,27 @@ pub fn explain_script<R: Source, W: Sink>(
     requires sink_working { W.failed sink.old ≡ false }
 
     // The whole script is read, and the market that it leads to is explained.
-    ensures explains { IfOk result (λ unread. Explains (opening base hard seats levels) (R.left source.old) (R.left source.new) (W.taken sink.old) (W.taken sink.new) unread) }
+    ensures explains { IfOk result (λ unread. Explains (opening_of options) (R.left source.old) (R.left source.new) (W.taken sink.old) (W.taken sink.new) unread) }
     ensures end { OnOk result (R.ended source.new ≡ true) }
     ensures whole { OnOk result (IsAtEnd (R.left source.new)) }
     ensures working { OnOk result ((R.failed source.new ≡ false) × (W.failed sink.new ≡ false)) }
 
     // After a write or memory fault a prefix of the explanation is written, after any other nothing is.
-    ensures stops { IsOk (opened_market base hard seats levels) → IfErr result (λ fault. StopsExplaining (opening base hard seats levels) (R.left source.old) (R.left source.new) (W.taken sink.old) (W.taken sink.new) (R.failed source.new) (W.failed sink.new) fault) }
+    ensures stops { IsOk (opened_of options) → IfErr result (λ fault. StopsExplaining (opening_of options) (R.left source.old) (R.left source.new) (W.taken sink.old) (W.taken sink.new) (R.failed source.new) (W.failed sink.new) fault) }
 
     // Without a market nothing is read or written.
-    ensures opening { (fault : OpenFault) → (result ≡ Err (RunFault.Open fault)) ↔ (opened_market base hard seats levels ≡ Err fault) }
-    ensures untouched { IsErr (opened_market base hard seats levels) → (source.new ≡ source.old) × (sink.new ≡ sink.old) }
+    ensures opening { (fault : OpenFault) → (result ≡ Err (RunFault.Open fault)) ↔ (opened_of options ≡ Err fault) }
+    ensures untouched { IsErr (opened_of options) → (source.new ≡ source.old) × (sink.new ≡ sink.old) }
 {
     silence::<QuietSession>();
-    let market = Market::new(alloc, base, hard, seats, levels)?;
+    let MarketOptions {
+        base,
+        hard,
+        seats,
+        levels,
+        last,
+    } = options;
+    let market = Market::with_last(alloc, base, hard, seats, levels, last)?;
     let session = take_lines(alloc, QuietSession::new(alloc, market), source, sink)?;
     explain(alloc, session.market(), sink)?;
     Ok(session.unread())

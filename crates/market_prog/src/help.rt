@@ -6,6 +6,7 @@ pub(crate) const OF_MARKET: &str = "\
 output. `market run --help` tells the commands. `market explain` reads the same lines, and writes
 how the workers of the market that they lead to are divided. `market replay` reads the journal that
 `market run --journal` writes of them, and tells whether each reply in it is the one that is due.
+`market drive` reads a plan of jobs, and runs them by workers that a market moves between arenas.
 
 Example:
   $ printf '0 open 8 1 normal\\n0 request 1 3\\n' | market run
@@ -14,7 +15,7 @@ Example:
 
 Exit status:
   0  done, or help or the version was asked for
-  1  a line was unread, or a journal is not legal
+  1  a line was unread, a journal is not legal, or a plan is refused
   2  a bad command line, or a fault at opening
   3  a read, write, memory or length fault, or more than 1,048,576 commands for a journal; its
      text is on standard error";
@@ -23,35 +24,24 @@ Exit status:
 pub(crate) const OF_RUN: &str = "\
 Standard input holds script lines, and standard output gets a reply line for each, written before
 the next line is waited for. A line is SEAT COMMAND, with one space between fields, SEAT being a
-number below --seats. The commands, with their replies:
+number below --seats. The commands, and their replies:
 
-  open SLOTS [RESERVED [LEVEL]]     an arena is opened
-                                      arena A
-  close ARENA                       it goes, where no seat is placed at it
-                                      ok
-  priority ARENA LEVEL              it goes first in that level
-                                      ok
-  resize ARENA SLOTS RESERVED       it gets other slots
-                                      resized Q
-  request ARENA WORKERS [ENQUEUED]  it asks for so many workers more, or fewer below 0,
-                                    and has so much more work enqueued
-                                      request Q
-  control VALUE                     while it lives, fewer workers than VALUE are active
-                                      control C
-  uncontrol CONTROL                 it goes
-                                      ok
-  join                              the seat asks for an arena in need of a worker
-                                      placed A, or idle
-  stay                              it asks whether its arena still wants it
-                                      stays A, or recalled A
-  leave                             it leaves its arena
-                                      left A
-  show ARENA                        what it is allotted
-                                      arena A request Q allot K top T active N recall R hire H
-  lists                             arenas with workers too many, and with too few
-                                      recall A:COUNT,.. hire A:COUNT,..
-  limit                             how many workers may be active
-                                      value V limit L effective E
+  open SLOTS [RESERVED [LEVEL]]     an arena is opened: arena A
+  close ARENA                       it goes, where no seat is placed at it: ok
+  priority ARENA LEVEL              it goes first in that level: ok
+  resize ARENA SLOTS RESERVED       it gets other slots: resized Q
+  request ARENA WORKERS [ENQUEUED]  it asks for so many workers more, or fewer below 0, and has so
+                                    much more work enqueued: request Q
+  control VALUE                     while it lives, fewer workers than VALUE are active: control C
+  uncontrol CONTROL                 it goes: ok
+  join                              the seat asks where a worker is needed: placed A, or idle
+  stay                              it asks whether its arena still wants it: stays A, or recalled A
+  leave                             it leaves its arena: left A
+  show ARENA                        what it is allotted:
+                                    arena A request Q allot K top T active N recall R hire H
+  lists                             arenas with workers too many, and with too few:
+                                    recall A:COUNT,.. hire A:COUNT,..
+  limit                             how many workers may be active: value V limit L effective E
 
 RESERVED is 1 unless it is given. LEVEL is a number from 1, the level that is served first, or with
 three levels one of high, normal and low; unless it is given it is the middle one. A refused
@@ -61,11 +51,6 @@ command changes nothing and is answered by its fault, as `F05 no arena`. Any oth
 With --journal no line is answered. After the last one, standard output gets the journal of the
 commands: a line of JSON for the options, and one for each command that was read, with its reply.
 `market replay` reads it.
-
-Example:
-  $ printf '0 open 8 1 normal\\n0 request 1 3\\n' | market run
-  arena 1
-  request 3
 
 Exit status:
   0  done, or help was asked for
@@ -128,5 +113,30 @@ Example:
 Exit status:
   0  the journal is legal, or help was asked for
   1  it is not legal
+  2  a bad command line
+  3  a read, write, memory or length fault; its text is on standard error";
+
+/// At the end of `market drive --help`.
+pub(crate) const OF_DRIVE: &str = "\
+Standard input holds a plan: a market, its arenas and controls, and jobs for the arenas. Workers run
+the jobs, each in a thread of its own; the market says which arena each of them works for. When all
+jobs are done, standard output gets a line `job N VALUE` for each, in order; it is the same for every
+number of workers. The lines of a plan:
+
+  market BASE HARD [LEVELS]                    first; LEVELS is 3 unless it is given
+  arena SLOTS RESERVED LEVEL WANTED MANDATORY  1 to 64 of these, numbered from 1
+  control VALUE                                then at most 256 of these
+  job ARENA sum N                              1 + 2 + .. + N, with N up to 1000000
+  job ARENA digits N                           the sum of the decimal digits of N
+
+There are at most 65536 jobs. Empty lines and those that begin with # are passed over, and counted.
+
+Example:
+  $ printf 'market 8 64\\narena 8 1 normal 2 0\\njob 1 sum 10\\n' | market drive
+  job 1 55
+
+Exit status:
+  0  all jobs are done, or help was asked for
+  1  the plan is refused; why is on standard output, as `G01 bad plan line 2`
   2  a bad command line
   3  a read, write, memory or length fault; its text is on standard error";

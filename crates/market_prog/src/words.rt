@@ -1,12 +1,14 @@
 //! The words of the command line.
 ghost use Rattle.std.specs.Prelude.{◌≡◌, ◌≤◌, ◌<◌, ◌^◌, IfOk, codes, false, map};
 ghost use Rattle.clap.specs.Words.{FailsBy, app_of, fault_of, found_of, rows_of, rule_of};
-ghost use Rattle.market_prog.specs.Words.{Chooses, IsChoiceOf, IsNumberOf, IsMarketOf, asks_journal, journal_rule, market_app, number_rule, replay_app, run_app, script_app};
+ghost use Rattle.market_prog.specs.Words.{Chooses, IsChoiceOf, IsDriveOf, IsNumberOf, IsMarketOf, asks, drive_app, flag_rule, market_app, number_rule, replay_app, run_app, script_app};
 ghost use Rattle.market_prog.specs.Command.{IsCommandOf};
 ghost use Rattle.market_prog.specs.Passed.{HasNumber, HasMarketNumbers, NamesSubcommand};
 
 use crate::help;
+use crate::options::MarketOptions;
 use clap::{Arg, ArgAction, ArgMatches, Command, Error};
+use market_types::LastNumber;
 use std::alloc::{AllocError, Global};
 
 /// What `market --version` tells.
@@ -19,6 +21,8 @@ pub enum Choice {
     Script(ScriptTask, MarketOptions),
     /// `market replay`: replays a journal.
     Replay,
+    /// `market drive`: drives a plan.
+    Drive(DriveOptions),
 }
 
 /// What is written of a script.
@@ -32,17 +36,13 @@ pub enum ScriptTask {
     Explain,
 }
 
-/// The market that a script speaks to.
+/// How a plan is driven.
 #[derive(Clone, Copy, Debug, PartialEq, Eq)]
-pub struct MarketOptions {
-    /// Parallelism while no control lives, 1 to 65,536: fewer workers than this are active.
-    pub base: u32,
-    /// How many workers there are at most, 1 to 65,535.
-    pub hard: u32,
-    /// How many seats give commands, 1 to 64.
-    pub seats: u8,
-    /// How many priority levels there are, 1 to 8.
-    pub levels: u32,
+pub struct DriveOptions {
+    /// How many workers run its jobs, 1 to 16.
+    pub workers: u32,
+    /// `--progress`: how many jobs are done is told while they run.
+    pub progress: bool,
 }
 
 /// An option with a number from 1 to `high`.
@@ -80,6 +80,20 @@ const LEVELS: NumberOption = NumberOption {
     default: "3",
     high: 8,
     help: "There are N priority levels, 1 to 8",
+};
+
+const LAST: NumberOption = NumberOption {
+    name: "last",
+    default: "1048576",
+    high: 4_294_967_294,
+    help: "Arenas, stamps and controls are numbered to N, 1 to 4294967294",
+};
+
+const WORKERS: NumberOption = NumberOption {
+    name: "workers",
+    default: "4",
+    high: 16,
+    help: "N workers run the jobs, 1 to 16",
 };
 
 impl NumberOption {
@@ -128,18 +142,19 @@ fn script_command<'a>(
         .arg(BASE.arg(alloc))?
         .arg(HARD.arg(alloc))?
         .arg(SEATS.arg(alloc))?
-        .arg(LEVELS.arg(alloc))
+        .arg(LEVELS.arg(alloc))?
+        .arg(LAST.arg(alloc))
 }
 
-/// The option `--journal` as clap's.
-fn journal_arg<'a>(alloc: Global) -> Arg<'a>
-    ensures rule { rule_of result ≡ journal_rule }
+/// An option without a value as clap's.
+fn flag_arg<'a>(alloc: Global, name: &'static str, help: &'static str) -> Arg<'a>
+    ensures rule { rule_of result ≡ flag_rule name.now }
     ensures global { result.global ≡ false }
 {
-    Arg::new(alloc, "journal")
-        .long("journal")
+    Arg::new(alloc, name)
+        .long(name)
         .action(ArgAction::SetTrue)
-        .help("Writes the journal of the script's commands in place of the replies")
+        .help(help)
 }
 
 /// The subcommand `run`.
@@ -152,7 +167,11 @@ fn run_command<'a>(alloc: Global) -> Result<Command<'a>, AllocError>
         "Answers a script of commands, line by line",
         help::OF_RUN,
     )?
-    .arg(journal_arg(alloc))
+    .arg(flag_arg(
+        alloc,
+        "journal",
+        "Writes the journal of the script's commands in place of the replies",
+    ))
 }
 
 /// The subcommand `replay`.
@@ -162,6 +181,21 @@ fn replay_command<'a>(alloc: Global) -> Command<'a>
     Command::new(alloc, "replay")
         .about("Replays a journal, and tells whether it is legal")
         .after_help(help::OF_REPLAY)
+}
+
+/// The subcommand `drive`.
+fn drive_command<'a>(alloc: Global) -> Result<Command<'a>, AllocError>
+    ensures { IfOk result (λ c. IsCommandOf c drive_app) }
+{
+    Command::new(alloc, "drive")
+        .about("Runs a plan of jobs by workers that the market moves, and writes their values")
+        .after_help(help::OF_DRIVE)
+        .arg(WORKERS.arg(alloc))?
+        .arg(flag_arg(
+            alloc,
+            "progress",
+            "Tells on standard error, a few times a second, how many jobs are done",
+        ))
 }
 
 /// The program's command.
@@ -175,6 +209,7 @@ fn market_command<'a>(alloc: Global) -> Result<Command<'a>, AllocError>
         "Explains how workers are divided after a script of commands",
         help::OF_EXPLAIN,
     )?;
+    let drive = drive_command(alloc)?;
     Command::new(alloc, "market")
         .about(
             "The worker market of a task runtime: who gets how many workers, by priority and demand",
@@ -185,7 +220,8 @@ fn market_command<'a>(alloc: Global) -> Result<Command<'a>, AllocError>
         .subcommand_required(true)
         .subcommand(run)?
         .subcommand(explain)?
-        .subcommand(replay_command(alloc))
+        .subcommand(replay_command(alloc))?
+        .subcommand(drive)
 }
 
 /// The market's options in matches that clap has passed.
@@ -193,22 +229,37 @@ fn market_options(matches: &ArgMatches<'_>) -> MarketOptions
     requires { HasMarketNumbers (rows_of (found_of matches.now)) }
     ensures { IsMarketOf (rows_of (found_of matches.now)) result }
 {
+    let Some(last) = LastNumber::new(LAST.number(matches)) else {
+        unreachable!()
+    };
     MarketOptions {
         base: BASE.number(matches),
         hard: HARD.number(matches),
         seats: SEATS.number(matches) as u8,
         levels: LEVELS.number(matches),
+        last,
     }
 }
 
-/// `--journal` is among matches that clap has passed.
-fn asks_journal(matches: &ArgMatches<'_>) -> bool
-    ensures { result ≡ asks_journal (rows_of (found_of matches.now)) }
+/// The option without a value is among matches that clap has passed.
+fn asks(matches: &ArgMatches<'_>, name: &str) -> bool
+    ensures { result ≡ asks name.now (rows_of (found_of matches.now)) }
 {
-    let Some(word) = matches.get_str("journal") else {
+    let Some(word) = matches.get_str(name) else {
         return false;
     };
     word == "true"
+}
+
+/// The options of `drive` in matches that clap has passed.
+fn drive_options(matches: &ArgMatches<'_>) -> DriveOptions
+    requires { HasNumber (codes "workers") 16 (rows_of (found_of matches.now)) }
+    ensures { IsDriveOf (rows_of (found_of matches.now)) result }
+{
+    DriveOptions {
+        workers: WORKERS.number(matches),
+        progress: asks(matches, "progress"),
+    }
 }
 
 /// The choice of a subcommand that clap has passed.
@@ -219,9 +270,12 @@ fn choice_of(name: &str, matches: &ArgMatches<'_>) -> Choice
     if name == "replay" {
         return Choice::Replay;
     }
+    if name == "drive" {
+        return Choice::Drive(drive_options(matches));
+    }
     let options = market_options(matches);
     let task = match name {
-        "run" if asks_journal(matches) => ScriptTask::Journal,
+        "run" if asks(matches, "journal") => ScriptTask::Journal,
         "run" => ScriptTask::Answer,
         "explain" => ScriptTask::Explain,
         _ => unreachable!(),

@@ -3,7 +3,9 @@
 use crate::endless::Hashes;
 use crate::work::{new_sink, work_script};
 use byte_devices::{Refusal, TestSource};
-use market_prog::{RunFault, ScriptTask, run_replay, run_script, status_of_replay, status_of_run};
+use market_prog::{
+    MarketOptions, RunFault, ScriptTask, run_replay, run_script, status_of_replay, status_of_run,
+};
 use market_types::OpenFault;
 use std::rt::HostRuntime;
 
@@ -32,7 +34,7 @@ fn each_read_fails_in_turn(rt: HostRuntime) {
                 .in_pieces_of(size)
                 .failing_after(good as u64);
             let mut sink = new_sink(&rt, rt.alloc());
-            let told = run_script(rt.alloc(), 8, 64, 4, 3, &mut source, &mut sink);
+            let told = run_script(rt.alloc(), MarketOptions::USUAL, &mut source, &mut sink);
             let wanted = if good < reads {
                 Err(RunFault::Read)
             } else {
@@ -53,7 +55,7 @@ fn each_write_fails_in_turn(rt: HostRuntime) {
                 let mut sink = new_sink(&rt, rt.alloc())
                     .in_pieces_of(size)
                     .refusing_after(room, refusal);
-                let told = run_script(rt.alloc(), 8, 64, 4, 3, &mut source, &mut sink);
+                let told = run_script(rt.alloc(), MarketOptions::USUAL, &mut source, &mut sink);
                 let is_whole = room == HIRED_REPLIES.len();
                 let wanted = if is_whole {
                     Ok(0)
@@ -72,7 +74,7 @@ fn pieces_of_any_size_are_answered_alike(rt: HostRuntime) {
     for size in 1..50 {
         let mut source = TestSource::new(HIRED).in_pieces_of(size);
         let mut sink = new_sink(&rt, rt.alloc()).in_pieces_of(size);
-        let told = run_script(rt.alloc(), 8, 64, 4, 3, &mut source, &mut sink);
+        let told = run_script(rt.alloc(), MarketOptions::USUAL, &mut source, &mut sink);
         assert!(&rt; told == Ok(0));
         assert!(&rt; sink.taken() == HIRED_REPLIES);
     }
@@ -103,7 +105,11 @@ fn a_market_that_cannot_be_opened_reads_nothing(rt: HostRuntime) {
     for levels in [0, 9] {
         let mut source = TestSource::new(HIRED);
         let mut sink = new_sink(&rt, rt.alloc());
-        let told = run_script(rt.alloc(), 8, 64, 4, levels, &mut source, &mut sink);
+        let options = MarketOptions {
+            levels,
+            ..MarketOptions::USUAL
+        };
+        let told = run_script(rt.alloc(), options, &mut source, &mut sink);
         assert!(&rt; told == Err(RunFault::Open(OpenFault::BadLevels)));
         assert!(&rt; sink.taken().is_empty());
     }

@@ -2,7 +2,7 @@
 
 use crate::work::{Work, new_sink};
 use byte_devices::{Refusal, TestSource};
-use market_prog::{RunFault, ScriptTask, explain_script};
+use market_prog::{MarketOptions, RunFault, ScriptTask, explain_script};
 use market_types::OpenFault;
 use std::rt::HostRuntime;
 
@@ -82,7 +82,11 @@ fn a_failing_sink_has_the_first_bytes(rt: HostRuntime) {
 fn no_market_is_explained_that_cannot_be_opened(rt: HostRuntime) {
     let mut source = TestSource::new(FIVE);
     let mut sink = new_sink(&rt, rt.alloc());
-    let told = explain_script(rt.alloc(), 0, 64, 4, 3, &mut source, &mut sink);
+    let options = MarketOptions {
+        base: 0,
+        ..MarketOptions::USUAL
+    };
+    let told = explain_script(rt.alloc(), options, &mut source, &mut sink);
     assert!(&rt; told == Err(RunFault::Open(OpenFault::BadBase)));
     assert!(&rt; sink.taken().is_empty());
 }

@@ -5,6 +5,8 @@
 #[cfg(test)]
 mod devices;
 #[cfg(test)]
+mod drives;
+#[cfg(test)]
 mod endless;
 #[cfg(test)]
 mod explanations;
@@ -12,6 +14,8 @@ mod explanations;
 mod journals;
 #[cfg(test)]
 mod limits;
+#[cfg(test)]
+mod plans;
 #[cfg(test)]
 mod replays;
 #[cfg(test)]

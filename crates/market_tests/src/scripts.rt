@@ -1,20 +1,67 @@
 //! Scripts and their replies, beside those of `example_scripts`.
 use byte_devices::{TestSink, TestSource};
-use market_prog::run_script;
+use market_prog::{MarketOptions, run_script};
+use market_types::LastNumber;
 use std::alloc::Global;
 use std::process::Abort;
 use std::rt::HostRuntime;
 
-/// The script to a usual market is answered by these replies, with so many of its lines unread.
-fn answers(rt: &impl Abort, alloc: Global, script: &[u8], replies: &[u8], unread: u64) {
+/// The script to a market of these options is answered by these replies, with so many of its lines unread.
+fn answers_of(
+    rt: &impl Abort,
+    alloc: Global,
+    options: MarketOptions,
+    script: &[u8],
+    replies: &[u8],
+    unread: u64,
+) {
     let Ok(memory) = Vec::with_capacity(alloc, 4096) else {
         panic!(rt; "no memory");
     };
     let mut source = TestSource::new(script);
     let mut sink = TestSink::new(memory);
-    let told = run_script(alloc, 8, 64, 4, 3, &mut source, &mut sink);
+    let told = run_script(alloc, options, &mut source, &mut sink);
     assert!(rt; sink.taken() == replies);
     assert!(rt; told == Ok(unread));
+}
+
+/// The same of a usual market.
+fn answers(rt: &impl Abort, alloc: Global, script: &[u8], replies: &[u8], unread: u64) {
+    answers_of(rt, alloc, MarketOptions::USUAL, script, replies, unread);
+}
+
+/// The same of a market whose arenas, stamps and controls are numbered to 3.
+fn answers_to_three(rt: &impl Abort, alloc: Global, script: &[u8], replies: &[u8]) {
+    let Some(last) = LastNumber::new(3) else {
+        panic!(rt; "no last number");
+    };
+    let options = MarketOptions {
+        last,
+        ..MarketOptions::USUAL
+    };
+    answers_of(rt, alloc, options, script, replies, 0);
+}
+
+#[test]
+fn the_fourth_of_each_kind_has_no_number(rt: HostRuntime) {
+    answers_to_three(
+        &rt,
+        rt.alloc(),
+        b"0 open 8\n0 close 1\n0 open 8\n0 open 8\n0 open 8\n0 control 4\n",
+        b"arena 1\nok\narena 2\narena 3\nF04 out of numbers\ncontrol 1\n",
+    );
+    answers_to_three(
+        &rt,
+        rt.alloc(),
+        b"0 open 8\n0 priority 1 low\n0 priority 1 high\n0 priority 1 low\n0 open 8\n0 limit\n",
+        b"arena 1\nok\nok\nF04 out of numbers\nF04 out of numbers\nvalue 8 limit 7 effective 7\n",
+    );
+    answers_to_three(
+        &rt,
+        rt.alloc(),
+        b"0 control 4\n0 uncontrol 1\n0 control 5\n0 control 6\n0 control 6\n0 open 8\n",
+        b"control 1\nok\ncontrol 2\ncontrol 3\nF04 out of numbers\narena 1\n",
+    );
 }
 
 #[test]

@@ -2,7 +2,7 @@
 ghost use Rattle.std.specs.Prelude.{◌≡◌, ◌<◌, false};
 
 use byte_devices::{Refusal, Sink, Source, TestSink, TestSource};
-use market_prog::{RunFault, ScriptTask, explain_script, run_journal, run_script};
+use market_prog::{MarketOptions, RunFault, ScriptTask, explain_script, run_journal, run_script};
 use std::alloc::Global;
 use std::process::Abort;
 
@@ -28,9 +28,9 @@ pub(crate) fn work_script<R: Source, W: Sink>(
     requires sink_working { W.failed sink.old ≡ false }
 {
     match task {
-        ScriptTask::Answer => run_script(alloc, 8, 64, 4, 3, source, sink),
+        ScriptTask::Answer => run_script(alloc, MarketOptions::USUAL, source, sink),
         ScriptTask::Journal => run_journal(alloc, 8, 64, 4, 3, source, sink),
-        ScriptTask::Explain => explain_script(alloc, 8, 64, 4, 3, source, sink),
+        ScriptTask::Explain => explain_script(alloc, MarketOptions::USUAL, source, sink),
     }
 }
 

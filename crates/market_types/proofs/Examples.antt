@@ -3,10 +3,10 @@ use Rattle.std.specs.Prelude.{◌≡◌, ℕ, pos, negsuc, Bool, true, false, Li
 use Rattle.market_types.specs.declared.command.Cmd.{Cmd}
 use Rattle.market_types.specs.declared.command.Cmd.TheVariants.{Open, Close, Priority, Resize, Request, Control as ControlBy, Uncontrol, Join, Stay, Leave, Show, Lists, Limit}
 use Rattle.market_types.specs.declared.command.Call.{Call}
-use Rattle.market_types.specs.declared.reply.Fault.TheVariants.{BadSlots, BadReserve, NoArena, Busy, WantedRange, MandatoryRange, BadValue, NoControl, AlreadyPlaced, NotPlaced, BadLevel}
+use Rattle.market_types.specs.declared.reply.Fault.TheVariants.{BadSlots, BadReserve, OutOfNumbers, NoArena, Busy, WantedRange, MandatoryRange, BadValue, NoControl, AlreadyPlaced, NotPlaced, BadLevel}
 use Rattle.market_types.specs.declared.reply.Reply.{Reply}
 use Rattle.market_types.specs.declared.reply.Reply.TheVariants.{Opened, Closed, Moved, Resized, Requested, Controlled, Uncontrolled, Placed, Idle, Stays, Recalled, Left, Shown, Listed, Limits, Refused}
-use Rattle.market_types.specs.State.{State, opening}
+use Rattle.market_types.specs.State.{State, opening, opening_to}
 use Rattle.market_types.specs.History.{replies_to}
 
 -- ---- short forms
@@ -120,6 +120,32 @@ a_reserved_slot_and_enqueued_work :
     (Open 1 1 2 ∷ want 1 5 ∷ Request 1 (pos 0) (pos 1) ∷ Show 1 ∷ Open 2 2 2 ∷ Request 2 (pos 5) (pos 1) ∷ Show 2 ∷ [])
     ≡ Opened 1 ∷ Requested 0 ∷ Requested 1 ∷ shows 1 1 1 true ∷ Opened 2 ∷ Requested 0 ∷ shows 2 0 0 false ∷ []
 a_reserved_slot_and_enqueued_work = refl
+
+-- ---- numbers that run out
+
+-- base 8, hard limit 64, 4 seats, 3 levels, and 3 as the last number
+abbrev to_three : State
+to_three = opening_to 8 64 4 3 3
+
+no_fourth_arena :
+    answers to_three
+    (Open 8 1 2 ∷ Close 1 ∷ Open 8 1 2 ∷ Close 2 ∷ Open 8 1 2 ∷ Close 3 ∷ Open 8 1 2 ∷ Open 8 1 4 ∷ ControlBy 6 ∷ [])
+    ≡ Opened 1 ∷ Closed ∷ Opened 2 ∷ Closed ∷ Opened 3 ∷ Closed ∷ Refused OutOfNumbers ∷ Refused BadLevel ∷ Controlled 1 ∷ []
+no_fourth_arena = refl
+
+-- an arena that is opened gets a stamp, as one that is moved does
+no_fourth_stamp :
+    answers to_three
+    (Open 8 1 2 ∷ Priority 1 3 ∷ Priority 1 1 ∷ Priority 1 2 ∷ Priority 2 2 ∷ Open 8 1 2 ∷ Close 1 ∷ ControlBy 6 ∷ [])
+    ≡ Opened 1 ∷ Moved ∷ Moved ∷ Refused OutOfNumbers ∷ Refused NoArena ∷ Refused OutOfNumbers ∷ Closed ∷ Controlled 1 ∷ []
+no_fourth_stamp = refl
+
+no_fourth_control :
+    answers to_three
+    (ControlBy 6 ∷ Uncontrol 1 ∷ ControlBy 5 ∷ Uncontrol 2 ∷ ControlBy 4 ∷ ControlBy 3 ∷ Limit ∷ ControlBy 0 ∷ Open 8 1 2 ∷ [])
+    ≡ Controlled 1 ∷ Uncontrolled ∷ Controlled 2 ∷ Uncontrolled ∷ Controlled 3 ∷ Refused OutOfNumbers ∷ limits 4 3 3
+    ∷ Refused BadValue ∷ Opened 1 ∷ []
+no_fourth_control = refl
 
 -- ---- arenas moved, closed and resized
 

@@ -22,7 +22,7 @@ pub record Control : Type 0 where
   pub value : ℕ
 
 -- the market: what it was opened with; its arenas, greatest stamp first; its controls, oldest first; for each seat the
--- arena that it is placed at, if any; the next numbers
+-- arena that it is placed at, if any; the last number that an arena, a stamp or a control gets; the next numbers
 pub record State : Type 0 where
   pub base : ℕ
   pub hard : ℕ
@@ -30,13 +30,18 @@ pub record State : Type 0 where
   pub arenas : List Arena
   pub controls : List Control
   pub seats : List (Option ℕ)
+  pub last : ℕ
   pub next_arena : ℕ
   pub next_control : ℕ
   pub next_stamp : ℕ
 
--- a market that nothing has happened to
-abbrev pub opening : ℕ → ℕ → ℕ → ℕ → State
-opening base hard seats levels =
+-- the last number where an opening names none
+abbrev pub usual_last : ℕ
+usual_last = 1048576
+
+-- a market that nothing has happened to, with this last number
+abbrev pub opening_to : ℕ → ℕ → ℕ → ℕ → ℕ → State
+opening_to base hard seats levels last =
     record {
       base = base;
       hard = hard;
@@ -44,7 +49,12 @@ opening base hard seats levels =
       arenas = [];
       controls = [];
       seats = replicate seats None;
+      last = last;
       next_arena = 1;
       next_control = 1;
       next_stamp = 1;
     }
+
+-- a market that nothing has happened to, with the usual last number
+abbrev pub opening : ℕ → ℕ → ℕ → ℕ → State
+opening base hard seats levels = opening_to base hard seats levels usual_last

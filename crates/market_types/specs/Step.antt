@@ -22,10 +22,6 @@ Outcome = Reply × State
 abbrev pub refuse : State → Fault → Outcome
 refuse s fault = (Refused fault, s)
 
--- the last arena number, control number and stamp
-abbrev pub last_number : ℕ
-last_number = 1048576
-
 -- ---- arenas by number
 
 abbrev pub arena_at : ℕ → List Arena → Option Arena
@@ -66,7 +62,7 @@ open_step s slots reserved level =
     if_claim s (new_claim slots reserved) (λ claim.
     if nat_lt s.levels level then refuse s BadLevel
     else if nat_le 1024 (length s.arenas) then refuse s TooManyArenas
-    else if nat_lt last_number s.next_arena || nat_lt last_number s.next_stamp then refuse s OutOfNumbers
+    else if nat_lt s.last s.next_arena || nat_lt s.last s.next_stamp then refuse s OutOfNumbers
     else opened s level claim)
 
 -- the arena goes, unless a seat is placed at it
@@ -90,7 +86,7 @@ abbrev pub priority_step : State → ℕ → ℕ → Outcome
 priority_step s a level =
     if nat_lt s.levels level then refuse s BadLevel
     else if_arena s (arena_at a s.arenas) (λ arena.
-    if nat_lt last_number s.next_stamp then refuse s OutOfNumbers
+    if nat_lt s.last s.next_stamp then refuse s OutOfNumbers
     else moved s level arena)
 
 -- the arena keeps its place and its totals; slots that no arena can have are refused before a missing arena
@@ -114,7 +110,7 @@ abbrev pub control_step : State → ℕ → Outcome
 control_step s value =
     if value == 0 || nat_lt 65536 value then refuse s BadValue
     else if nat_le 256 (length s.controls) then refuse s TooManyControls
-    else if nat_lt last_number s.next_control then refuse s OutOfNumbers
+    else if nat_lt s.last s.next_control then refuse s OutOfNumbers
     else (
       Controlled s.next_control,
       record s {

@@ -21,7 +21,7 @@ pub use command::{Call, Cmd};
 pub use field::{cut_field, read_level, read_number};
 pub use level::Level;
 pub use lists::{Correction, Imbalance, Lists};
-pub use number::{ArenaId, ControlId, SeatNo};
+pub use number::{ArenaId, ControlId, LastNumber, SeatNo};
 pub use reading::{read_cmd, read_line};
 pub use reply::{ArenaView, Entry, Fault, LimitView, OpenFault, Reply};
 pub use row::Row;

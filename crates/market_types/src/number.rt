@@ -1,5 +1,6 @@
 //! Numbers with names of their own.
-ghost use Rattle.std.specs.Prelude.{◌≡◌, ℕ};
+ghost use Rattle.std.specs.Prelude.{◌≡◌, ◌≤◌, ◌↔◌, ℕ, IsSome, IfSome};
+ghost use Rattle.market_types.specs.State.{usual_last};
 
 use std::marker::Model;
 
@@ -90,6 +91,58 @@ impl SeatNo {
     /// The number.
     pub const fn get(self) -> u8
         ensures { result ≡ self }
+    {
+        self.number
+    }
+}
+
+/// The last number that an arena, a stamp or a control of a market gets, 1 to 4,294,967,294. What would need a later one is
+/// refused.
+#[derive(Clone, Copy, Debug, PartialEq, Eq)]
+pub struct LastNumber {
+    number: u32,
+}
+
+impl Model for LastNumber {
+    ghost Value = { ℕ };
+
+    ghost view = { λ l. l.number };
+
+    ghost invariant = { λ l. (1 ≤ l.number) × (l.number ≤ 4294967294) };
+
+    ghost inverse = { λ n. record { number = n } };
+}
+
+impl LastNumber {
+    /// The last number of a market that names none.
+    pub const USUAL: LastNumber = LastNumber { number: 1_048_576 };
+
+    /// This last number, where it is 1 to 4,294,967,294.
+    pub const fn new(number: u32) -> Option<Self>
+        ensures some { IsSome result ↔ ((1 ≤ number) × (number ≤ 4294967294)) }
+        ensures exact { IfSome result (λ last. last ≡ number) }
+    {
+        if number < 1 {
+            return None;
+        }
+        if number > 4_294_967_294 {
+            return None;
+        }
+        Some(LastNumber { number })
+    }
+
+    /// The last number of a market that names none: 1,048,576.
+    pub const fn usual() -> Self
+        ensures { result ≡ usual_last }
+    {
+        LastNumber::USUAL
+    }
+
+    /// The number, 1 to 4,294,967,294.
+    pub const fn get(self) -> u32
+        ensures exact { result ≡ self }
+        ensures low { 1 ≤ result }
+        ensures high { result ≤ 4294967294 }
     {
         self.number
     }

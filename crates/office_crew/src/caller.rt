@@ -28,4 +28,7 @@ pub trait Task {
     ) -> Caller<Pass<C, W>, Placed<C, W>>
         requires office { (who_is caller).table ≡ office.now.table }
         ensures same { IsSamePass (who_is caller) (who_is result) };
+
+    /// Whether the tasks that come after it may work. An opener alone is asked, and only when it has ended its work.
+    fn lets_others_work(&self) -> bool;
 }

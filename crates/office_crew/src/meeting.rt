@@ -3,7 +3,7 @@ ghost use Rattle.std.specs.Prelude.{◌≡◌, ◌⊎◌, Err, ◌+◌, ◌≤�
 ghost use Rattle.market_types.specs.State.{opening};
 ghost use Rattle.market_lock.specs.Headline.{IsGivenBy};
 ghost use Rattle.market_lock.specs.Seen.{OfPass, OfPlaced};
-ghost use Rattle.market_lock.specs.Views.{opening_of, chronicle_of};
+ghost use Rattle.market_lock.specs.Views.{opening_of, chronicle_cut, chronicle_of};
 ghost use Rattle.edit_history.specs.Chronicled.{market_of, opened_chronicle};
 ghost use Rattle.edit_history.specs.Places.{placed as seats_placed};
 ghost use Rattle.office_crew.specs.Callers.{who_is, terms_of};
@@ -29,42 +29,64 @@ pub struct Terms {
 
 /// What is left when all have met.
 #[derive(Drop)]
-pub struct Meeting<T> {
+pub struct Meeting<O, T> {
     /// What the office left.
     pub closed: Closed,
+    /// The openers, in the order of their seats.
+    pub openers: Vec<O>,
     /// The tasks, in the order of their seats.
     pub tasks: Vec<T>,
 }
 
+/// A meeting that did not come about. Nobody has worked.
+#[derive(Drop)]
+pub struct Unmet<O, T> {
+    /// Why there is none.
+    pub fault: OpenFault,
+    /// The openers, as they were given.
+    pub openers: Vec<O>,
+    /// The tasks, as they were given.
+    pub tasks: Vec<T>,
+}
+
 /// Memory ran out before anybody worked: all passes go back.
-fn sent_home<C: Ledger, W: Ledger>(
+fn sent_home<C: Ledger, W: Ledger, O, T>(
     alloc: Global,
     office: Office<C, W>,
     passes: Vec<Pass<C, W>>,
-) -> OpenFault
+    openers: Vec<O>,
+    tasks: Vec<T>,
+) -> Unmet<O, T>
     requires own { All (λ (p : OfPass). p.table ≡ office.table) passes.items }
     requires all { vec_len passes ≡ office.terms.seats }
-    ensures memory { result ≡ OpenFault.Memory }
+    ensures memory { result.fault ≡ OpenFault.Memory }
+    ensures same { (result.openers ≡ openers) × (result.tasks ≡ tasks) }
 {
     drop(office.close(passes, Vec::new(alloc)));
-    OpenFault::Memory
+    Unmet {
+        fault: OpenFault::Memory,
+        openers,
+        tasks,
+    }
 }
 
-/// Each pass with its task. The last seat's comes first.
+/// A pass with each task, the last ones. The last seat's comes first.
 fn seated<C: Ledger, W: Ledger, B: Room, T: Task>(
     passes: &mut Vec<Pass<C, W>>,
     tasks: &mut Vec<T>,
     members: &mut Vec<Member<C, W, B, T>>,
 )
     requires own { All (λ (p : OfPass). p.table ≡ B.table) passes.old.items }
-    requires each { vec_len passes.old ≡ vec_len tasks.old }
-    requires room { (vec_len members.old ≡ 0) × (vec_len passes.old ≤ vec_capacity members.old) }
-    ensures all { vec_len members.new ≡ vec_len passes.old }
-    ensures none_left { (vec_len passes.new ≡ 0) × (vec_len tasks.new ≡ 0) }
+    requires enough { vec_len tasks.old ≤ vec_len passes.old }
+    requires room { (vec_len members.old ≡ 0) × (vec_len tasks.old ≤ vec_capacity members.old) }
+    ensures own { All (λ (p : OfPass). p.table ≡ B.table) passes.new.items }
+    ensures all { vec_len members.new ≡ vec_len tasks.old }
+    ensures none_left { vec_len tasks.new ≡ 0 }
+    ensures left { vec_len passes.new + vec_len tasks.old ≡ vec_len passes.old }
     ensures capacity { (vec_capacity passes.new ≡ vec_capacity passes.old) × (vec_capacity tasks.new ≡ vec_capacity tasks.old) }
 {
-    while let Some(pass) = passes.pop() {
-        let Some(task) = tasks.pop() else {
+    while let Some(task) = tasks.pop() {
+        let Some(pass) = passes.pop() else {
             unreachable!()
         };
         members.push_reserved(Member::new(pass, task));
@@ -78,12 +100,14 @@ fn gathered<C: Ledger, W: Ledger, B: Room, T: Task>(
     placed: &mut Vec<Placed<C, W>>,
     tasks: &mut Vec<T>,
 )
-    requires empty { (vec_len passes.old ≡ 0) × (vec_len placed.old ≡ 0) }
-    requires room { (vec_len members ≤ vec_capacity passes.old) × (vec_len members ≤ vec_capacity placed.old) × (vec_len tasks.old + vec_len members ≤ vec_capacity tasks.old) }
+    requires own { All (λ (p : OfPass). p.table ≡ B.table) passes.old.items }
+    requires own_placed { All (λ (p : OfPlaced). p.who.table ≡ B.table) placed.old.items }
+    requires room { (vec_len passes.old + vec_len members ≤ vec_capacity passes.old) × (vec_len placed.old + vec_len members ≤ vec_capacity placed.old) × (vec_len tasks.old + vec_len members ≤ vec_capacity tasks.old) }
     ensures own { All (λ (p : OfPass). p.table ≡ B.table) passes.new.items }
     ensures own_placed { All (λ (p : OfPlaced). p.who.table ≡ B.table) placed.new.items }
-    ensures all { vec_len passes.new + vec_len placed.new ≡ vec_len members }
+    ensures all { vec_len passes.new + vec_len placed.new ≡ (vec_len passes.old + vec_len placed.old) + vec_len members }
     ensures tasks { vec_len tasks.new ≡ vec_len tasks.old + vec_len members }
+    ensures capacity { (vec_capacity passes.new ≡ vec_capacity passes.old) × (vec_capacity placed.new ≡ vec_capacity placed.old) }
 {
     let mut left = members;
     while let Some(member) = left.pop() {
@@ -97,74 +121,151 @@ fn gathered<C: Ledger, W: Ledger, B: Room, T: Task>(
     left.destroy_empty();
 }
 
-/// The callers of an open office work, and it is closed.
-fn met<
+/// Room for members of two kinds, `X` and `Y`, and for those that are placed in the end.
+struct Rooms<X, Y, Z> {
+    first: Vec<X>,
+    others: Vec<Y>,
+    placed: Vec<Z>,
+}
+
+/// Room for so many of each.
+fn make_rooms<X, Y, Z>(
+    alloc: Global,
+    openers: usize,
+    tasks: usize,
+) -> Result<Rooms<X, Y, Z>, AllocError>
+    requires few { openers + tasks ≤ 64 }
+    ensures empty { IfOk result (λ rooms. (vec_len rooms.first ≡ 0) × (vec_len rooms.others ≡ 0) × (vec_len rooms.placed ≡ 0)) }
+    ensures room { IfOk result (λ rooms. (openers ≤ vec_capacity rooms.first) × (tasks ≤ vec_capacity rooms.others) × (openers + tasks ≤ vec_capacity rooms.placed)) }
+{
+    let first = Vec::with_capacity(alloc, openers)?;
+    let Ok(others) = Vec::with_capacity(alloc, tasks) else {
+        first.destroy_empty();
+        return Err(AllocError);
+    };
+    let Ok(placed) = Vec::with_capacity(alloc, openers + tasks) else {
+        first.destroy_empty();
+        others.destroy_empty();
+        return Err(AllocError);
+    };
+    Ok(Rooms {
+        first,
+        others,
+        placed,
+    })
+}
+
+/// The openers work one after the other, and where they let them the tasks after them.
+fn work_in_order<
     C: Ledger + Send + Sync,
     W: Ledger + Send + Sync,
     B: Room + Send,
-    T: Task + Send + Drop,
+    O: Task + Send,
+    T: Task + Send,
+    R: Threads + Wait + Sync,
+>(
+    rt: &R,
+    alloc: Global,
+    office: &Office<C, W>,
+    first: Vec<Member<C, W, B, O>>,
+    others: Vec<Member<C, W, B, T>>,
+) -> (Vec<Member<C, W, B, O>>, Vec<Member<C, W, B, T>>)
+    requires { office.now.table ≡ B.table }
+    ensures all { (vec_len result.0 ≡ vec_len first) × (vec_len result.1 ≡ vec_len others) }
+{
+    let first = work_all(rt, alloc, office, Order::InTurn, first);
+    if !first.iter().all(|opener| opener.lets_others_work()) {
+        return (first, others);
+    }
+    (first, work_all(rt, alloc, office, Order::AtOnce, others))
+}
+
+/// The callers of an open office work, and it is closed.
+pub(crate) fn met<
+    C: Ledger + Send + Sync,
+    W: Ledger + Send + Sync,
+    B: Room + Send,
+    O: Task + Send,
+    T: Task + Send,
     R: Threads + Wait + Sync,
 >(
     rt: &R,
     alloc: Global,
     office: Office<C, W>,
     passes: Vec<Pass<C, W>>,
-    order: Order,
+    openers: Vec<O>,
     tasks: Vec<T>,
-) -> Result<Meeting<T>, OpenFault>
+) -> Result<Meeting<O, T>, Unmet<O, T>>
     requires office { office.table ≡ B.table }
     requires own { All (λ (p : OfPass). p.table ≡ office.table) passes.items }
-    requires all { (vec_len passes ≡ office.terms.seats) × (vec_len tasks ≡ office.terms.seats) }
+    requires all { (vec_len passes ≡ office.terms.seats) × (vec_len openers + vec_len tasks ≡ office.terms.seats) }
+    requires few { vec_len openers + vec_len tasks ≤ 64 }
     ensures headline { IfOk result (λ meeting. IsGivenBy (opening_of office.terms) meeting.closed.chronicle) }
-    ensures whole { IfOk result (λ meeting. meeting.closed.chronicle ≡ chronicle_of office.terms meeting.closed.chronicle.log) }
+    ensures whole { IfOk result (λ meeting. meeting.closed.chronicle ≡ chronicle_cut office.terms meeting.closed.chronicle.log meeting.closed.chronicle.from) }
     ensures calls { IfOk result (λ meeting. meeting.closed.calls ≡ length meeting.closed.chronicle.log) }
     ensures workers { IfOk result (λ meeting. meeting.closed.workers ≡ seats_placed (market_of meeting.closed.chronicle)) }
-    ensures tasks { IfOk result (λ meeting. vec_len meeting.tasks ≡ vec_len tasks) }
-    ensures memory { IfErr result (λ fault. fault ≡ OpenFault.Memory) }
+    ensures tasks { IfOk result (λ meeting. (vec_len meeting.openers ≡ vec_len openers) × (vec_len meeting.tasks ≡ vec_len tasks)) }
+    ensures memory { IfErr result (λ unmet. unmet.fault ≡ OpenFault.Memory) }
+    ensures unmet { IfErr result (λ unmet. (unmet.openers ≡ openers) × (unmet.tasks ≡ tasks)) }
 {
-    let Ok(mut members) = Vec::<Member<C, W, B, T>>::with_capacity(alloc, passes.len()) else {
-        return Err(sent_home(alloc, office, passes));
+    let rooms = make_rooms::<Member<C, W, B, O>, Member<C, W, B, T>, Placed<C, W>>(
+        alloc,
+        openers.len(),
+        tasks.len(),
+    );
+    let Ok(
+        Rooms {
+            mut first,
+            mut others,
+            mut placed,
+        },
+    ) = rooms
+    else {
+        return Err(sent_home(alloc, office, passes, openers, tasks));
     };
-    let Ok(mut placed) = Vec::<Placed<C, W>>::with_capacity(alloc, passes.len()) else {
-        members.destroy_empty();
-        return Err(sent_home(alloc, office, passes));
-    };
-    let (mut passes, mut tasks) = (passes, tasks);
-    seated(&mut passes, &mut tasks, &mut members);
-    members.reverse();
-    let members = work_all(rt, alloc, &office, order, members);
-    gathered(members, &mut passes, &mut placed, &mut tasks);
+    let (mut passes, mut openers, mut tasks) = (passes, openers, tasks);
+    seated(&mut passes, &mut tasks, &mut others);
+    seated(&mut passes, &mut openers, &mut first);
+    others.reverse();
+    first.reverse();
+    let (first, others) = work_in_order(rt, alloc, &office, first, others);
+    gathered(others, &mut passes, &mut placed, &mut tasks);
+    gathered(first, &mut passes, &mut placed, &mut openers);
     tasks.reverse();
+    openers.reverse();
     Ok(Meeting {
         closed: office.close(passes, placed),
+        openers,
         tasks,
     })
 }
 
-/// An office of its own for the tasks.
+/// An office of its own for the openers and the tasks.
 fn opened<
     C: Ledger + Send + Sync,
     W: Ledger + Send + Sync,
-    T: Task + Send + Drop,
+    O: Task + Send,
+    T: Task + Send,
     R: Threads + Wait + Sync,
 >(
     rt: &R,
     alloc: Global,
     terms: Terms,
-    order: Order,
+    openers: Vec<O>,
     tasks: Vec<T>,
     calls: Blank,
     workers: Blank,
-) -> Result<Meeting<T>, OpenFault>
-    requires calls { (calls.name ≡ C.name) × (calls.parts ≡ C.parts) × (C.parts ≡ vec_len tasks) }
-    requires workers { (workers.name ≡ W.name) × (workers.parts ≡ W.parts) × (W.parts ≡ vec_len tasks) }
-    requires tasks { vec_len tasks ≤ 64 }
-    ensures headline { IfOk result (λ meeting. IsGivenBy (opening terms.base terms.hard (vec_len tasks) terms.levels) meeting.closed.chronicle) }
-    ensures whole { IfOk result (λ meeting. meeting.closed.chronicle ≡ chronicle_of (terms_of terms (vec_len tasks)) meeting.closed.chronicle.log) }
+) -> Result<Meeting<O, T>, Unmet<O, T>>
+    requires calls { (calls.name ≡ C.name) × (calls.parts ≡ C.parts) × (C.parts ≡ vec_len openers + vec_len tasks) }
+    requires workers { (workers.name ≡ W.name) × (workers.parts ≡ W.parts) × (W.parts ≡ vec_len openers + vec_len tasks) }
+    requires few { vec_len openers + vec_len tasks ≤ 64 }
+    ensures headline { IfOk result (λ meeting. IsGivenBy (opening terms.base terms.hard (vec_len openers + vec_len tasks) terms.levels) meeting.closed.chronicle) }
+    ensures whole { IfOk result (λ meeting. meeting.closed.chronicle ≡ chronicle_of (terms_of terms (vec_len openers + vec_len tasks)) meeting.closed.chronicle.log) }
     ensures calls { IfOk result (λ meeting. meeting.closed.calls ≡ length meeting.closed.chronicle.log) }
     ensures workers { IfOk result (λ meeting. meeting.closed.workers ≡ seats_placed (market_of meeting.closed.chronicle)) }
-    ensures tasks { IfOk result (λ meeting. vec_len meeting.tasks ≡ vec_len tasks) }
-    ensures refused { IfErr result (λ fault. (fault ≡ OpenFault.Memory) ⊎ (opened_chronicle terms.base terms.hard (vec_len tasks) terms.places terms.levels ≡ Err fault)) }
+    ensures tasks { IfOk result (λ meeting. (vec_len meeting.openers ≡ vec_len openers) × (vec_len meeting.tasks ≡ vec_len tasks)) }
+    ensures refused { IfErr result (λ unmet. (unmet.fault ≡ OpenFault.Memory) ⊎ (opened_chronicle terms.base terms.hard (vec_len openers + vec_len tasks) terms.places terms.levels ≡ Err unmet.fault)) }
+    ensures unmet { IfErr result (λ unmet. (unmet.openers ≡ openers) × (unmet.tasks ≡ tasks)) }
 {
     let Terms {
         base,
@@ -172,37 +273,45 @@ fn opened<
         places,
         levels,
     } = terms;
-    let seats = tasks.len() as u8;
-    let (office, passes) = Office::<C, W>::open(
-        alloc, base, hard, seats, places, levels, calls, workers,
-    )?;
-    met::<C, W, Brand, T, R>(rt, alloc, office, passes, order, tasks)
+    let seats = (openers.len() + tasks.len()) as u8;
+    match Office::<C, W>::open(alloc, base, hard, seats, places, levels, calls, workers) {
+        Err(fault) => Err(Unmet {
+            fault,
+            openers,
+            tasks,
+        }),
+        Ok((office, passes)) => {
+            met::<C, W, Brand, O, T, R>(rt, alloc, office, passes, openers, tasks)
+        }
+    }
 }
 
-/// Opens an office with a seat for each task, lets each task work in a thread of its own with its seat's pass, at once or in
-/// turn, waits for all of them, and closes the office. Where no thread can be made a task works in the calling thread. The
-/// faults are those of `Office::open`, and `Memory`; nobody has worked then.
-pub fn meet<T: Task + Send + Drop, R: Threads + Wait + Sync>(
+/// Opens an office with a seat for each opener and then each task, and lets each work in a thread of its own with its seat's
+/// pass: the openers one after the other; when all have ended, and let others work, the tasks at the same time. It waits for
+/// all of them, and closes the office. Where no thread can be made they work in the calling thread. The faults are those of
+/// `Office::open`, and `Memory`; nobody has worked then, and all come back.
+pub fn meet<O: Task + Send, T: Task + Send, R: Threads + Wait + Sync>(
     rt: &R,
     alloc: Global,
     terms: Terms,
-    order: Order,
+    openers: Vec<O>,
     tasks: Vec<T>,
-) -> Result<Meeting<T>, OpenFault>
-    requires tasks { vec_len tasks ≤ 64 }
-    ensures headline { IfOk result (λ meeting. IsGivenBy (opening terms.base terms.hard (vec_len tasks) terms.levels) meeting.closed.chronicle) }
-    ensures whole { IfOk result (λ meeting. meeting.closed.chronicle ≡ chronicle_of (terms_of terms (vec_len tasks)) meeting.closed.chronicle.log) }
+) -> Result<Meeting<O, T>, Unmet<O, T>>
+    requires few { vec_len openers + vec_len tasks ≤ 64 }
+    ensures headline { IfOk result (λ meeting. IsGivenBy (opening terms.base terms.hard (vec_len openers + vec_len tasks) terms.levels) meeting.closed.chronicle) }
+    ensures whole { IfOk result (λ meeting. meeting.closed.chronicle ≡ chronicle_of (terms_of terms (vec_len openers + vec_len tasks)) meeting.closed.chronicle.log) }
     ensures calls { IfOk result (λ meeting. meeting.closed.calls ≡ length meeting.closed.chronicle.log) }
     ensures workers { IfOk result (λ meeting. meeting.closed.workers ≡ seats_placed (market_of meeting.closed.chronicle)) }
-    ensures tasks { IfOk result (λ meeting. vec_len meeting.tasks ≡ vec_len tasks) }
-    ensures refused { IfErr result (λ fault. (fault ≡ OpenFault.Memory) ⊎ (opened_chronicle terms.base terms.hard (vec_len tasks) terms.places terms.levels ≡ Err fault)) }
+    ensures tasks { IfOk result (λ meeting. (vec_len meeting.openers ≡ vec_len openers) × (vec_len meeting.tasks ≡ vec_len tasks)) }
+    ensures refused { IfErr result (λ unmet. (unmet.fault ≡ OpenFault.Memory) ⊎ (opened_chronicle terms.base terms.hard (vec_len openers + vec_len tasks) terms.places terms.levels ≡ Err unmet.fault)) }
+    ensures unmet { IfErr result (λ unmet. (unmet.openers ≡ openers) × (unmet.tasks ≡ tasks)) }
 {
-    let seats = tasks.len() as u64;
-    opened::<Brand, Brand, T, R>(
+    let seats = (openers.len() + tasks.len()) as u64;
+    opened::<Brand, Brand, O, T, R>(
         rt,
         alloc,
         terms,
-        order,
+        openers,
         tasks,
         Blank::new(seats),
         Blank::new(seats),

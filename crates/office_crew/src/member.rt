@@ -26,13 +26,11 @@ impl Room for Brand {
 
 /// Who works when.
 #[derive(Clone, Copy, Debug, PartialEq, Eq)]
-pub enum Order {
+pub(crate) enum Order {
     /// All at the same time.
     AtOnce,
     /// Each when the one of the seat before has ended its work.
     InTurn,
-    /// The one of seat 0, and when it has ended its work all others at the same time.
-    FirstAlone,
 }
 
 /// A caller of the room's office and its task. The caller is away only while its task has it.
@@ -74,6 +72,11 @@ impl<C: Ledger, W: Ledger, B: Room, T: Task> Member<C, W, B, T> {
         let caller = self.task.work(rt, alloc, office, caller);
         let away = mem::replace(&mut self.caller, Some(caller));
         let None = away else { unreachable!() };
+    }
+
+    /// Whether others may work after it.
+    pub(crate) fn lets_others_work(&self) -> bool {
+        self.task.lets_others_work()
     }
 
     /// The caller, and the task.
@@ -126,7 +129,6 @@ pub(crate) fn work_all<
         |scope|
             requires { office.now.table ≡ B.table }
         {
-            let mut is_first = true;
             for member in places {
                 let started = scope.spawn(
                     move ||
@@ -135,13 +137,12 @@ pub(crate) fn work_all<
                 );
                 match started {
                     Ok(handle) => {
-                        if order == Order::InTurn || (order == Order::FirstAlone && is_first) {
+                        if order == Order::InTurn {
                             handle.join(rt);
                         }
                     }
                     Err(refused) => (refused.value)(),
                 }
-                is_first = false;
             }
         },
     );

@@ -103,4 +103,8 @@ impl Task for Script<'_> {
         }
         caller
     }
+
+    fn lets_others_work(&self) -> bool {
+        true
+    }
 }

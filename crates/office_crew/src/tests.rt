@@ -1,5 +1,5 @@
 //! Callers that follow scripts.
-ghost use Rattle.std.specs.Prelude.{◌≡◌, length};
+ghost use Rattle.std.specs.Prelude.{◌≡◌, length, vec_len};
 
 use super::*;
 use market_types::{ArenaId, Cmd, Level};
@@ -29,6 +29,22 @@ fn visit() -> [Cmd; 6] {
     ]
 }
 
+/// A script for each list of commands.
+fn scripts_of<'a>(alloc: Global, lists: &[&'a [Cmd]]) -> Result<Vec<Script<'a>>, AllocError> {
+    let mut scripts = Vec::with_capacity(alloc, lists.len())?;
+    for cmds in lists {
+        scripts.push(Script::new(alloc, *cmds)?)?;
+    }
+    Ok(scripts)
+}
+
+/// No openers.
+fn nobody<'a>(alloc: Global) -> Vec<Script<'a>>
+    ensures { vec_len result ≡ 0 }
+{
+    Vec::new(alloc)
+}
+
 /// The script's caller is told so, alone in an office of these terms, and the office counts so many calls and workers.
 fn is_told<R: Threads + Wait + Sync + Abort>(
     rt: &R,
@@ -41,7 +57,7 @@ fn is_told<R: Threads + Wait + Sync + Abort>(
     let mut scripts = Vec::with_capacity(alloc, 1)?;
     scripts.push(Script::new(alloc, cmds)?)?;
     assert!(rt; scripts.len() == 1);
-    let Ok(meeting) = meet(rt, alloc, terms, Order::AtOnce, scripts) else {
+    let Ok(meeting) = meet(rt, alloc, terms, nobody(alloc), scripts) else {
         panic!(rt; "no office");
     };
     assert!(rt; meeting.tasks.iter().all(|script| script.told() == due));
@@ -104,17 +120,21 @@ fn is_seen_next<R: Threads + Wait + Sync + Abort>(
 ) -> Result<(), AllocError>
     requires { length cmds.now ≡ 3 }
 {
-    let mut scripts = Vec::with_capacity(alloc, 2)?;
-    scripts.push(Script::new(alloc, &cmds[..2])?)?;
-    scripts.push(Script::new(alloc, &cmds[2..])?)?;
-    assert!(rt; scripts.len() == 2);
-    let Ok(Meeting { closed, tasks }) = meet(rt, alloc, TERMS, Order::InTurn, scripts) else {
+    let openers = scripts_of(alloc, &[&cmds[..2]])?;
+    let tasks = scripts_of(alloc, &[&cmds[2..]])?;
+    assert!(rt; openers.len() == 1 && tasks.len() == 1);
+    let Ok(meeting) = meet(rt, alloc, TERMS, openers, tasks) else {
         panic!(rt; "no office");
     };
+    let Meeting {
+        closed,
+        openers,
+        tasks,
+    } = meeting;
     let seen = b"arena 1 request 3 allot 3 top yes active 0 recall 0 hire 3\n";
-    assert!(rt; tasks.len() == 2);
-    assert!(rt; tasks[0].told() == b"arena 1\nrequest 3\n".as_slice());
-    assert!(rt; tasks[1].told() == seen.as_slice());
+    assert!(rt; openers.iter().all(|script| script.told() == b"arena 1\nrequest 3\n".as_slice()));
+    assert!(rt; tasks.iter().all(|script| script.told() == seen.as_slice()));
+    assert!(rt; (openers.len(), tasks.len()) == (1, 1));
     assert!(rt; (closed.calls, closed.workers, closed.chronicle.len()) == (3, 0, 3));
     Ok(())
 }
@@ -144,9 +164,14 @@ fn are_told_the_limit<R: Threads + Wait + Sync + Abort>(
     scripts.push(Script::new(alloc, cmds)?)?;
     scripts.push(Script::new(alloc, cmds)?)?;
     assert!(rt; scripts.len() == 2);
-    let Ok(Meeting { closed, tasks }) = meet(rt, alloc, terms, Order::AtOnce, scripts) else {
+    let Ok(meeting) = meet(rt, alloc, terms, nobody(alloc), scripts) else {
         panic!(rt; "no office");
     };
+    let Meeting {
+        closed,
+        openers: _,
+        tasks,
+    } = meeting;
     let line = b"value 8 limit 7 effective 7\n";
     for script in tasks.iter() {
         assert!(rt; script.told().len() == 1_000 * line.len());
@@ -174,17 +199,20 @@ fn one_visits_and_one_stays<R: Threads + Wait + Sync + Abort>(
 ) -> Result<(), AllocError>
     requires { length cmds.now ≡ 6 }
 {
-    let mut scripts = Vec::with_capacity(alloc, 3)?;
-    scripts.push(Script::new(alloc, &cmds[..2])?)?;
-    scripts.push(Script::new(alloc, &cmds[2..5])?)?;
-    scripts.push(Script::new(alloc, &cmds[5..])?)?;
-    assert!(rt; scripts.len() == 3);
-    let Ok(Meeting { closed, tasks }) = meet(rt, alloc, TERMS, Order::FirstAlone, scripts) else {
+    let openers = scripts_of(alloc, &[&cmds[..2]])?;
+    let tasks = scripts_of(alloc, &[&cmds[2..5], &cmds[5..]])?;
+    assert!(rt; openers.len() == 1 && tasks.len() == 2);
+    let Ok(meeting) = meet(rt, alloc, TERMS, openers, tasks) else {
         panic!(rt; "no office");
     };
-    assert!(rt; tasks.len() == 3);
-    assert!(rt; tasks[1].told() == b"placed 1\nstays 1\nleft 1\n".as_slice());
-    assert!(rt; tasks[2].told() == b"placed 1\n".as_slice());
+    let Meeting {
+        closed,
+        openers: _,
+        tasks,
+    } = meeting;
+    assert!(rt; tasks.len() == 2);
+    assert!(rt; tasks[0].told() == b"placed 1\nstays 1\nleft 1\n".as_slice());
+    assert!(rt; tasks[1].told() == b"placed 1\n".as_slice());
     assert!(rt; (closed.calls, closed.workers, closed.chronicle.len()) == (6, 1, 6));
     let view = closed.chronicle.market().view(ArenaId::new(1));
     assert!(rt; matches!(view, Some(arena) if arena.active == 1));

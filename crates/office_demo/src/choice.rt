@@ -9,13 +9,19 @@ use std::{env, io};
 /// What `--help` prints.
 pub const USAGE: &str = "\
 Usage: office_demo [CALLERS [CALLS]]
+       office_demo --forever SECONDS [CALLERS]
 
 Lets CALLERS threads, 1 to 64, share one market through an office, each of which calls at random
 CALLS times, and writes the journal of what happened to standard output and how much it was to
 standard error. Without words it is 4 callers and 250 calls each. One caller does the same each time.
 
-Example:
+With --forever they call for SECONDS seconds, through an office that keeps no journal, and standard
+error says how many calls that were, and how much memory the process had at a quarter of the time and
+at its end. Without CALLERS it is 4.
+
+Examples:
   $ office_demo 4 1000 | market replay
+  $ office_demo --forever 3600
 
 Exit status:
   0  done, or help was asked for
@@ -34,6 +40,8 @@ const USUAL: Choice = Choice::Work {
 pub enum Choice {
     /// So many callers call so many times each.
     Work { callers: u8, calls: u32 },
+    /// So many callers call for so many seconds.
+    Forever { callers: u8, seconds: u32 },
     /// The help.
     Help,
     /// The words are none that the program knows.
@@ -58,15 +66,38 @@ impl Choice {
     {
         let mut words = env::args(rt)?;
         let _program = words.next();
-        let (callers, calls) = (words.next(), words.next());
+        let (first, second, third) = (words.next(), words.next(), words.next());
         if words.next().is_some() {
             return Ok(Choice::Unknown);
         }
-        Ok(match (&callers, &calls) {
-            (Some(callers), Some(calls)) => Choice::of_numbers(callers.as_str(), calls.as_str()),
-            (Some(word), None) => Choice::of_word(word.as_str()),
+        Ok(match (&first, &second, &third) {
+            (Some(first), Some(second), Some(third)) => {
+                Choice::of_three(first.as_str(), second.as_str(), third.as_str())
+            }
+            (Some(first), Some(second), None) => Choice::of_two(first.as_str(), second.as_str()),
+            (Some(word), None, None) => Choice::of_word(word.as_str()),
             _ => USUAL,
         })
+    }
+
+    /// What three words choose.
+    fn of_three(first: &str, seconds: &str, callers: &str) -> Choice
+        ensures possible { IsPossible result }
+    {
+        match first {
+            "--forever" => Choice::of_time(seconds, callers),
+            _ => Choice::Unknown,
+        }
+    }
+
+    /// What two words choose.
+    fn of_two(first: &str, second: &str) -> Choice
+        ensures possible { IsPossible result }
+    {
+        match first {
+            "--forever" => Choice::of_time(second, "4"),
+            callers => Choice::of_numbers(callers, second),
+        }
     }
 
     /// What one word chooses.
@@ -85,6 +116,16 @@ impl Choice {
     {
         match (callers.parse(), calls.parse()) {
             (Ok(callers @ 1..=64), Ok(calls)) => Choice::Work { callers, calls },
+            _ => Choice::Unknown,
+        }
+    }
+
+    /// What a time and a number choose.
+    fn of_time(seconds: &str, callers: &str) -> Choice
+        ensures possible { IsPossible result }
+    {
+        match (callers.parse(), seconds.parse()) {
+            (Ok(callers @ 1..=64), Ok(seconds)) => Choice::Forever { callers, seconds },
             _ => Choice::Unknown,
         }
     }

@@ -4,17 +4,24 @@
 ghost use Rattle.std.specs.Prelude.{◌≡◌};
 
 mod choice;
+mod dice;
 mod fault;
+mod forever;
+mod guest;
 mod note;
+mod resident;
 mod visitor;
+mod watch;
 mod work;
 
 use crate::choice::{Choice, USAGE};
 use crate::fault::DemoFault;
+use crate::forever::{Lasted, last};
 use crate::work::{Outcome, TERMS, work};
 use byte_devices::WriteSink;
 use journal_replay::write_journal;
 use std::process::ExitCode;
+use std::time::Duration;
 
 /// The exit status where a caller does not find its own calls.
 const DISAGREEMENT: u8 = 1;
@@ -40,6 +47,26 @@ fn show(rt: &HostRuntime, outcome: &Outcome) -> Result<u8, DemoFault>
     eprintln!(rt; "{calls} calls answered, {workers} workers placed")?;
     eprintln!(rt; "{agreeing} of {callers} callers find their own calls in the journal, in order")?;
     Ok(if agreeing == callers { 0 } else { DISAGREEMENT })
+}
+
+/// Tells so much memory, at these two times.
+fn tell_memory(rt: &HostRuntime, quarter: Option<u64>, end: Option<u64>) -> Result<(), DemoFault> {
+    match (quarter, end) {
+        (Some(quarter), Some(end)) => {
+            eprintln!(rt; "{quarter} kB of memory at a quarter of the time, {end} kB at its end")?
+        }
+        _ => eprintln!(rt; "the system does not tell how much memory it was")?,
+    }
+    Ok(())
+}
+
+/// Tells how an office lasted.
+fn tell_lasted(rt: &HostRuntime, lasted: &Lasted) -> Result<u8, DemoFault> {
+    let (calls, workers) = (lasted.closed.calls, lasted.closed.workers);
+    let rate = lasted.rate();
+    eprintln!(rt; "{calls} calls answered, {workers} workers placed, {rate} calls a second")?;
+    tell_memory(rt, lasted.quarter, lasted.end)?;
+    Ok(0)
 }
 
 /// Tells how the program is used, and ends with this status.
@@ -71,6 +98,13 @@ fn main(rt: HostRuntime) -> ExitCode {
             Ok(outcome) => show(&rt, &outcome),
             Err(fault) => Err(fault),
         },
+        Ok(Choice::Forever { callers, seconds }) => {
+            let time = Duration::from_secs(u64::from(seconds));
+            match last(&rt, &rt, rt.alloc(), time, callers) {
+                Ok(lasted) => tell_lasted(&rt, &lasted),
+                Err(fault) => Err(fault),
+            }
+        }
         Ok(Choice::Help) => tell_usage(&rt, 0),
         Ok(Choice::Unknown) => tell_usage(&rt, BAD_COMMAND_LINE),
         Err(fault) => Err(fault),

@@ -1,6 +1,7 @@
 //! Callers in threads of their own: each finds its own calls in the one history, which a market of one thread answers alike.
 ghost use Rattle.std.specs.Prelude.{◌≡◌, ◌≤◌};
 
+use crate::forever::last;
 use crate::work::{Outcome, TERMS, work};
 use edit_history::Chronicle;
 use market_core::Market;
@@ -11,6 +12,7 @@ use std::process::Abort;
 use std::rt::HostRuntime;
 use std::sync::Wait;
 use std::thread::Threads;
+use std::time::Duration;
 
 /// The market gives the entry's reply to its command.
 fn answers(
@@ -101,4 +103,19 @@ fn an_office_without_calls_is_closed(rt: HostRuntime) {
     let outcome = meets(&rt, rt.alloc(), TERMS, 64, 0);
     assert!(&rt; outcome.closed.calls == 0);
     assert!(&rt; outcome.closed.workers == 0);
+}
+
+/// Each caller looks at the clock behind some calls for the first time.
+#[test]
+fn callers_call_until_the_time_is_over(rt: HostRuntime) {
+    let time = Duration::from_millis(200);
+    let Ok(lasted) = last(&rt, &rt, rt.alloc(), time, 4) else {
+        panic!(&rt; "no office");
+    };
+    let closed = &lasted.closed;
+    assert!(&rt; closed.calls >= 4_096);
+    assert!(&rt; closed.chronicle.len() == closed.calls);
+    assert!(&rt; closed.chronicle.kept().is_empty());
+    assert!(&rt; closed.workers == u64::from(closed.chronicle.market().placed()));
+    assert!(&rt; lasted.time >= time && lasted.rate() > 0);
 }

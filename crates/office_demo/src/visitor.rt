@@ -1,12 +1,9 @@
 //! A caller that calls at random.
-ghost use Rattle.std.specs.Prelude.{◌<◌};
-
+use crate::dice::Dice;
 use crate::note::Notes;
 use market_lock::{Office, Pass, Placed};
 use market_types::{ArenaId, Cmd, ControlId, Level, Reply};
 use office_crew::{Asked, Caller, Task, ask};
-use rand::{RngExt, SeedableRng};
-use rand_xoshiro::SplitMix64;
 use std::alloc::Global;
 use std::sync::Wait;
 use std::sync::ledger::Ledger;
@@ -17,7 +14,7 @@ const ARENAS: u32 = 24;
 /// It calls so many times, what its seed says, and notes what it is answered.
 #[derive(Drop)]
 pub struct Visitor {
-    random: SplitMix64,
+    dice: Dice,
     turns: u32,
     newest: ArenaId,
     pub notes: Notes,
@@ -27,24 +24,16 @@ impl Visitor {
     /// Of this seed, to call so many times.
     pub fn new(alloc: Global, seed: u64, turns: u32) -> Self {
         Visitor {
-            random: SplitMix64::seed_from_u64(seed),
+            dice: Dice::new(seed),
             turns,
             newest: ArenaId::new(0),
             notes: Notes::new(alloc),
         }
     }
 
-    /// A number below `bound`.
-    fn below(&mut self, bound: u32) -> u32
-        requires { 0 < bound }
-        ensures { result < bound }
-    {
-        self.random.random_range(0..bound)
-    }
-
     fn arena(&mut self) -> ArenaId {
         let newest = self.newest.get();
-        let before = self.below(newest.clamp(1, ARENAS));
+        let before = self.dice.below(newest.clamp(1, ARENAS));
         ArenaId::new(newest.saturating_sub(before))
     }
 
@@ -57,7 +46,7 @@ impl Visitor {
     }
 
     fn level(&mut self) -> Level {
-        Level::from_index(self.below(4) as usize)
+        Level::from_index(self.dice.below(4) as usize)
     }
 
     /// A command that moves no seat, an Open at first. Some are refused.
@@ -65,16 +54,16 @@ impl Visitor {
         if self.newest.get() == 0 {
             return Cmd::Open(8, 1, Level::from_index(1));
         }
-        match self.below(20) {
-            0 => Cmd::Open(self.below(9), self.below(3), self.level()),
+        match self.dice.below(20) {
+            0 => Cmd::Open(self.dice.below(9), self.dice.below(3), self.level()),
             1 | 2 => Cmd::Close(self.arena()),
             3 => Cmd::Priority(self.arena(), self.level()),
-            4 => Cmd::Resize(self.arena(), self.below(9), self.below(3)),
-            5 => Cmd::Control(self.below(16)),
-            6 | 7 => Cmd::Uncontrol(ControlId::new(self.below(512))),
+            4 => Cmd::Resize(self.arena(), self.dice.below(9), self.dice.below(3)),
+            5 => Cmd::Control(self.dice.below(16)),
+            6 | 7 => Cmd::Uncontrol(ControlId::new(self.dice.below(512))),
             8..=15 => {
-                let workers = self.below(9) as i32 - 3;
-                Cmd::Request(self.arena(), workers, self.below(3) as i32 - 1)
+                let workers = self.dice.below(9) as i32 - 3;
+                Cmd::Request(self.arena(), workers, self.dice.below(3) as i32 - 1)
             }
             16 | 17 => Cmd::Show(self.arena()),
             18 => Cmd::Lists,
@@ -84,7 +73,7 @@ impl Visitor {
 
     /// What it asks for while its seat is not placed.
     fn free_cmd(&mut self) -> Cmd {
-        match self.below(3) {
+        match self.dice.below(3) {
             0 => Cmd::Join,
             _ => self.cmd(),
         }
@@ -92,7 +81,7 @@ impl Visitor {
 
     /// What it asks for while its seat is placed.
     fn working_cmd(&mut self) -> Cmd {
-        match self.below(6) {
+        match self.dice.below(6) {
             0 | 1 => Cmd::Stay,
             2 => Cmd::Leave,
             _ => self.cmd(),
@@ -124,5 +113,9 @@ impl Task for Visitor {
             caller = next;
         }
         caller
+    }
+
+    fn lets_others_work(&self) -> bool {
+        true
     }
 }

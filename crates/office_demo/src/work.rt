@@ -5,7 +5,7 @@ use crate::fault::DemoFault;
 use crate::note::LEVELS;
 use crate::visitor::Visitor;
 use market_lock::Closed;
-use office_crew::{Meeting, Order, Terms, meet};
+use office_crew::{Meeting, Terms, meet};
 use std::alloc::{AllocError, Global};
 use std::sync::Wait;
 use std::thread::Threads;
@@ -66,7 +66,13 @@ pub fn work<R: Threads + Wait + Sync>(
     ensures whole { IfOk result (λ outcome. outcome.closed.chronicle.from ≡ 0) }
 {
     let visitors = visitors(alloc, callers, calls)?;
-    let Meeting { closed, tasks } = meet(rt, alloc, terms, Order::AtOnce, visitors)?;
+    let nobody = Vec::<Visitor>::new(alloc);
+    let meeting = meet(rt, alloc, terms, nobody, visitors).map_err(|unmet| unmet.fault)?;
+    let Meeting {
+        closed,
+        openers: _,
+        tasks,
+    } = meeting;
     let agreeing = count_agreeing(alloc, &closed, &tasks)?;
     Ok(Outcome {
         closed,

@@ -10,6 +10,6 @@ pub record Counted : Type 0 where
 abbrev pub nothing : Counted
 nothing = record { calls = 0; workers = 0 }
 
--- as many calls as a history has places at most
+-- the greatest number that 64 bits hold
 abbrev pub most_counted : ℕ
-most_counted = 1048576
+most_counted = 18446744073709551615

@@ -97,7 +97,7 @@ impl<C: Ledger, W: Ledger> Book<C, W> {
         Ok((Book { calls, workers }, shares))
     }
 
-    /// Counts a call that was answered. It takes no memory. The book has counted fewer than 1,048,576.
+    /// Counts a call that was answered. It takes no memory. The book has counted fewer than 18,446,744,073,709,551,615.
     pub fn count(&mut self, share: &mut Share<C, W>)
         requires room { self.old.calls < most_counted }
         ensures book { self.new ≡ record self.old { calls = self.old.calls + 1 } }
@@ -106,7 +106,8 @@ impl<C: Ledger, W: Ledger> Book<C, W> {
         self.calls.add(&mut share.calls);
     }
 
-    /// Counts a worker that was placed, by a caller that had none. It takes no memory. The book has fewer than 1,048,576.
+    /// Counts a worker that was placed, by a caller that had none. It takes no memory. The book has fewer than
+    /// 18,446,744,073,709,551,615.
     pub fn enter(&mut self, share: &mut Share<C, W>)
         requires room { self.old.workers < most_counted }
         requires none { share.old.workers ≡ 0 }

@@ -14,9 +14,6 @@ use market_types::{ArenaId, Cmd, ControlId, Fault, Level, Reply, SeatNo};
 use recall_hire::recall;
 use std::alloc::{AllocError, Global};
 
-/// The last number of an arena, and the last stamp.
-const LAST_NUMBER: u32 = 1_048_576;
-
 impl Market {
     /// Does what a seat asks, or refuses it: the first refusal that applies is the reply, and changes nothing. Only Open,
     /// Control and Lists can give an `Err`, where there is no memory for what no refusal stops, and after one the market is as
@@ -110,10 +107,11 @@ impl Market {
         if self.arenas.len() >= Arenas::MOST_ARENAS {
             return Ok((Reply::Refused(Fault::TooManyArenas), 0));
         }
-        if self.next_arena > LAST_NUMBER {
+        let last = self.opening.last.get();
+        if self.next_arena > last {
             return Ok((Reply::Refused(Fault::OutOfNumbers), 0));
         }
-        if self.next_stamp > LAST_NUMBER {
+        if self.next_stamp > last {
             return Ok((Reply::Refused(Fault::OutOfNumbers), 0));
         }
         let arena = ArenaId::new(self.next_arena);
@@ -156,7 +154,7 @@ impl Market {
         if self.opening.levels < level.get() {
             return (Reply::Refused(Fault::BadLevel), 0);
         }
-        if self.next_stamp > LAST_NUMBER {
+        if self.next_stamp > self.opening.last.get() {
             return match self.arenas.get(arena) {
                 Some(_) => (Reply::Refused(Fault::OutOfNumbers), 0),
                 None => (Reply::Refused(Fault::NoArena), 0),
@@ -209,7 +207,7 @@ impl Market {
         ensures memory_last { OnErr result (is_refusal (control_step self.old value).0 ≡ false) }
     {
         self.nobody_needed = false;
-        let made = self.controls.make(value)?;
+        let made = self.controls.make(value, self.opening.last)?;
         match made {
             Ok(control) => Ok(Reply::Controlled(control)),
             Err(fault) => Ok(Reply::Refused(fault)),

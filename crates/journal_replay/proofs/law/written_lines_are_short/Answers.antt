@@ -4,4 +4,4 @@ use Rattle.journal_replay.proofs.law.written_lines_are_short.Goals as goal
 
 pub returns : goal.returns
 returns c = λ start history opened legal.
-    short-history (λ s seat cmd. (same_seats s seat cmd, (steps s seat cmd).hard)) start history opened legal
+    short-history (λ s seat cmd. (same_seats s seat cmd, (steps s seat cmd).hard, (steps s seat cmd).last)) start history opened legal

@@ -15,3 +15,6 @@ returns-clause-hard c = λ s seat cmd. (steps s seat cmd).hard
 
 pub returns-clause-levels : goal.returns-clause-levels
 returns-clause-levels c = λ s seat cmd. (steps s seat cmd).levels
+
+pub returns-clause-last : goal.returns-clause-last
+returns-clause-last c = λ s seat cmd. (steps s seat cmd).last

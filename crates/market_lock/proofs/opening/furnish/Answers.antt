@@ -1,8 +1,9 @@
-use Rattle.std.proofs.Common.{rules, ◌≡◌, [], ◌∷◌, List, sym, ◌∙◌, subst}
+use Rattle.std.proofs.Common.{rules, ◌≡◌, [], ◌∷◌, List, ap, sym, ◌∙◌, subst}
 use Rattle.atomic_table.specs.Table.{opening}
 use Rattle.edit_history.specs.Chronicled.{Chronicled}
 use Rattle.market_lock.specs.declared.view.View.TheVariants.{Opener}
 use Rattle.market_lock.specs.Rule.{Kept}
+use Rattle.market_lock.specs.Views.{chronicle_from}
 use Rattle.market_lock.proofs.Steps.{begins}
 use Rattle.market_lock.proofs.opening.furnish.Goals as goal
 
@@ -10,4 +11,4 @@ pub new-requires-3 : goal.new-requires-3
 new-requires-3 g c =
     let key = c.args.terms.now in
     let items : c.push_reserved.new.self.items ≡ c.new-2.result ∷ [] = search rules in
-    subst (λ (xs : List Chronicled). Kept key (opening (0 ∷ []) xs (Opener key 0))) (sym items) (begins key c.new-2.result (c.new-2.ensures.exact ∙ c.requires.chronicle))
+    subst (λ (xs : List Chronicled). Kept key (opening (0 ∷ []) xs (Opener key 0))) (sym items) (begins key c.new-2.result (let is = c.new-2.ensures.exact ∙ c.requires.chronicle in is ∙ ap (chronicle_from key []) (sym (ap (λ (d : Chronicled). d.from) is))))

@@ -6,7 +6,10 @@ pub market_options-options-requires : goal.market_options-options-requires
 market_options-options-requires c =
     elim c.requires [
       | inl script ↦ script.numbers
-      | inr is ↦
+      | inr (inl is) ↦
           let same : c.eq.result ≡ true = c.eq.ensures ∙ (bytes_eq-Decides _ _).1 is in
           absurd (true≢false (sym same ∙ c.if-eq.false))
+      | inr (inr drive) ↦
+          let same : c.eq-2.result ≡ true = c.eq-2.ensures ∙ (bytes_eq-Decides _ _).1 drive.name in
+          absurd (true≢false (sym same ∙ c.if-eq-2.false))
     ]

@@ -15,4 +15,5 @@ returns c =
     let asked = command_with_subcommand_asked _ _ _ c.subcommand_required.ensures help in
     let run = command_with_subcommand _ _ _ _ _ c.in_ok-subcommand.ensures c.in_ok-run.ensures asked in
     let explain = command_with_subcommand _ _ _ _ _ c.in_ok-subcommand-2.ensures c.in_ok-explain.ensures run in
-    IfOk-weaker c.subcommand-3.result _ _ (λ r adds. (command_with_subcommand _ _ r _ _ adds c.replay_command.ensures explain).is) c.subcommand-3.ensures
+    let replay = command_with_subcommand _ _ _ _ _ c.in_ok-subcommand-3.ensures c.replay_command.ensures explain in
+    IfOk-weaker c.subcommand-4.result _ _ (λ r adds. (command_with_subcommand _ _ r _ _ adds c.in_ok-drive.ensures replay).is) c.subcommand-4.ensures

@@ -13,4 +13,5 @@ returns c =
     let base = command_with_arg _ _ _ _ _ c.in_ok-arg.ensures c.arg.ensures.rule c.arg.ensures.global help in
     let hard = command_with_arg _ _ _ _ _ c.in_ok-arg-2.ensures c.arg-3.ensures.rule c.arg-3.ensures.global base in
     let seats = command_with_arg _ _ _ _ _ c.in_ok-arg-3.ensures c.arg-5.ensures.rule c.arg-5.ensures.global hard in
-    IfOk-weaker c.arg-8.result _ _ (λ r adds. command_with_arg _ r _ _ _ adds c.arg-7.ensures.rule c.arg-7.ensures.global seats) c.arg-8.ensures
+    let levels = command_with_arg _ _ _ _ _ c.in_ok-arg-4.ensures c.arg-7.ensures.rule c.arg-7.ensures.global seats in
+    IfOk-weaker c.arg-10.result _ _ (λ r adds. command_with_arg _ r _ _ _ adds c.arg-9.ensures.rule c.arg-9.ensures.global levels) c.arg-10.ensures

@@ -6,11 +6,13 @@ abbrev pub invariant-loop-member : goal.invariant-loop-member
 invariant-loop-member g l =
     All (λ (p : OfPass). p.table ≡ g.B.Room.table) l.passes.items
     × All (λ (p : OfPlaced). p.who.table ≡ g.B.Room.table) l.placed.items
-    × ((vec_len l.left + vec_len l.passes) + vec_len l.placed ≡ vec_len l.fn.members)
-    × (vec_len l.fn.members ≤ vec_capacity l.passes)
-    × (vec_len l.fn.members ≤ vec_capacity l.placed)
+    × ((vec_len l.left + vec_len l.passes) + vec_len l.placed ≡ (vec_len l.fn.passes + vec_len l.fn.placed) + vec_len l.fn.members)
+    × (vec_len l.passes + vec_len l.left ≤ vec_capacity l.passes)
+    × (vec_len l.placed + vec_len l.left ≤ vec_capacity l.placed)
     × (vec_len l.tasks + vec_len l.left ≤ vec_capacity l.tasks)
     × (vec_len l.tasks + vec_len l.left ≡ vec_len l.fn.tasks + vec_len l.fn.members)
+    × (vec_capacity l.passes ≡ vec_capacity l.fn.passes)
+    × (vec_capacity l.placed ≡ vec_capacity l.fn.placed)
 
 abbrev pub decreases-loop-member : goal.decreases-loop-member
 decreases-loop-member g l = vec_len l.left

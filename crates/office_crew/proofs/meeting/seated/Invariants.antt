@@ -2,14 +2,15 @@ use Rattle.std.proofs.Common.{◌≡◌, ◌+◌, ◌≤◌, vec_len, vec_capaci
 use Rattle.market_lock.specs.Seen.{OfPass}
 use Rattle.office_crew.proofs.meeting.seated.Given as goal
 
-abbrev pub invariant-loop-pass : goal.invariant-loop-pass
-invariant-loop-pass g l =
+abbrev pub invariant-loop-task : goal.invariant-loop-task
+invariant-loop-task g l =
     All (λ (p : OfPass). p.table ≡ g.B.Room.table) l.passes.items
-    × (vec_len l.passes ≡ vec_len l.tasks)
-    × (vec_len l.members + vec_len l.passes ≡ vec_len l.fn.passes)
-    × (vec_len l.fn.passes ≤ vec_capacity l.members)
+    × (vec_len l.tasks ≤ vec_len l.passes)
+    × (vec_len l.members + vec_len l.tasks ≡ vec_len l.fn.tasks)
+    × (vec_len l.passes + vec_len l.fn.tasks ≡ vec_len l.fn.passes + vec_len l.tasks)
+    × (vec_len l.fn.tasks ≤ vec_capacity l.members)
     × (vec_capacity l.passes ≡ vec_capacity l.fn.passes)
     × (vec_capacity l.tasks ≡ vec_capacity l.fn.tasks)
 
-abbrev pub decreases-loop-pass : goal.decreases-loop-pass
-decreases-loop-pass g l = vec_len l.passes
+abbrev pub decreases-loop-task : goal.decreases-loop-task
+decreases-loop-task g l = vec_len l.tasks

@@ -12,5 +12,4 @@ invariant_of-self c =
     record {
       least_kept = c.least_of-self-inside.ensures ∙ ap least_of c.deref-2.ensures.value;
       values = subst (All InRange) (sym c.take_out.ensures) (All-filter (λ (d : Control). not (d.number == c.args.id)) InRange c.self.inside.controls.items c.self.invariant.values);
-      numbers = c.self.invariant.numbers;
     }

@@ -6,7 +6,7 @@ use Rattle.market_types.specs.Replies.{is_listed}
 use Rattle.edit_history.specs.Chronicled.{Chronicled, entry}
 use Rattle.edit_history.specs.Places.{takes, taken, placed}
 use Rattle.market_core.proofs.Moved.{steps}
-use Rattle.edit_history.proofs.Keeping.{kept-seats, kept-some, kept-room, kept-same, kept-more}
+use Rattle.edit_history.proofs.KeptAfter.{kept-seats, kept-some, kept-room, kept-same, kept-more}
 use Rattle.edit_history.proofs.chronicle.Chronicle.call.Goals as goal
 
 pub arena_of-requires : goal.arena_of-requires
@@ -46,7 +46,7 @@ invariant_of-self-2 c =
     let at : place_of market c.args.seat ≡ c.arena_of.result = ap (λ (o : Option (Option ℕ)). unwrap_or o None) c.arena_of.ensures.exact in
     let needed : c.takes_of-takes.result ≡ takes (place_of market c.args.seat) c.args.cmd = c.takes_of-takes.ensures.exact ∙ ap (λ p. takes p c.args.cmd) (sym at) in
     let were : c.placed-placed.result ≡ placed market = c.placed-placed.ensures.exact in
-    let sum : c.free.result + taken (record { start = c.self.inside.opened.value; log = c.self.inside.past ++ c.self.inside.recent.items; places = c.self.inside.places; from = c.self.inside.from }) ≡ c.self.inside.places =
+    let sum : c.free.result + taken (record { start = c.self.inside.opened.value; log = c.self.inside.past ++ c.self.inside.recent.items; places = c.self.inside.places; from = c.self.inside.from; keeping = c.self.inside.keeping }) ≡ c.self.inside.places =
     subst (λ (d : Chronicled). c.free.result + taken d ≡ d.places) (sym c.self.view_is) c.free.ensures.exact in
     let fits = kept-room _ _ _ _ _ _ _ c.self.invariant c.free.result (takes (place_of market c.args.seat) c.args.cmd) sum (let e = c.if-free-takes.false in omega arith) in
     let items : c.push_reserved.new.self.items ≡ c.self.inside.recent.items ++ entry c.args.seat c.args.cmd c.in-Ok-copied.kept ∷ [] = search rules in

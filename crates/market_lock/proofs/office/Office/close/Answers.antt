@@ -3,13 +3,14 @@ use Rattle.market_types.specs.State.{State}
 use Rattle.market_types.specs.Allotment.{active}
 use Rattle.edit_history.specs.Chronicled.{Chronicled, HasNumbersOf, market_of}
 use Rattle.edit_history.specs.Places.{placed}
+use Rattle.market_desk.specs.Forgetting.{forgotten}
 use Rattle.worker_ledger.specs.Pooled.{Pooled}
 use Rattle.market_lock.specs.declared.view.Terms.{Terms}
 use Rattle.market_lock.specs.Seen.{OfOffice, Met}
 use Rattle.market_lock.specs.Held.{whos}
 use Rattle.market_lock.proofs.Meeting.{all_who}
 use Rattle.market_lock.specs.Headline.{IsGivenBy}
-use Rattle.market_lock.specs.Views.{opening_of, chronicle_of}
+use Rattle.market_lock.specs.Views.{opening_of, chronicle_from, chronicle_cut}
 use Rattle.market_lock.proofs.Steps.{enters_it}
 use Rattle.market_lock.proofs.Ending.{ended_by, all_met, given_by, seats_kept, all_active, long_whos}
 use Rattle.market_lock.proofs.office.Office.close.Goals as goal
@@ -37,7 +38,9 @@ returns-clause-whole g c =
     (search rules) c.take_back_passes.ensures.seat c.take_back_placed.ensures.seat (omega (arith, long_whos c.args.placed.items, seats, c.requires.all)) c.close_with-closed.ensures.values.2 c.take-desk.ensures.value in
     let same : c.into_parts-chronicle.result.0 ≡ c.take-desk.result = c.into_parts-chronicle.ensures.chronicle in
     let terms : key ≡ c.args.self.terms = ap (λ (x : OfOffice). x.terms) c.self.view_is in
-    subst (λ (z : Terms × Chronicled). z.1 ≡ chronicle_of z.0 z.1.log) (λ i. (terms i, sym same i)) o.desk_is
+    let desk : Chronicled = c.take-desk.result in
+    let kept : desk.from ≡ forgotten key.keeping (length desk.log) desk.from = c.into_parts-chronicle.ensures.from ∙ ap (λ (d : Chronicled). forgotten d.keeping (length desk.log) desk.from) o.desk_is in
+    subst (λ (z : Terms × Chronicled). z.1 ≡ chronicle_cut z.0 z.1.log z.1.from) (λ i. (terms i, sym same i)) (o.desk_is ∙ ap (chronicle_from key desk.log) kept)
 
 pub returns-clause-passes : goal.returns-clause-passes
 returns-clause-passes g c =

@@ -1,0 +1,140 @@
+#!/usr/bin/env python3
+"""The whole program as its users run it: a child that is talked to line by line, closed pipes, a child that is killed, a slow
+reader, a full disk, words that it does not know. Each case has a line; the first that fails ends it with status 1.
+
+    check/program.py PROGRAM            as check/program.py crates/market/out/market
+"""
+import os
+import signal
+import subprocess
+import sys
+import time
+
+sys.path.insert(0, os.path.join(os.path.dirname(os.path.abspath(__file__)), "..", "examples"))
+from client import Market, MarketGone
+
+SCRIPT = b"0 open 8 1 normal\n0 request 1 3\n0 show 1\n"
+REPLIES = b"arena 1\nrequest 3\narena 1 request 3 allot 3 top yes active 0 recall 0 hire 3\n"
+PLAN = b"market 8 64\narena 8 1 normal 2 0\narena 8 1 low 1 0\njob 1 sum 10\njob 1 digits 9081\njob 2 sum 100\n"
+OUTCOME = b"job 1 55\njob 2 18\njob 3 5050\n"
+SUBCOMMANDS = {"run": SCRIPT, "explain": SCRIPT, "replay": b"", "drive": PLAN}
+
+
+def ran(words, text=b"", **more):
+    return subprocess.run(words, input=text, capture_output=True, timeout=60, **more)
+
+
+def due(what, found, wanted):
+    if found != wanted:
+        sys.exit(f"{what}: {found!r}, due {wanted!r}")
+    print(f"{what}: ok")
+
+
+def talks(program):
+    market = Market(program, base=8, seats=4)
+    replies = [market.ask(0, line[2:].decode()) for line in SCRIPT.splitlines()]
+    due("each command is answered before the next", replies, REPLIES.decode().splitlines())
+    due("a word that it does not know is unread", market.ask(0, "fly"), "unread")
+    due("and tells in the exit status", market.close(), 1)
+
+
+def is_killed(program):
+    market = Market(program)
+    market.ask(0, "limit")
+    market.child.send_signal(signal.SIGKILL)
+    market.child.wait()
+    try:
+        market.ask(0, "limit")
+    except MarketGone as gone:
+        due("a child that was killed is told as gone", gone.args, (-signal.SIGKILL,))
+    else:
+        sys.exit("a child that was killed answers")
+
+
+def reads_slowly(program):
+    lines = 200_000
+    child = subprocess.Popen([program, "run"], stdin=subprocess.PIPE, stdout=subprocess.PIPE)
+    writer = os.fork()
+    if writer == 0:
+        child.stdout.close()
+        child.stdin.write(b"0 limit\n" * lines)
+        child.stdin.close()
+        os._exit(0)
+    child.stdin.close()
+    found = 0
+    while piece := child.stdout.read1(4_096):
+        found += piece.count(b"\n")
+        if found < 3_000:
+            time.sleep(0.01)
+    os.waitpid(writer, 0)
+    due("a slow reader gets every reply", (found, child.wait()), (lines, 0))
+
+
+def closes_its_pipe(program):
+    for name in SUBCOMMANDS:
+        text = {"replay": b"x\n", "drive": PLAN}.get(name, b"0 open 8 1 normal\n" * 1_000)
+        child = subprocess.Popen([program, name], stdin=subprocess.PIPE, stdout=subprocess.PIPE, stderr=subprocess.PIPE)
+        child.stdout.close()
+        try:
+            child.stdin.write(text)
+            child.stdin.close()
+        except BrokenPipeError:
+            pass
+        told = child.stderr.read()
+        status = child.wait()
+        due(f"{name} whose reader is gone ends with a write fault", (told, status), (b"write fault\n", 3))
+
+
+def fills_a_disk(program):
+    if not os.path.exists("/dev/full"):
+        print("no /dev/full here: left out")
+        return
+    for name, text in SUBCOMMANDS.items():
+        with open("/dev/full", "wb") as full:
+            found = subprocess.run([program, name], input=text, stdout=full, stderr=subprocess.PIPE, timeout=60)
+        due(f"{name} to a full disk ends with a write fault", (found.stderr, found.returncode), (b"write fault\n", 3))
+
+
+def cannot_read(program):
+    for name in SUBCOMMANDS:
+        with open(os.devnull, "wb") as shut:
+            found = subprocess.run([program, name], stdin=shut, capture_output=True, timeout=60)
+        due(f"{name} whose input cannot be read ends with a read fault", (found.stdout, found.stderr, found.returncode), (b"", b"read fault\n", 3))
+
+
+def helps(program):
+    for words in ([], *([name] for name in SUBCOMMANDS)):
+        found = ran([program, *words, "--help"])
+        lines = found.stdout.count(b"\n")
+        due(f"--help of {' '.join(words) or 'the program'} fits a screen", (found.returncode, found.stderr, 0 < lines <= 50), (0, b"", True))
+
+
+def refuses_words(program):
+    bad = [[], ["fly"], ["run", "--base", "0"], ["run", "--seats", "65"], ["run", "--levels", "9"], ["run", "--hard", "x"], ["replay", "x"],
+           ["run", "--last", "0"], ["explain", "--last", "4294967295"], ["run", "--journal", "--last", "3"],
+           ["drive", "--workers", "0"], ["drive", "--workers", "17"], ["drive", "--workers"], ["run", b"\xff"]]
+    for words in bad:
+        found = ran([program, *words], SCRIPT)
+        due(f"{words} is refused with a text", (found.returncode, found.stdout, found.stderr != b""), (2, b"", True))
+
+
+def does_its_job(program):
+    due("a script is answered", ran([program, "run"], SCRIPT).stdout, REPLIES)
+    journal = ran([program, "run", "--journal"], SCRIPT).stdout
+    due("where the fourth control has no number it is refused", ran([program, "run", "--last", "3"], b"0 control 9\n" * 4).stdout, b"control 1\ncontrol 2\ncontrol 3\nF04 out of numbers\n")
+    due("a journal of the usual last number is written", ran([program, "run", "--journal", "--last", "1048576"], SCRIPT).stdout, journal)
+    due("its journal is legal", ran([program, "replay"], journal).stdout, b"legal 3\n")
+    for workers in range(1, 17):
+        found = ran([program, "drive", "--workers", str(workers), "--progress"], PLAN)
+        due(f"a plan has its outcome by {workers} workers", (found.stdout, found.returncode), (OUTCOME, 0))
+
+
+def main():
+    program = os.path.abspath(sys.argv[1])
+    for case in (does_its_job, talks, is_killed, reads_slowly, closes_its_pipe, fills_a_disk, cannot_read, helps, refuses_words):
+        case(program)
+    return 0
+
+
+if __name__ == "__main__":
+    sys.exit(main())

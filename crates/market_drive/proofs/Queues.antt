@@ -1,0 +1,87 @@
+-- Lists that end with one element more; takers of the stations' queues.
+use Rattle.std.proofs.Common.{◌≡◌, ◌≢◌, ◌≤◌, ◌<◌, ℕ, ◌+◌, refl, ap, sym, ◌∙◌, subst, arith, List, [], ◌∷◌, ◌++◌, length, map, All}
+use Rattle.std.specs.List.{AllZip}
+use Rattle.job_queue.specs.Seen.{QueueId, OfTaker}
+use Rattle.drive_plan.specs.declared.task.Job.{Job}
+use Rattle.worker_main.specs.declared.station.Station.{Station}
+use Rattle.worker_main.specs.Stations.{IsTakerOf, HaveOwnArenas}
+use Rattle.worker_main.specs.Books.{IsTakerAfter}
+use Rattle.std.proofs.lemmas.List.{map-append, length-append}
+use Rattle.std.proofs.lemmas.List.Elements.{All-push}
+use Rattle.std.proofs.lemmas.List.Quantifiers.{all_pairs_push}
+use Rattle.market_drive.specs.Racks.{OfEnds, queues_of}
+use Rattle.market_drive.specs.Lines.{queues_at, queues_ended, AreLines}
+
+abbrev head_or : {A : Type 0} → A → List A → A
+head_or d [] = d
+head_or d (x ∷ xs) = x
+
+abbrev rest : {A : Type 0} → List A → List A
+rest [] = []
+rest (x ∷ xs) = xs
+
+abbrev IsNil : {A : Type 0} → List A → Type 0
+IsNil [] = Unit {0}
+IsNil (x ∷ xs) = ⊥
+
+no_cons : {A : Type 0} (x : A) (xs : List A) → [] ≡ x ∷ xs → ⊥
+no_cons x xs e = subst IsNil e tt
+
+no_snoc : {A : Type 0} (xs : List A) (x : A) → [] ≡ xs ++ x ∷ [] → ⊥
+no_snoc [] x e = no_cons x [] e
+no_snoc (y ∷ ys) x e = no_cons y (ys ++ x ∷ []) e
+
+-- the front and the last element of a list are its own
+pub split_last : {A : Type 0} (xs ys : List A) (x y : A) → xs ++ x ∷ [] ≡ ys ++ y ∷ [] → (xs ≡ ys) × (x ≡ y)
+split_last [] [] x y e = (refl, ap (head_or x) e)
+split_last [] (b ∷ ys) x y e = absurd (no_snoc ys y (ap rest e))
+split_last (a ∷ xs) [] x y e = absurd (no_snoc xs x (sym (ap rest e)))
+split_last (a ∷ xs) (b ∷ ys) x y e =
+    let r = split_last xs ys x y (ap rest e) in
+    (λ i. ap (head_or a) e i ∷ r.0 i, r.1)
+
+-- the queues are equal one by one
+pub takers_of : (ss : List Station) (ts : List (OfTaker Job)) → queues_of ts ≡ queues_at ss → AllZip IsTakerOf ss ts
+takers_of [] [] e = tt
+takers_of [] (t ∷ ts) e = no_cons t.queue (queues_of ts) (sym e)
+takers_of (s ∷ ss) [] e = no_cons s.queue.id (queues_at ss) e
+takers_of (s ∷ ss) (t ∷ ts) e = (ap (head_or t.queue) e, takers_of ss ts (ap rest e))
+
+pub same_queues : (old new : List (OfTaker Job)) → AllZip IsTakerAfter old new → queues_of new ≡ queues_of old
+same_queues [] [] z = refl
+same_queues [] (t ∷ ts) z = absurd z
+same_queues (s ∷ ss) [] z = absurd z
+same_queues (s ∷ ss) (t ∷ ts) z = λ i. z.0.0 i ∷ same_queues ss ts z.1 i
+
+-- ---- stations and ends, the last of each
+
+pub paired_last : (all ss : List Station) (s : Station) (ends es : List OfEnds) (e : OfEnds) → all ≡ ss ++ s ∷ [] → ends ≡ es ++ e ∷ [] → queues_ended ends ≡ queues_at all → (queues_ended es ≡ queues_at ss) × (e.queue ≡ s.queue.id)
+paired_last all ss s ends es e p q same =
+    split_last (queues_ended es) (queues_at ss) e.queue s.queue.id
+    (sym (map-append (λ (x : OfEnds). x.queue) es (e ∷ [])) ∙ (ap queues_ended (sym q) ∙ (same ∙ (ap queues_at p ∙ map-append (λ (x : Station). x.queue.id) ss (s ∷ [])))))
+
+pub queues_last : (all ss : List Station) (s : Station) (ends es : List OfEnds) (e : OfEnds) → all ≡ ss ++ s ∷ [] → ends ≡ es ++ e ∷ [] → queues_ended ends ≡ queues_at all → queues_at all ≡ queues_at ss ++ e.queue ∷ []
+queues_last all ss s ends es e p q same =
+    let own = paired_last all ss s ends es e p q same in
+    ap queues_at p ∙ (map-append (λ (x : Station). x.queue.id) ss (s ∷ []) ∙ (λ k. queues_at ss ++ sym own.1 k ∷ []))
+
+pub paired_more : (ss : List Station) (s : Station) (es : List OfEnds) (e : OfEnds) → queues_ended es ≡ queues_at ss → e.queue ≡ s.queue.id → queues_ended (es ++ e ∷ []) ≡ queues_at (ss ++ s ∷ [])
+paired_more ss s es e same own =
+    map-append (λ (x : OfEnds). x.queue) es (e ∷ []) ∙ ((λ k. same k ++ own k ∷ []) ∙ sym (map-append (λ (x : Station). x.queue.id) ss (s ∷ [])))
+
+-- the station of the next arena
+pub lines_more : (ss : List Station) (s : Station) (es : List OfEnds) (e : OfEnds) → AreLines ss es → s.arena ≡ length ss + 1 → length ss < 64 → e.queue ≡ s.queue.id → AreLines (ss ++ s ∷ []) (es ++ e ∷ [])
+lines_more ss s es e l next room own =
+    let long : length (ss ++ s ∷ []) ≡ length ss + 1 = length-append ss (s ∷ []) in
+    record {
+      paired = paired_more ss s es e l.paired own;
+      apart = all_pairs_push HaveOwnArenas ss s l.apart (λ k d h same. (let below = l.below k d h in omega arith));
+      below = All-push (λ (x : Station). x.arena ≤ length (ss ++ s ∷ [])) ss s (λ k d h. (let below = l.below k d h in omega arith)) (omega arith);
+      few = omega arith;
+    }
+
+pub long_more : {A : Type 0} (all xs : List A) (x : A) → all ≡ xs ++ x ∷ [] → length all ≡ length xs + 1
+long_more all xs x e = ap length e ∙ length-append xs (x ∷ [])
+
+pub queues_more : (all ss : List Station) (s : Station) (q : QueueId) → all ≡ ss ++ s ∷ [] → q ≡ s.queue.id → queues_at ss ++ q ∷ [] ≡ queues_at all
+queues_more all ss s q e own = (λ k. queues_at ss ++ own k ∷ []) ∙ sym (ap queues_at e ∙ map-append (λ (x : Station). x.queue.id) ss (s ∷ []))

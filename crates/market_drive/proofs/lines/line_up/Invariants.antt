@@ -1,0 +1,12 @@
+use Rattle.std.proofs.Common.{◌≡◌, ◌<◌, ◌≤◌, length, All}
+use Rattle.market_drive.specs.Racks.{AreAway, IsFor, IsRoomy, OfRack}
+use Rattle.market_drive.specs.Lines.{queues_at}
+use Rattle.market_drive.proofs.lines.line_up.Given as goal
+
+abbrev pub invariant-loop-place : goal.invariant-loop-place
+invariant-loop-place g l =
+    (length l.lines.stations ≡ l.place)
+    × (length l.racks ≡ l.fn.workers)
+    × All (IsFor (queues_at l.lines.stations)) l.racks
+    × All IsRoomy l.racks
+    × All (AreAway l.fn.workers) l.lines.ends

@@ -1,0 +1,18 @@
+use Rattle.std.proofs.Common.{◌≡◌, ◌+◌, ◌≤◌, [], ◌∷◌, ◌++◌, List, length, vec_len, vec_capacity, All}
+use Rattle.job_queue.specs.Seen.{QueueId}
+use Rattle.market_drive.specs.Racks.{IsFor}
+use Rattle.market_drive.proofs.racks.Racks.collect.Given as goal
+
+abbrev pub invariant-loop-rack : goal.invariant-loop-rack
+invariant-loop-rack l =
+    (l.ends.queue ≡ l.fn.ends.queue)
+    × (l.ends.room ≡ l.fn.ends.room)
+    × (l.ends.here ≡ vec_len l.done)
+    × (vec_len l.done + vec_len l.left ≡ length l.fn.self)
+    × (length l.fn.self ≤ 16)
+    × (16 ≤ vec_capacity l.left)
+    × (16 ≤ vec_capacity l.done)
+    × ((queues : List QueueId) → All (IsFor (queues ++ l.fn.ends.queue ∷ [])) l.fn.self → All (IsFor (queues ++ l.fn.ends.queue ∷ [])) l.left.items × All (IsFor queues) l.done.items)
+
+abbrev pub decreases-loop-rack : goal.decreases-loop-rack
+decreases-loop-rack l = vec_len l.left

@@ -1,0 +1,21 @@
+use Rattle.std.proofs.Common.{◌≡◌, ◌+◌, ◌≤◌, ◌<◌, [], ◌∷◌, ◌++◌, List, length, vec_len, vec_capacity, All}
+use Rattle.job_queue.specs.Seen.{QueueId}
+use Rattle.market_drive.specs.Racks.{IsFor, IsRoomy, OfRack}
+use Rattle.market_drive.proofs.racks.Racks.deal.Given as goal
+
+abbrev pub invariant-loop-rack : goal.invariant-loop-rack
+invariant-loop-rack l =
+    (l.ends.queue ≡ l.fn.ends.queue)
+    × (l.ends.room ≡ l.fn.ends.room)
+    × (l.ends.here ≡ vec_len l.left)
+    × (vec_len l.dealt + vec_len l.left ≡ length l.fn.self)
+    × (length l.fn.self ≤ 16)
+    × (16 ≤ vec_capacity l.left)
+    × (16 ≤ vec_capacity l.dealt)
+    × All IsRoomy l.left.items
+    × All (λ (r : OfRack). length r.queues < 64) l.left.items
+    × All IsRoomy l.dealt.items
+    × ((queues : List QueueId) → All (IsFor queues) l.fn.self → All (IsFor queues) l.left.items × All (IsFor (queues ++ l.fn.ends.queue ∷ [])) l.dealt.items)
+
+abbrev pub decreases-loop-rack : goal.decreases-loop-rack
+decreases-loop-rack l = vec_len l.left

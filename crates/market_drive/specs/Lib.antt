@@ -1,0 +1,4 @@
+pub mod Racks
+pub mod Lines
+pub mod Ending
+pub mod Driving

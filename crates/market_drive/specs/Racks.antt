@@ -1,0 +1,31 @@
+-- Which queues a worker may pop from, and what stays of a queue while its takers are away. No clause of a public call has these words (own).
+use Rattle.std.specs.Prelude.{◌≡◌, ◌≤◌, ℕ, ◌+◌, List, [], ◌∷◌, ◌++◌, length, map, Option, Some}
+use Rattle.std.specs.List.{All}
+use Rattle.job_queue.specs.Seen.{QueueId, OfTaker}
+use Rattle.drive_plan.specs.declared.task.Job.{Job}
+
+-- a worker's takers: of which queues, in their order; and for how many there is room
+pub record OfRack : Type 0 where
+  pub queues : List QueueId
+  pub room : ℕ
+
+-- a queue's ends: of which queue, how many of its takers are here, and for how many there is room
+pub record OfEnds : Type 0 where
+  pub queue : QueueId
+  pub here : ℕ
+  pub room : ℕ
+
+abbrev pub queues_of : List (OfTaker Job) → List QueueId
+queues_of ts = map (λ (t : OfTaker Job). t.queue) ts
+
+-- the rack has a taker of each of these queues
+abbrev pub IsFor : List QueueId → OfRack → Type 0
+IsFor queues r = r.queues ≡ queues
+
+-- it has room for a taker of every queue that there can be
+abbrev pub IsRoomy : OfRack → Type 0
+IsRoomy r = 64 ≤ r.room
+
+-- the takers of so many workers are away, and can come back
+abbrev pub AreAway : ℕ → OfEnds → Type 0
+AreAway workers e = (e.queue.feeders ≡ 1) × (e.queue.takers ≡ workers) × (e.here ≡ 0) × (workers ≤ e.room)

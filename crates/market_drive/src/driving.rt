@@ -1,0 +1,86 @@
+//! A plan is driven.
+ghost use Rattle.std.specs.Prelude.{◌≡◌, ◌<◌, ◌≤◌, Ok, IfOk, IfErr};
+ghost use Rattle.std.specs.List.{All};
+ghost use Rattle.drive_plan.specs.Format.{plan_of};
+ghost use Rattle.drive_plan.specs.Outcome.{IsOutcome};
+ghost use Rattle.market_drive.specs.Racks.{IsFor};
+ghost use Rattle.market_drive.specs.Lines.{queues_at};
+ghost use Rattle.market_drive.specs.Driving.{IsDriven, IsDue, IsLate};
+
+use crate::fault::DriveFault;
+use crate::lines::line_up;
+use crate::shifts::work_shifts;
+use drive_plan::{Done, Plan, PlanFault, read_plan};
+use plan_market::{plan_commands, unservable};
+use std::alloc::{AllocError, Global};
+use std::marker::Brand;
+use std::sync::Wait;
+use std::thread::Threads;
+use worker_main::Gate;
+
+/// The plan of a text.
+fn read(alloc: Global, text: &[u8]) -> Result<Plan, DriveFault>
+    ensures plan { IfOk result (λ plan. plan_of text.now ≡ Ok plan) }
+    ensures fault { IfErr result (IsDue text.now) }
+{
+    match read_plan(alloc, text) {
+        Ok(plan) => Ok(plan),
+        Err(PlanFault::BadPlan(line)) => Err(DriveFault::BadPlan(line)),
+        Err(PlanFault::Memory) => Err(DriveFault::Memory),
+    }
+}
+
+/// The answers to a plan's jobs, by so many workers.
+fn drive_plan_of<G: Gate + Sync, R: Threads + Wait + Sync>(
+    rt: &R,
+    alloc: Global,
+    plan: &Plan,
+    workers: usize,
+    gate: &G,
+) -> Result<Vec<Done>, DriveFault>
+    requires { (0 < workers) × (workers ≤ 16) }
+    ensures outcome { IfOk result (λ done. IsOutcome plan.now.jobs done.items) }
+    ensures late { IfErr result IsLate }
+{
+    let Ok(cmds) = plan_commands(alloc, plan) else {
+        return Err(DriveFault::Memory);
+    };
+    let Ok((lines, racks)) = line_up(rt, alloc, plan, workers) else {
+        return Err(DriveFault::Memory);
+    };
+    let stations = lines.stations();
+    let (racks, outcome) = work_shifts::<Brand, G, R>(
+        rt, alloc, plan, &cmds, stations, racks, gate,
+    );
+    lines.settle(rt, racks);
+    outcome
+}
+
+/// Reads a plan, and gives the answers to its jobs in order of number: the same for every number of workers, 1 to 16, each of
+/// which works in a thread of its own, or in the calling thread where none can be made. A gate is asked before each job and told
+/// after it.
+///
+/// `BadPlan` comes first, where the text is no plan; then `Unservable`, where an arena with jobs would never be allotted a worker.
+/// The others come only after the office was opened, with all workers back and the office closed: `Memory`, `Unfinished`,
+/// `Doubled`, `Missing`, in this order. `Memory` may come at any time.
+pub fn drive<G: Gate + Sync, R: Threads + Wait + Sync>(
+    rt: &R,
+    alloc: Global,
+    text: &[u8],
+    workers: usize,
+    gate: &G,
+) -> Result<Vec<Done>, DriveFault>
+    requires workers { (0 < workers) × (workers ≤ 16) }
+    ensures outcome { IfOk result (λ done. IsDriven text.now done.items) }
+    ensures fault { IfErr result (IsDue text.now) }
+{
+    let plan = match read(alloc, text) {
+        Ok(plan) => plan,
+        Err(fault) => return Err(fault),
+    };
+    match unservable(alloc, &plan) {
+        Ok(None) => drive_plan_of(rt, alloc, &plan, workers, gate),
+        Ok(Some(arena)) => Err(DriveFault::Unservable(arena)),
+        Err(AllocError) => Err(DriveFault::Memory),
+    }
+}

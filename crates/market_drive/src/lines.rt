@@ -1,0 +1,143 @@
+//! The queues of a plan.
+ghost use Rattle.std.specs.Prelude.{◌≡◌, ◌+◌, ◌<◌, ◌≤◌, ◌++◌, ◌∷◌, [], length, IfOk, AllPairs};
+ghost use Rattle.std.specs.List.{All};
+ghost use Rattle.market_drive.specs.Racks.{AreAway, IsFor, IsRoomy};
+ghost use Rattle.market_drive.specs.Lines.{queues_at};
+ghost use Rattle.worker_main.specs.Stations.{HaveOwnArenas};
+
+use crate::ends::{Ends, open_queue};
+use crate::racks::Racks;
+use drive_plan::Plan;
+use market_types::ArenaId;
+use std::alloc::{AllocError, Global};
+use std::marker::Model;
+use std::sync::Wait;
+use worker_main::Station;
+
+/// The most queues that a plan has.
+const MOST_QUEUES: usize = 64;
+
+/// The stations at which workers work, and what stays of their queues while the takers of so many workers are away.
+pub(crate) struct Lines {
+    stations: Vec<Station>,
+    ends: Vec<Ends>,
+}
+
+impl Model for Lines {
+    ghost use Rattle.std.specs.Prelude.{◌≡◌, ◌≤◌, vec_len, vec_capacity};
+    ghost use Rattle.market_drive.specs.Lines.{OfLines, AreLines};
+
+    ghost Value = { OfLines };
+
+    ghost view = { λ l. record { stations = l.stations.items; ends = l.ends.items } };
+
+    ghost invariant = { λ l. AreLines l.stations.items l.ends.items × (64 ≤ vec_capacity l.stations) × (64 ≤ vec_capacity l.ends) };
+}
+
+impl Lines {
+    /// None yet, with room for every queue.
+    fn new(alloc: Global) -> Result<Lines, AllocError>
+        ensures { IfOk result (λ lines. (lines.stations ≡ []) × (lines.ends ≡ [])) }
+    {
+        let stations = Vec::with_capacity(alloc, MOST_QUEUES)?;
+        let Ok(ends) = Vec::with_capacity(alloc, MOST_QUEUES) else {
+            stations.destroy_empty();
+            return Err(AllocError);
+        };
+        Ok(Lines { stations, ends })
+    }
+
+    /// What workers share.
+    pub(crate) fn stations(&self) -> &[Station]
+        ensures exact { result.now ≡ self.now.stations }
+        ensures apart { AllPairs HaveOwnArenas result.now }
+    {
+        self.stations.as_slice()
+    }
+
+    /// With the station of the next arena.
+    fn with(self, station: Station, ends: Ends) -> Lines
+        requires next { station.arena ≡ length self.stations + 1 }
+        requires room { length self.stations < 64 }
+        requires queue { ends.queue ≡ station.queue.id }
+        ensures stations { result.stations ≡ self.stations ++ station ∷ [] }
+        ensures ends { result.ends ≡ self.ends ++ ends ∷ [] }
+    {
+        let Lines {
+            mut stations,
+            ends: mut all,
+        } = self;
+        stations.push_reserved(station);
+        all.push_reserved(ends);
+        Lines {
+            stations,
+            ends: all,
+        }
+    }
+
+    /// The end of all queues, with the racks of all their workers.
+    pub(crate) fn settle<R: Wait>(self, rt: &R, racks: Racks)
+        requires racks { All (IsFor (queues_at self.stations)) racks }
+        requires away { All (AreAway (length racks)) self.ends }
+    {
+        let Lines {
+            mut stations,
+            mut ends,
+        } = self;
+        let mut racks = racks;
+        while let Some(station) = stations.pop() {
+            let Some(away) = ends.pop() else {
+                unreachable!()
+            };
+            let (left, here) = racks.collect(away);
+            racks = left;
+            let Station {
+                arena: _,
+                wanted: _,
+                mandatory: _,
+                queue,
+            } = station;
+            here.settle(rt, queue);
+        }
+        stations.destroy_empty();
+        ends.destroy_empty();
+        racks.destroy();
+    }
+}
+
+/// A station with its queue and its jobs for each arena of a plan, and a rack for each of so many workers. Each arena takes a
+/// step for every job of the plan.
+pub(crate) fn line_up<R: Wait>(
+    rt: &R,
+    alloc: Global,
+    plan: &Plan,
+    workers: usize,
+) -> Result<(Lines, Racks), AllocError>
+    requires { (0 < workers) × (workers ≤ 16) }
+    ensures racks { IfOk result (λ l. All (IsFor (queues_at l.0.stations)) l.1) }
+    ensures each { IfOk result (λ l. length l.1 ≡ workers) }
+    ensures away { IfOk result (λ l. All (AreAway workers) l.0.ends) }
+{
+    let mut racks = Racks::new(alloc, workers)?;
+    let Ok(mut lines) = Lines::new(alloc) else {
+        racks.destroy();
+        return Err(AllocError);
+    };
+    for (place, arena) in plan.arenas().iter().enumerate() {
+        let number = ArenaId::new(place as u32 + 1);
+        let Ok((queue, ends)) = open_queue(rt, alloc, plan.jobs(), number, workers) else {
+            lines.settle(rt, racks);
+            return Err(AllocError);
+        };
+        let (dealt, away) = racks.deal(ends);
+        racks = dealt;
+        let station = Station {
+            arena: number,
+            wanted: arena.wanted as u16,
+            mandatory: arena.mandatory as u16,
+            queue,
+        };
+        lines = lines.with(station, away);
+    }
+    Ok((lines, racks))
+}

@@ -1,0 +1,69 @@
+//! What the workers of a plan tell in the end.
+ghost use Rattle.std.specs.Prelude.{◌≡◌, ◌<◌, IfErr, IfOk};
+ghost use Rattle.drive_plan.specs.Outcome.{IsOutcome};
+ghost use Rattle.market_drive.specs.Driving.{IsLate};
+
+use crate::fault::DriveFault;
+use crate::gathering::gather_done;
+use drive_plan::{Done, Plan};
+use edit_history::CallFault;
+use std::alloc::{AllocError, Global};
+use worker_main::Ended;
+
+/// The answers of all workers, and how each ended.
+#[derive(Drop)]
+pub(crate) struct Reports {
+    done: Vec<Done>,
+    ended: Vec<Ended>,
+    /// There was no memory for what was told.
+    is_torn: bool,
+}
+
+impl Reports {
+    /// None yet.
+    pub(crate) fn new(alloc: Global) -> Reports {
+        Reports {
+            done: Vec::new(alloc),
+            ended: Vec::new(alloc),
+            is_torn: false,
+        }
+    }
+
+    fn keep(&mut self, done: Vec<Done>, ended: Ended) -> Result<(), AllocError> {
+        self.ended.push(ended)?;
+        for answer in done {
+            self.done.push(answer)?;
+        }
+        Ok(())
+    }
+
+    /// With the answers of a worker that ended so.
+    pub(crate) fn add(&mut self, done: Vec<Done>, ended: Ended) {
+        if self.keep(done, ended).is_err() {
+            self.is_torn = true;
+        }
+    }
+
+    /// An opener's command was not answered.
+    pub(crate) fn add_fault(&mut self, fault: CallFault) {
+        if self.ended.push(Ended::Call(fault)).is_err() {
+            self.is_torn = true;
+        }
+    }
+
+    /// There was no memory for an office.
+    pub(crate) fn tear(&mut self) {
+        self.is_torn = true;
+    }
+
+    /// What all of it comes to.
+    pub(crate) fn gather(self, plan: &Plan) -> Result<Vec<Done>, DriveFault>
+        ensures outcome { IfOk result (λ done. IsOutcome plan.now.jobs done.items) }
+        ensures late { IfErr result IsLate }
+    {
+        if self.is_torn {
+            return Err(DriveFault::Memory);
+        }
+        gather_done(plan, self.done, &self.ended)
+    }
+}

@@ -1,0 +1,120 @@
+use Rattle.std.proofs.Common.{◌≡◌, ◌≤◌, ℕ, subst, sym, length, Option}
+use Rattle.std.specs.Prelude.{IfSome, OnSome, IsSome, vec_capacity}
+use Rattle.market_types.specs.History.{IsLegal}
+use Rattle.edit_history.specs.Chronicled.{most_forgotten}
+use Rattle.edit_history.specs.declared.part.Part.{Part}
+use Rattle.edit_history.specs.declared.keeping.Keeping.TheVariants.{InParts}
+use Rattle.market_lock.specs.declared.view.Terms.{Terms}
+use Rattle.market_lock.specs.Views.{opening_of}
+use Rattle.market_lock.specs.Seen.{OfPass, known_of, pass_of, Looks}
+use Rattle.market_lock.proofs.Calls.{may_cut, cut_by, cut_may_give, cut_ticket_after, cut_after, told_part, told_served}
+use Rattle.market_lock.proofs.ticket.Ticket.cut.Goals as goal
+
+pub cut_off-part-requires-clause-desk : goal.cut_off-part-requires-clause-desk
+cut_off-part-requires-clause-desk g c = may_cut c.self.inside.seat.me c.take.new.seat.me c.take.ensures.seat
+
+pub give-requires-clause-desk : goal.give-requires-clause-desk
+give-requires-clause-desk g c =
+    let old = c.self.inside.seat.me in
+    let r : Option Part = c.cut_off-part.result in
+    let room : ℕ = vec_capacity c.args.spare in
+    let o = cut_by old c.take.new.seat.me c.cut_off-part.new.seat.me c.self.inside.number room r c.self.inside.share c.self.invariant.1 c.take.ensures.seat c.cut_off-part.ensures.view c.cut_off-part.ensures.desk in
+    cut_may_give (known_of old.0) c.self.inside.number room r c.self.inside.share c.cut_off-part.new.seat.me o
+
+pub invariant_of-self : goal.invariant_of-self
+invariant_of-self g c =
+    let old = c.self.inside.seat.me in
+    let r : Option Part = c.cut_off-part.result in
+    let room : ℕ = vec_capacity c.args.spare in
+    let o = cut_by old c.take.new.seat.me c.cut_off-part.new.seat.me c.self.inside.number room r c.self.inside.share c.self.invariant.1 c.take.ensures.seat c.cut_off-part.ensures.view c.cut_off-part.ensures.desk in
+    cut_ticket_after (known_of old.0) c.self.inside.number room r c.self.inside.share c.cut_off-part.new.seat.me o c.give.new.seat.me c.give.ensures.seat
+
+pub returns-clause-legal : goal.returns-clause-legal
+returns-clause-legal g c =
+    let old = c.self.inside.seat.me in
+    let r : Option Part = c.cut_off-part.result in
+    let room : ℕ = vec_capacity c.args.spare in
+    let o = cut_by old c.take.new.seat.me c.cut_off-part.new.seat.me c.self.inside.number room r c.self.inside.share c.self.invariant.1 c.take.ensures.seat c.cut_off-part.ensures.view c.cut_off-part.ensures.desk in
+    let told = cut_after (known_of old.0) c.self.inside.number room r c.self.inside.share c.cut_off-part.new.seat.me o c.give.new.seat.me c.give.ensures.seat c.self.inside.seat.table_id c.give.new.seat.table_id in
+    let l = known_of c.give.new.seat.me.0 in
+    subst (λ (t : Terms). IsLegal (opening_of t) l.seen) (sym told.0.terms) told.0.legal
+
+pub returns-clause-looks : goal.returns-clause-looks
+returns-clause-looks g c =
+    let old = c.self.inside.seat.me in
+    let r : Option Part = c.cut_off-part.result in
+    let room : ℕ = vec_capacity c.args.spare in
+    let o = cut_by old c.take.new.seat.me c.cut_off-part.new.seat.me c.self.inside.number room r c.self.inside.share c.self.invariant.1 c.take.ensures.seat c.cut_off-part.ensures.view c.cut_off-part.ensures.desk in
+    let told = cut_after (known_of old.0) c.self.inside.number room r c.self.inside.share c.cut_off-part.new.seat.me o c.give.new.seat.me c.give.ensures.seat c.self.inside.seat.table_id c.give.new.seat.table_id in
+    let l = known_of c.give.new.seat.me.0 in
+    subst (λ (p : OfPass). Looks p (pass_of c.give.new.seat.table_id l)) c.self.view_is told.1
+
+pub returns-clause-later : goal.returns-clause-later
+returns-clause-later g c =
+    let old = c.self.inside.seat.me in
+    let r : Option Part = c.cut_off-part.result in
+    let room : ℕ = vec_capacity c.args.spare in
+    let o = cut_by old c.take.new.seat.me c.cut_off-part.new.seat.me c.self.inside.number room r c.self.inside.share c.self.invariant.1 c.take.ensures.seat c.cut_off-part.ensures.view c.cut_off-part.ensures.desk in
+    let told = cut_after (known_of old.0) c.self.inside.number room r c.self.inside.share c.cut_off-part.new.seat.me o c.give.new.seat.me c.give.ensures.seat c.self.inside.seat.table_id c.give.new.seat.table_id in
+    let l = known_of c.give.new.seat.me.0 in
+    subst (λ (p : OfPass). p.from ≤ l.from) c.self.view_is told.0.later
+
+pub returns-clause-part : goal.returns-clause-part
+returns-clause-part g c =
+    let old = c.self.inside.seat.me in
+    let r : Option Part = c.cut_off-part.result in
+    let room : ℕ = vec_capacity c.args.spare in
+    let o = cut_by old c.take.new.seat.me c.cut_off-part.new.seat.me c.self.inside.number room r c.self.inside.share c.self.invariant.1 c.take.ensures.seat c.cut_off-part.ensures.view c.cut_off-part.ensures.desk in
+    let told = cut_after (known_of old.0) c.self.inside.number room r c.self.inside.share c.cut_off-part.new.seat.me o c.give.new.seat.me c.give.ensures.seat c.self.inside.seat.table_id c.give.new.seat.table_id in
+    let l = known_of c.give.new.seat.me.0 in
+    (told_part (known_of old.0) l room r told.0.told).0
+
+pub returns-clause-goes_on : goal.returns-clause-goes_on
+returns-clause-goes_on g c =
+    let old = c.self.inside.seat.me in
+    let r : Option Part = c.cut_off-part.result in
+    let room : ℕ = vec_capacity c.args.spare in
+    let o = cut_by old c.take.new.seat.me c.cut_off-part.new.seat.me c.self.inside.number room r c.self.inside.share c.self.invariant.1 c.take.ensures.seat c.cut_off-part.ensures.view c.cut_off-part.ensures.desk in
+    let told = cut_after (known_of old.0) c.self.inside.number room r c.self.inside.share c.cut_off-part.new.seat.me o c.give.new.seat.me c.give.ensures.seat c.self.inside.seat.table_id c.give.new.seat.table_id in
+    let l = known_of c.give.new.seat.me.0 in
+    subst (λ (p : OfPass). IfSome r (λ (x : Part). p.from ≤ x.from)) c.self.view_is (told_part (known_of old.0) l room r told.0.told).1
+
+pub returns-clause-all : goal.returns-clause-all
+returns-clause-all g c =
+    let old = c.self.inside.seat.me in
+    let r : Option Part = c.cut_off-part.result in
+    let room : ℕ = vec_capacity c.args.spare in
+    let o = cut_by old c.take.new.seat.me c.cut_off-part.new.seat.me c.self.inside.number room r c.self.inside.share c.self.invariant.1 c.take.ensures.seat c.cut_off-part.ensures.view c.cut_off-part.ensures.desk in
+    let told = cut_after (known_of old.0) c.self.inside.number room r c.self.inside.share c.cut_off-part.new.seat.me o c.give.new.seat.me c.give.ensures.seat c.self.inside.seat.table_id c.give.new.seat.table_id in
+    let l = known_of c.give.new.seat.me.0 in
+    (told_part (known_of old.0) l room r told.0.told).2
+
+pub returns-clause-countable : goal.returns-clause-countable
+returns-clause-countable g c =
+    let old = c.self.inside.seat.me in
+    let r : Option Part = c.cut_off-part.result in
+    let room : ℕ = vec_capacity c.args.spare in
+    let o = cut_by old c.take.new.seat.me c.cut_off-part.new.seat.me c.self.inside.number room r c.self.inside.share c.self.invariant.1 c.take.ensures.seat c.cut_off-part.ensures.view c.cut_off-part.ensures.desk in
+    let told = cut_after (known_of old.0) c.self.inside.number room r c.self.inside.share c.cut_off-part.new.seat.me o c.give.new.seat.me c.give.ensures.seat c.self.inside.seat.table_id c.give.new.seat.table_id in
+    let l = known_of c.give.new.seat.me.0 in
+    (told_part (known_of old.0) l room r told.0.told).4
+
+pub returns-clause-in_parts : goal.returns-clause-in_parts
+returns-clause-in_parts g c =
+    let old = c.self.inside.seat.me in
+    let r : Option Part = c.cut_off-part.result in
+    let room : ℕ = vec_capacity c.args.spare in
+    let o = cut_by old c.take.new.seat.me c.cut_off-part.new.seat.me c.self.inside.number room r c.self.inside.share c.self.invariant.1 c.take.ensures.seat c.cut_off-part.ensures.view c.cut_off-part.ensures.desk in
+    let told = cut_after (known_of old.0) c.self.inside.number room r c.self.inside.share c.cut_off-part.new.seat.me o c.give.new.seat.me c.give.ensures.seat c.self.inside.seat.table_id c.give.new.seat.table_id in
+    let l = known_of c.give.new.seat.me.0 in
+    subst (λ (p : OfPass). OnSome r (p.terms.keeping ≡ InParts)) c.self.view_is (told_part (known_of old.0) l room r told.0.told).3
+
+pub returns-clause-served : goal.returns-clause-served
+returns-clause-served g c =
+    let old = c.self.inside.seat.me in
+    let r : Option Part = c.cut_off-part.result in
+    let room : ℕ = vec_capacity c.args.spare in
+    let o = cut_by old c.take.new.seat.me c.cut_off-part.new.seat.me c.self.inside.number room r c.self.inside.share c.self.invariant.1 c.take.ensures.seat c.cut_off-part.ensures.view c.cut_off-part.ensures.desk in
+    let told = cut_after (known_of old.0) c.self.inside.number room r c.self.inside.share c.cut_off-part.new.seat.me o c.give.new.seat.me c.give.ensures.seat c.self.inside.seat.table_id c.give.new.seat.table_id in
+    let l = known_of c.give.new.seat.me.0 in
+    subst (λ (p : OfPass). p.terms.keeping ≡ InParts → p.terms.seats ≤ room → length l.seen ≤ most_forgotten → IsSome r) c.self.view_is (told_served (known_of old.0) l room r told.0.told)

@@ -1,5 +1,0 @@
-use Rattle.std.proofs.Common.{◌≡◌, ◌≤◌, vec_len, vec_capacity}
-use Rattle.office_bench.proofs.measure.repeaters.Given as goal
-
-abbrev pub invariant-loop-seat : goal.invariant-loop-seat
-invariant-loop-seat l = (vec_len l.repeaters ≡ l.seat) × (l.scene.threads ≤ vec_capacity l.repeaters)

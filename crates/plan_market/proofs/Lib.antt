@@ -1,0 +1,4 @@
+mod Examples
+pub mod Requests
+pub mod Allotments
+pub mod Jobs

@@ -1,0 +1,63 @@
+//! Calls through an office.
+ghost use Rattle.std.specs.Prelude.{◌≡◌, ◌≤◌, ◌<◌, vec_len, IfOk};
+
+use crate::crowd::Crowd;
+use crate::fault::BenchFault;
+use crate::repeater::{Repeater, Turn};
+use office_crew::{Terms, meet};
+use std::alloc::{AllocError, Global};
+use std::rt::Clock;
+use std::sync::Wait;
+use std::thread::Threads;
+
+/// 64 workers may be active.
+const TERMS: Terms = Terms {
+    base: 65,
+    hard: 65_535,
+    places: 1_048_576,
+    levels: 3,
+};
+
+/// What turn is taken again and again, by how many threads, and with how many arenas.
+#[derive(Clone, Copy, Debug, PartialEq, Eq)]
+pub struct Scene {
+    pub turn: Turn,
+    pub crowd: Crowd,
+    pub arenas: u32,
+}
+
+/// A repeater for each thread.
+fn repeaters(alloc: Global, scene: Scene, threads: u8) -> Result<Vec<Repeater>, AllocError>
+    requires threads { 0 < threads }
+    ensures each { IfOk result (λ repeaters. vec_len repeaters ≡ threads) }
+{
+    let mut repeaters = Vec::with_capacity(alloc, usize::from(threads))?;
+    for seat in 0..threads {
+        repeaters.push_reserved(Repeater {
+            turn: scene.turn,
+            times: scene.turn.times() / u32::from(threads),
+            opens: seat == 0,
+            arenas: scene.arenas,
+        });
+    }
+    Ok(repeaters)
+}
+
+impl Scene {
+    /// From the opening of the office to its close; the calls that it answered.
+    pub fn round<R: Clock + Threads + Wait + Sync>(
+        self,
+        rt: &R,
+        alloc: Global,
+    ) -> Result<u64, BenchFault> {
+        let repeaters = repeaters(alloc, self, self.crowd.count())?;
+        let nobody = Vec::<Repeater>::new(alloc);
+        let meeting = meet(rt, alloc, TERMS, nobody, repeaters).map_err(|unmet| unmet.fault)?;
+        Ok(meeting.closed.calls)
+    }
+
+    /// How many turns a round has.
+    pub fn turns(self) -> u64 {
+        u64::from(self.turn.times())
+    }
+}

@@ -1,0 +1,52 @@
+use Rattle.std.proofs.Common.{[], ◌∷◌, ◌++◌, ap, sym, ◌∙◌, arith}
+use Rattle.market_types.specs.declared.command.Cmd.TheVariants.{Join}
+use Rattle.market_types.specs.declared.reply.Reply.TheVariants.{Placed}
+use Rattle.edit_history.specs.Chronicled.{entry}
+use Rattle.worker_main.specs.Stations.{IsTakerOf}
+use Rattle.worker_main.proofs.Lists.{zip_read, zip_within, contains_at}
+use Rattle.worker_main.proofs.Takers.{takers_self, takers_at, earned_at}
+use Rattle.worker_main.proofs.Calls.{if_none_then}
+use Rattle.worker_main.proofs.Steps.{turned}
+use Rattle.worker_main.proofs.working.visit.Goals as goal
+
+pub returns-in-Idle-clause-takers : goal.returns-in-Idle-clause-takers
+returns-in-Idle-clause-takers g c = takers_self c.args.takers.now.items
+
+pub returns-in-Failed-clause-takers : goal.returns-in-Failed-clause-takers
+returns-in-Failed-clause-takers g c = takers_self c.args.takers.now.items
+
+pub returns-in_default-clause-takers : goal.returns-in_default-clause-takers
+returns-in_default-clause-takers g c = takers_self c.args.takers.now.items
+
+pub index_mut-requires : goal.index_mut-requires
+index_mut-requires g c =
+    let s = c.in-Some.ensures.found in
+    let h = zip_within IsTakerOf c.args.stations.now c.args.takers.now.items c.in-Some.place c.in-Some.station.now c.requires.takers s.0 in
+    omega (arith, h, c.args.takers.now.ok.0)
+
+pub take_turn-requires-clause-arena : goal.take_turn-requires-clause-arena
+take_turn-requires-clause-arena g c = sym (c.in-Some.ensures.found.1 ∙ c.arena-arena.ensures.exact)
+
+pub take_turn-requires-clause-queue : goal.take_turn-requires-clause-queue
+take_turn-requires-clause-queue g c =
+    (zip_read IsTakerOf c.args.stations.now c.args.takers.now.items c.in-Some.place c.in-Some.station.now c.index_mut.result.now c.requires.takers c.in-Some.ensures.found.0 c.index_mut.ensures.value).1
+
+pub returns-clause-takers : goal.returns-clause-takers
+returns-clause-takers g c =
+    let at = zip_read IsTakerOf c.args.stations.now c.args.takers.now.items c.in-Some.place c.in-Some.station.now c.index_mut.result.now c.requires.takers c.in-Some.ensures.found.0 c.index_mut.ensures.value in
+    takers_at c.args.takers.now.items c.in-Some.place c.index_mut.result.now c.take_turn.new.taker _ _ at.0 c.take_turn.ensures.jobs
+
+pub returns-clause-jobs : goal.returns-clause-jobs
+returns-clause-jobs g c =
+    let at = zip_read IsTakerOf c.args.stations.now c.args.takers.now.items c.in-Some.place c.in-Some.station.now c.index_mut.result.now c.requires.takers c.in-Some.ensures.found.0 c.index_mut.ensures.value in
+    earned_at c.args.takers.now.items c.in-Some.place c.index_mut.result.now c.take_turn.new.taker _ _ at.0 c.take_turn.ensures.jobs
+
+pub returns-clause-turn : goal.returns-clause-turn
+returns-clause-turn g c =
+    let s = c.in-Some.ensures.found in
+    let j = c.in-Placed.ensures.exact in
+    let arena = sym (s.1 ∙ c.arena-arena.ensures.exact) in
+    let at = zip_read IsTakerOf c.args.stations.now c.args.takers.now.items c.in-Some.place c.in-Some.station.now c.index_mut.result.now c.requires.takers s.0 c.index_mut.ensures.value in
+    if_none_then c.take_turn.result.1
+    (turned c.args.stations.now c.args.takers.now.items c.in-Some.place c.in-Some.station.now c.index_mut.result.now c.take_turn.new.taker c.args.pass c.in-Placed.placed.who c.take_turn.result.0 c.requires.arenas
+    (contains_at c.args.stations.now c.in-Some.place c.in-Some.station.now s.0) s.0 at.0 j.0.2 (j.2.3 ∙ ap (λ a. c.args.pass.mine ++ entry c.args.pass.seat Join (Placed a) ∷ []) arena)) c.take_turn.ensures.turn

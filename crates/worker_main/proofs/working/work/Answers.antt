@@ -1,0 +1,59 @@
+use Rattle.std.proofs.Common.{[], sym, subst, IfNone, IfSome}
+use Rattle.worker_main.specs.Turns.{IsTurnOf, IsLastJoin}
+use Rattle.worker_main.specs.Books.{results, HasAdded, IfIdle}
+use Rattle.worker_main.specs.Steps.{HasEarned}
+use Rattle.worker_main.proofs.Takers.{still_of, takers_self, takers_trans, earned_nothing, earned_trans, earned_whole, earned_with, earned_from_nothing}
+use Rattle.worker_main.proofs.Calls.{goes_on, goes_further, if_idle_then}
+use Rattle.worker_main.proofs.Steps.{starts, more_turns, ends_idle}
+use Rattle.worker_main.proofs.working.work.Goals as goal
+
+pub loop-init : goal.loop-init
+loop-init g c = (
+  goes_on c.args.pass,
+  takers_self c.args.takers.items,
+  subst (λ l. HasEarned c.args.takers.items [] c.args.takers.items (results l)) (sym c.new-done.ensures.items) (earned_nothing c.args.takers.items []),
+  starts c.args.stations.now c.args.takers.items c.args.pass,
+)
+
+pub visit-next-requires-clause-takers : goal.visit-next-requires-clause-takers
+visit-next-requires-clause-takers g c = still_of c.args.stations.now c.args.takers.items c.loop.takers.items c.requires.takers c.loop.invariant.1
+
+pub loop-preserved : goal.loop-preserved
+loop-preserved g c =
+    let i = c.loop.invariant in
+    let v = c.visit-next.ensures in
+    let old = c.args.takers.items in
+    let mid = c.loop.takers.items in
+    let new = c.visit-next.new.takers.items in
+    let ran = results c.visit-next.new.done.items in
+    let next = c.visit-next.result.0 in
+    let one = subst (λ e. IfNone e (HasAdded (IsTurnOf c.args.stations.now) c.args.stations.now mid new c.loop.pass next)) c.in-None-ended.is v.turn in (
+      goes_further c.args.pass c.loop.pass next i.0 v.same,
+      takers_trans old mid new i.1 v.takers,
+      earned_trans old mid new [] (results c.loop.done.items) ran i.2 (earned_whole mid new (results c.loop.done.items) ran c.visit-next.result.1 c.in-None-ended.is v.jobs),
+      more_turns c.args.stations.now old mid new c.args.pass c.loop.pass next i.1 i.0.0.2 i.3 one,
+    )
+
+pub returns-in-Some-ended-clause-takers : goal.returns-in-Some-ended-clause-takers
+returns-in-Some-ended-clause-takers g c =
+    takers_trans c.args.takers.items c.loop.takers.items c.visit-next.new.takers.items c.loop.invariant.1 c.visit-next.ensures.takers
+
+pub returns-in-Some-ended-clause-jobs : goal.returns-in-Some-ended-clause-jobs
+returns-in-Some-ended-clause-jobs g c =
+    let old = c.args.takers.items in
+    let mid = c.loop.takers.items in
+    let new = c.visit-next.new.takers.items in
+    let ran = results c.visit-next.new.done.items in
+    earned_from_nothing old new _
+    (earned_trans old mid new [] (results c.loop.done.items) _ c.loop.invariant.2
+    (earned_with mid new (results c.loop.done.items) ran c.visit-next.result.1 c.in-Some-ended.ended c.in-Some-ended.is c.visit-next.ensures.jobs))
+
+pub returns-in-Some-ended-clause-turns : goal.returns-in-Some-ended-clause-turns
+returns-in-Some-ended-clause-turns g c =
+    let i = c.loop.invariant in
+    let old = c.args.takers.items in
+    let mid = c.loop.takers.items in
+    let new = c.visit-next.new.takers.items in
+    let next = c.visit-next.result.0 in
+    let last = subst (λ o. IfSome o (λ e. IfIdle e (HasAdded IsLastJoin c.args.stations.now mid new c.loop.pass next))) c.in-Some-ended.is c.visit-next.ensures.idle in
+    if_idle_then c.in-Some-ended.ended (ends_idle c.args.stations.now old mid new c.args.pass c.loop.pass next i.1 i.0.0.2 i.3) last

@@ -1,0 +1,4 @@
+pub mod Stations
+pub mod Turns
+pub mod Books
+pub mod Steps
