@@ -1,5 +1,6 @@
 //! Calls through an office.
-use market_types::{ArenaId, Cmd, Level, OpenFault};
+use edit_history::Keeping;
+use market_types::{ArenaId, Cmd, LastNumber, Level, OpenFault};
 use office_crew::{Meeting, Script, Terms, meet};
 use std::alloc::{AllocError, Global};
 use std::process::Abort;
@@ -13,6 +14,8 @@ const TERMS: Terms = Terms {
     hard: 64,
     places: 100,
     levels: 3,
+    last: LastNumber::USUAL,
+    keeping: Keeping::Everything,
 };
 
 const ANSWERS: [&str; 7] = [

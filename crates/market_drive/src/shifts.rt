@@ -13,7 +13,8 @@ use crate::racks::Racks;
 use crate::reports::Reports;
 use crate::worker::{Shift, Worker, Yard};
 use drive_plan::{Done, Plan};
-use market_types::Cmd;
+use edit_history::Keeping;
+use market_types::{Cmd, LastNumber};
 use office_crew::{Meeting, Terms, Unmet, meet};
 use std::alloc::{AllocError, Global};
 use std::sync::Wait;
@@ -147,6 +148,8 @@ pub(crate) fn work_shifts<Y: Yard + Send + Sync, G: Gate + Sync, R: Threads + Wa
         hard: plan.hard(),
         places: PLACES,
         levels: plan.levels(),
+        last: LastNumber::USUAL,
+        keeping: Keeping::Everything,
     };
     let racks = work_together(rt, alloc, terms, openers, workers, racks, &mut reports);
     (racks, reports.gather(plan))

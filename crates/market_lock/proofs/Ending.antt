@@ -7,7 +7,7 @@ use mathlib.Core.List.{IsPrefix}
 use lib.ListN.{get_elem?}
 use Rattle.atomic_table.specs.Table.{Me, Final, Seen}
 use Rattle.market_types.specs.declared.reply.Entry.{Entry}
-use Rattle.market_types.specs.State.{State, opening}
+use Rattle.market_types.specs.State.{State, opening_to}
 use Rattle.market_types.specs.Step.{place_of}
 use Rattle.market_types.specs.Allotment.{active, allotment_of, is_top, recall, hire}
 use Rattle.market_types.specs.History.{IsLegal, calls_of, of_seat, place_in, state_after}
@@ -15,7 +15,7 @@ use Rattle.edit_history.specs.Chronicled.{Chronicled, HasNumbersOf, market_of}
 use Rattle.edit_history.specs.Places.{placed}
 use Rattle.market_desk.specs.Workers.{own_place}
 use Rattle.market_lock.specs.declared.view.Known.{Known}
-use Rattle.market_lock.specs.declared.view.Terms.{Terms}
+use Rattle.edit_history.specs.declared.terms.Terms.{Terms}
 use Rattle.market_lock.specs.declared.view.View.{View}
 use Rattle.market_lock.specs.declared.view.View.TheVariants.{Closer}
 use Rattle.market_lock.specs.Views.{opening_of, chronicle_from}
@@ -89,9 +89,9 @@ module _ (key : Terms) (ps qs : List OfPass) (desk : Chronicled) (o : Ended key 
 
 -- a legal history places a seat where the seat's own entries say
 abbrev pub OwnPlaces : Type 0
-OwnPlaces = (base hard seats levels seat : ℕ) (history : List Entry)
-    → IsLegal (opening base hard seats levels) history → seat < seats
-    → place_of (state_after (opening base hard seats levels) (calls_of history)) seat ≡ place_in seat history
+OwnPlaces = (base hard seats levels last seat : ℕ) (history : List Entry)
+    → IsLegal (opening_to base hard seats levels last) history → seat < seats
+    → place_of (state_after (opening_to base hard seats levels last) (calls_of history)) seat ≡ place_in seat history
 
 pub all_active : OwnPlaces → (key : Terms) (ps : List OfPass) (qs : List OfPlaced) (desk : Chronicled) → Ended key ps (whos qs) desk → IsLegal desk.start desk.log
     → length (market_of desk).seats ≡ key.seats
@@ -102,7 +102,7 @@ all_active law key ps qs desk o legal long none' some' full a =
     let there : (i : ℕ) (k : Known) → get_elem? o.kept i ≡ some k → (k.seat < length (market_of desk).seats) × (place_of (market_of desk) k.seat ≡ own_place k.mine) =
     λ i k e.
     let f = o.fits i k e in
-    let at : place_of (state_after (opening_of key) (calls_of desk.log)) k.seat ≡ place_in k.seat desk.log = law key.base key.hard key.seats key.levels k.seat desk.log begun f.2 in
+    let at : place_of (state_after (opening_of key) (calls_of desk.log)) k.seat ≡ place_in k.seat desk.log = law key.base key.hard key.seats key.levels key.last k.seat desk.log begun f.2 in
     let moved : place_of (market_of desk) k.seat ≡ place_of (state_after (opening_of key) (calls_of desk.log)) k.seat =
     ap (λ (s : State). place_of (state_after s (calls_of desk.log)) k.seat) (started key ps (whos qs) desk o) in
     (omega (arith, long, f.2), moved ∙ (at ∙ ap own_place f.1)) in

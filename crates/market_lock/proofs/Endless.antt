@@ -10,7 +10,7 @@ use Rattle.edit_history.specs.Places.{LacksPlaces}
 use Rattle.edit_history.specs.declared.keeping.Keeping.{Keeping}
 use Rattle.edit_history.specs.declared.keeping.Keeping.TheVariants.{Nothing}
 use Rattle.market_desk.specs.Forgetting.{forgotten}
-use Rattle.market_lock.specs.declared.view.Terms.{Terms}
+use Rattle.edit_history.specs.declared.terms.Terms.{Terms}
 use Rattle.market_lock.specs.Views.{opening_of, chronicle_of, IsEndless}
 use Rattle.market_lock.specs.Seen.{OfOffice}
 
@@ -18,7 +18,7 @@ use Rattle.market_lock.specs.Seen.{OfOffice}
 abbrev pub NeverFull : Type 0
 NeverFull = (c : Chronicled) (seat : ℕ) (cmd : Cmd) → c.from ≡ length c.log → length c.start.seats + 2 ≤ c.places → LacksPlaces c seat cmd → ⊥
 
-pub endless-by : NeverFull → (t : Terms) → t.keeping ≡ Nothing → t.places ≡ t.seats + 2 → IsEndless t
+pub endless-by : NeverFull → (t : Terms) → t.keeping ≡ Nothing → t.seats + 2 ≤ t.places → IsEndless t
 endless-by law t keeps places log seat cmd few lacks =
     let seats : length (opening_of t).seats ≡ t.seats = length-replicate t.seats None in
     let from : forgotten t.keeping (length log) 0 ≡ length log = ap (λ (k : Keeping). forgotten k (length log) 0) keeps ∙ min-eq_left few in

@@ -14,7 +14,7 @@ use Rattle.edit_history.specs.Places.{placed}
 use Rattle.market_desk.specs.Workers.{own_place}
 use Rattle.edit_history.specs.Chronicled.{Chronicled}
 use Rattle.market_lock.specs.declared.view.Known.{Known}
-use Rattle.market_lock.specs.declared.view.Terms.{Terms}
+use Rattle.edit_history.specs.declared.terms.Terms.{Terms}
 use Rattle.market_lock.specs.declared.view.View.{View}
 use Rattle.market_lock.specs.declared.view.View.TheVariants.{Closer}
 use Rattle.market_lock.specs.Rule.{Once}

@@ -8,7 +8,7 @@ use Rattle.edit_history.specs.Chronicled.{Chronicled, most_forgotten}
 use Rattle.edit_history.specs.Parts.{EndsWith}
 use Rattle.edit_history.specs.declared.part.Part.{Part}
 use Rattle.edit_history.specs.declared.keeping.Keeping.TheVariants.{InParts}
-use Rattle.market_lock.specs.declared.view.Terms.{Terms}
+use Rattle.edit_history.specs.declared.terms.Terms.{Terms}
 use Rattle.market_lock.specs.declared.view.Known.{Known}
 use Rattle.market_lock.specs.declared.view.View.{View}
 use Rattle.market_lock.specs.declared.view.View.TheVariants.{Idle, Holder, Closer}

@@ -7,7 +7,7 @@ use Rattle.atomic_table.specs.Table.{State, Me, Step}
 use Rattle.market_types.specs.declared.reply.Entry.{Entry}
 use Rattle.market_types.specs.History.{of_seat}
 use Rattle.edit_history.specs.Chronicled.{Chronicled}
-use Rattle.market_lock.specs.declared.view.Terms.{Terms}
+use Rattle.edit_history.specs.declared.terms.Terms.{Terms}
 use Rattle.market_lock.specs.declared.view.Known.{Known}
 use Rattle.market_lock.specs.declared.view.View.{View}
 use Rattle.market_lock.specs.declared.view.View.TheVariants.{Opener, Idle, Holder, Closer, Spent}

@@ -10,7 +10,7 @@ use Rattle.market_types.specs.History.{IsLegal, of_seat}
 use Rattle.edit_history.specs.Chronicled.{Chronicled, entry}
 use Rattle.worker_ledger.specs.Counted.{Counted}
 use Rattle.market_desk.specs.Workers.{own_place, workers_at}
-use Rattle.market_lock.specs.declared.view.Terms.{Terms}
+use Rattle.edit_history.specs.declared.terms.Terms.{Terms}
 use Rattle.market_lock.specs.declared.view.Known.{Known}
 use Rattle.market_lock.specs.declared.view.View.{View}
 use Rattle.market_lock.specs.declared.view.View.TheVariants.{Idle, Holder}

@@ -2,20 +2,20 @@
 use Rattle.std.specs.Prelude.{ℕ, ◌+◌, ◌≤◌, List, [], ◌∷◌, ◌++◌, length}
 use Rattle.market_types.specs.declared.command.Cmd.{Cmd}
 use Rattle.market_types.specs.declared.reply.Entry.{Entry}
-use Rattle.market_types.specs.State.{State, opening}
+use Rattle.market_types.specs.State.{State, opening_to}
 use Rattle.market_types.specs.History.{of_seat}
 use Rattle.edit_history.specs.Chronicled.{Chronicled, most_forgotten}
 use Rattle.edit_history.specs.Places.{LacksPlaces}
 use Rattle.edit_history.specs.declared.keeping.Keeping.TheVariants.{Everything}
 use Rattle.market_desk.specs.Forgetting.{forgotten}
-use Rattle.market_lock.specs.declared.view.Terms.{Terms}
+use Rattle.edit_history.specs.declared.terms.Terms.{Terms}
 use Rattle.market_lock.specs.declared.view.Known.{Known}
 use Rattle.market_lock.specs.declared.view.View.{View}
 use Rattle.market_lock.specs.declared.view.View.TheVariants.{Opener, Idle, Closer, Spent}
 
 -- the market as it was opened
 abbrev pub opening_of : Terms → State
-opening_of t = opening t.base t.hard t.seats t.levels
+opening_of t = opening_to t.base t.hard t.seats t.levels t.last
 
 -- the chronicle of an office after this history, which keeps the entries from this one on
 abbrev pub chronicle_from : Terms → List Entry → ℕ → Chronicled
@@ -34,7 +34,7 @@ abbrev pub IsEndless : Terms → Type 0
 IsEndless t = (log : List Entry) (seat : ℕ) (cmd : Cmd) → length log ≤ most_forgotten → LacksPlaces (chronicle_of t log) seat cmd → ⊥
 
 abbrev pub no_terms : Terms
-no_terms = record { base = 0; hard = 0; seats = 0; places = 0; levels = 0; keeping = Everything }
+no_terms = record { base = 0; hard = 0; seats = 0; places = 0; levels = 0; last = 0; keeping = Everything }
 
 abbrev pub known : Terms → ℕ → List Entry → ℕ → List Entry → Known
 known terms seat seen from mine = record { terms = terms; seat = seat; seen = seen; from = from; mine = mine }

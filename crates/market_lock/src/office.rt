@@ -6,10 +6,10 @@ ghost use Rattle.market_types.specs.declared.reply.Reply.TheVariants.{Left};
 ghost use Rattle.market_types.specs.Allotment.{active};
 ghost use Rattle.market_types.specs.Commands.{moves_seat};
 ghost use Rattle.market_types.specs.Opening.{MemoryAside};
-ghost use Rattle.edit_history.specs.Chronicled.{market_of, most_forgotten, opened_chronicle, opened_in_parts, opened_unrecorded};
+ghost use Rattle.edit_history.specs.Chronicled.{market_of, most_forgotten, opened_by, opened_chronicle, opened_in_parts, opened_unrecorded};
 ghost use Rattle.edit_history.specs.Parts.{EndsWith};
 ghost use Rattle.edit_history.specs.Places.{placed as seats_placed};
-ghost use Rattle.edit_history.specs.declared.keeping.Keeping.TheVariants.{InParts};
+ghost use Rattle.edit_history.specs.declared.keeping.Keeping.TheVariants.{InParts, Nothing};
 ghost use Rattle.market_types.specs.History.{IsLegal};
 ghost use Rattle.market_lock.specs.Views.{opening_of, chronicle_of, chronicle_cut, IsEndless};
 ghost use Rattle.market_lock.specs.Seen.{OfPass, OfPlaced, IsSamePass, Looks, fresh, kept_by, Met};
@@ -20,12 +20,11 @@ use crate::closing::{take_back_passes, take_back_placed};
 use crate::opening::{Furnished, deal, furnish};
 use crate::pass::{Joined, Pass, Placed, Stayed};
 use crate::rule::{Enter, Shelf};
-use crate::view::Terms;
 use edit_history::{
-    CallFault, Chronicle, Keeping, Part, a_forgetful_chronicle_is_never_full,
+    CallFault, Chronicle, Keeping, Part, Terms, a_forgetful_chronicle_is_never_full,
     own_entries_place_a_seat,
 };
-use market_types::{Cmd, Entry, OpenFault, Reply, SeatNo};
+use market_types::{Cmd, Entry, LastNumber, OpenFault, Reply, SeatNo};
 use std::alloc::Global;
 use std::marker::Model;
 use std::sync::Wait;
@@ -58,9 +57,30 @@ pub struct Closed {
 }
 
 impl<C: Ledger, W: Ledger> Office<C, W> {
-    /// An office with an empty history, and a pass for each seat, in order, which has seen and called nothing. The numbers and
-    /// their faults are those of `Chronicle::new`: `BadBase`, `BadHard`, `BadSeats`, `BadPlaces`, `BadLevels`, then `Memory`.
+    /// An office with an empty history, on these terms, and a pass for each seat, in order, which has seen and called nothing.
+    /// The faults are those of `Chronicle::on_terms`: `BadBase`, `BadHard`, `BadSeats`, `BadPlaces`, `BadLevels`, then `Memory`.
     /// The two new ledgers have a part for each seat, and `C` and `W` stand for them. It doesn't wait.
+    pub fn on_terms(
+        alloc: Global,
+        terms: Terms,
+        calls: Blank,
+        workers: Blank,
+    ) -> Result<(Self, Vec<Pass<C, W>>), OpenFault>
+        requires calls { (calls.name ≡ C.name) × (calls.parts ≡ C.parts) × (C.parts ≡ terms.seats) }
+        requires workers { (workers.name ≡ W.name) × (workers.parts ≡ W.parts) × (W.parts ≡ terms.seats) }
+        ensures exact { MemoryAside (opened_by terms) (kept_by result) }
+        ensures terms { IfOk result (λ o. o.0.terms ≡ terms) }
+        ensures one_for_each { IfOk result (λ o. length o.1.items ≡ terms.seats) }
+        ensures passes { IfOk result (λ o. (k : ℕ) → k < terms.seats → slice_get o.1.items k ≡ Some (fresh o.0 k)) }
+        ensures own { IfOk result (λ o. All (λ (p : OfPass). p.table ≡ o.0.table) o.1.items) }
+        ensures endless { terms.keeping ≡ Nothing → terms.seats + 2 ≤ terms.places → IfOk result (λ o. IsEndless o.0.terms) }
+    {
+        a_forgetful_chronicle_is_never_full();
+        let chronicle = Chronicle::on_terms(alloc, terms)?;
+        Self::with_chronicle(alloc, &terms, chronicle, calls, workers)
+    }
+
+    /// The same with the usual last number, and every entry is kept.
     pub fn open(
         alloc: Global,
         base: u32,
@@ -78,16 +98,16 @@ impl<C: Ledger, W: Ledger> Office<C, W> {
         ensures passes { IfOk result (λ o. (k : ℕ) → k < seats → slice_get o.1.items k ≡ Some (fresh o.0 k)) }
         ensures own { IfOk result (λ o. All (λ (p : OfPass). p.table ≡ o.0.table) o.1.items) }
     {
-        let chronicle = Chronicle::new(alloc, base, hard, seats, places, levels)?;
         let terms = Terms {
             base,
             hard,
             seats,
             places,
             levels,
+            last: LastNumber::USUAL,
             keeping: Keeping::Everything,
         };
-        Self::with_chronicle(alloc, &terms, chronicle, calls, workers)
+        Self::on_terms(alloc, terms, calls, workers)
     }
 
     /// An office whose entries are taken out in parts by `cut`. Its places are taken by the entries since the last cut alone, so
@@ -110,16 +130,16 @@ impl<C: Ledger, W: Ledger> Office<C, W> {
         ensures passes { IfOk result (λ o. (k : ℕ) → k < seats → slice_get o.1.items k ≡ Some (fresh o.0 k)) }
         ensures own { IfOk result (λ o. All (λ (p : OfPass). p.table ≡ o.0.table) o.1.items) }
     {
-        let chronicle = Chronicle::new_in_parts(alloc, base, hard, seats, places, levels)?;
         let terms = Terms {
             base,
             hard,
             seats,
             places,
             levels,
+            last: LastNumber::USUAL,
             keeping: Keeping::InParts,
         };
-        Self::with_chronicle(alloc, &terms, chronicle, calls, workers)
+        Self::on_terms(alloc, terms, calls, workers)
     }
 
     /// An office that keeps no entries. Its history exists in proofs alone, so that a call takes no memory but the market's own
@@ -142,17 +162,16 @@ impl<C: Ledger, W: Ledger> Office<C, W> {
         ensures own { IfOk result (λ o. All (λ (p : OfPass). p.table ≡ o.0.table) o.1.items) }
         ensures endless { IfOk result (λ o. IsEndless o.0.terms) }
     {
-        a_forgetful_chronicle_is_never_full();
-        let chronicle = Chronicle::new_unrecorded(alloc, base, hard, seats, levels)?;
         let terms = Terms {
             base,
             hard,
             seats,
             places: u32::from(seats) + 2,
             levels,
+            last: LastNumber::USUAL,
             keeping: Keeping::Nothing,
         };
-        Self::with_chronicle(alloc, &terms, chronicle, calls, workers)
+        Self::on_terms(alloc, terms, calls, workers)
     }
 
     /// An office of a new chronicle, and its passes. Out of memory is the only fault.

@@ -1,6 +1,7 @@
 //! The rule of the lock, and its steps: each says what it tells the seat that takes it.
-use crate::view::{Terms, View};
+use crate::view::View;
 use atomic_table::{Join, Play, Seat, Split, Table, TableRule};
+use edit_history::Terms;
 use market_desk::Desk;
 use std::alloc::Global;
 use std::sync::ledger::Ledger;

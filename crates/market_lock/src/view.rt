@@ -1,18 +1,7 @@
-//! What the seats of the lock's table know. But for the terms no value of these types is made: they exist in proofs alone.
-use edit_history::Keeping;
+//! What the seats of the lock's table know. No value of these types is made: they exist in proofs alone.
+use edit_history::Terms;
 use market_types::{Entry, SeatNo};
 use std::collections::LinkedList;
-
-/// What an office is opened with.
-#[derive(Clone, Copy)]
-pub(crate) struct Terms {
-    pub base: u32,
-    pub hard: u32,
-    pub seats: u8,
-    pub places: u32,
-    pub levels: u32,
-    pub keeping: Keeping,
-}
 
 /// What a caller knows: the history that it saw last, how many of its first entries were not kept then, and its own entries in it.
 pub(crate) struct Known {

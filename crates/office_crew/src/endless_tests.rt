@@ -4,9 +4,9 @@ ghost use Rattle.market_lock.specs.Seen.{IsSamePass};
 ghost use Rattle.office_crew.specs.Callers.{who_is};
 
 use super::*;
-use edit_history::Part;
+use edit_history::{Keeping, Part};
 use market_lock::{Closed, Office, Pass, Placed};
-use market_types::{Cmd, Entry, OpenFault};
+use market_types::{Cmd, Entry, LastNumber, OpenFault};
 use std::alloc::{AllocError, Global};
 use std::mem;
 use std::process::Abort;
@@ -15,17 +15,18 @@ use std::sync::Wait;
 use std::sync::ledger::Ledger;
 
 /// Twenty places are soon full.
-const TERMS: Terms = Terms {
+const IN_PARTS: Terms = Terms {
     base: 8,
     hard: 64,
     places: 20,
     levels: 3,
+    last: LastNumber::USUAL,
+    keeping: Keeping::InParts,
 };
 
-const ENDLESS: EndlessTerms = EndlessTerms {
-    base: 8,
-    hard: 64,
-    levels: 3,
+const UNRECORDED: Terms = Terms {
+    keeping: Keeping::Nothing,
+    ..IN_PARTS
 };
 
 /// A caller that cuts entries out until it has so many.
@@ -173,7 +174,7 @@ fn an_unrecorded_crew_makes_more_calls_than_a_history_has_places(
     let alloc = rt.alloc();
     let guests = askers(alloc, 600_000)?;
     assert!(&rt; guests.len() == 2);
-    let Ok(meeting) = meet_unrecorded(&rt, alloc, ENDLESS, nobody(alloc), guests) else {
+    let Ok(meeting) = meet(&rt, alloc, UNRECORDED, nobody(alloc), guests) else {
         panic!(&rt; "no office");
     };
     has_answered(&rt, &meeting.closed, 1_200_000);
@@ -199,7 +200,7 @@ fn parts_that_are_cut_while_others_call_begin_where_the_last_ended(
     let mut guests = askers(alloc, 5_000)?;
     guests.push(Guest::Clerk(Clerk::new(alloc, 10_000)?))?;
     assert!(&rt; guests.len() == 3);
-    let Ok(meeting) = meet_in_parts(&rt, alloc, TERMS, nobody(alloc), guests) else {
+    let Ok(meeting) = meet(&rt, alloc, IN_PARTS, nobody(alloc), guests) else {
         panic!(&rt; "no office");
     };
     has_answered(&rt, &meeting.closed, 10_000);
@@ -213,13 +214,19 @@ fn guests_come_back_from_an_office_that_does_not_open(rt: HostRuntime) -> Result
     let alloc = rt.alloc();
     let (some, others) = (askers(alloc, 1)?, askers(alloc, 1)?);
     assert!(&rt; some.len() == 2 && others.len() == 2);
-    let terms = Terms { places: 0, ..TERMS };
-    let Err(unmet) = meet_in_parts(&rt, alloc, terms, nobody(alloc), some) else {
+    let terms = Terms {
+        places: 0,
+        ..IN_PARTS
+    };
+    let Err(unmet) = meet(&rt, alloc, terms, nobody(alloc), some) else {
         panic!(&rt; "an office of no places");
     };
     assert!(&rt; unmet.fault == OpenFault::BadPlaces && unmet.tasks.len() == 2);
-    let terms = EndlessTerms { base: 0, ..ENDLESS };
-    let Err(unmet) = meet_unrecorded(&rt, alloc, terms, nobody(alloc), others) else {
+    let terms = Terms {
+        base: 0,
+        ..UNRECORDED
+    };
+    let Err(unmet) = meet(&rt, alloc, terms, nobody(alloc), others) else {
         panic!(&rt; "an office of base 0");
     };
     assert!(&rt; unmet.fault == OpenFault::BadBase && unmet.tasks.len() == 2);

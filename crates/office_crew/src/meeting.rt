@@ -1,30 +1,35 @@
 //! An office is opened, its callers work, and it is closed.
 ghost use Rattle.std.specs.Prelude.{◌≡◌, ◌⊎◌, Err, ◌+◌, ◌≤◌, vec_len, vec_capacity, length, IfOk, IfErr, All};
-ghost use Rattle.market_types.specs.State.{opening};
+ghost use Rattle.market_types.specs.State.{opening_to};
 ghost use Rattle.market_lock.specs.Headline.{IsGivenBy};
 ghost use Rattle.market_lock.specs.Seen.{OfPass, OfPlaced};
-ghost use Rattle.market_lock.specs.Views.{opening_of, chronicle_cut, chronicle_of};
-ghost use Rattle.edit_history.specs.Chronicled.{market_of, opened_chronicle};
+ghost use Rattle.market_lock.specs.Views.{opening_of, chronicle_cut};
+ghost use Rattle.edit_history.specs.Chronicled.{market_of, opened_by};
 ghost use Rattle.edit_history.specs.Places.{placed as seats_placed};
 ghost use Rattle.office_crew.specs.Callers.{who_is, terms_of};
 
 use crate::caller::{Caller, Task};
 use crate::member::{Member, Order, Room, work_all};
+use edit_history::{Keeping, Terms as OfficeTerms};
 use market_lock::{Closed, Office, Pass, Placed};
-use market_types::OpenFault;
+use market_types::{LastNumber, OpenFault};
 use std::alloc::{AllocError, Global};
 use std::marker::Brand;
 use std::sync::Wait;
 use std::sync::ledger::{Blank, Ledger};
 use std::thread::Threads;
 
-/// What an office is opened with, as `Office::open` takes it. It has a seat for each task.
+/// What an office is opened with, as `Office::on_terms` takes it. It has a seat for each task.
 #[derive(Clone, Copy, Debug)]
 pub struct Terms {
     pub base: u32,
     pub hard: u32,
+    /// Where no entries are kept, two more than seats are enough.
     pub places: u32,
     pub levels: u32,
+    pub last: LastNumber,
+    /// Entries that are to be cut out in parts take places until a task cuts them out with its pass, by `Office::cut`.
+    pub keeping: Keeping,
 }
 
 /// What is left when all have met.
@@ -259,22 +264,24 @@ fn opened<
     requires calls { (calls.name ≡ C.name) × (calls.parts ≡ C.parts) × (C.parts ≡ vec_len openers + vec_len tasks) }
     requires workers { (workers.name ≡ W.name) × (workers.parts ≡ W.parts) × (W.parts ≡ vec_len openers + vec_len tasks) }
     requires few { vec_len openers + vec_len tasks ≤ 64 }
-    ensures headline { IfOk result (λ meeting. IsGivenBy (opening terms.base terms.hard (vec_len openers + vec_len tasks) terms.levels) meeting.closed.chronicle) }
-    ensures whole { IfOk result (λ meeting. meeting.closed.chronicle ≡ chronicle_of (terms_of terms (vec_len openers + vec_len tasks)) meeting.closed.chronicle.log) }
+    ensures headline { IfOk result (λ meeting. IsGivenBy (opening_to terms.base terms.hard (vec_len openers + vec_len tasks) terms.levels terms.last) meeting.closed.chronicle) }
+    ensures whole { IfOk result (λ meeting. meeting.closed.chronicle ≡ chronicle_cut (terms_of terms (vec_len openers + vec_len tasks)) meeting.closed.chronicle.log meeting.closed.chronicle.from) }
     ensures calls { IfOk result (λ meeting. meeting.closed.calls ≡ length meeting.closed.chronicle.log) }
     ensures workers { IfOk result (λ meeting. meeting.closed.workers ≡ seats_placed (market_of meeting.closed.chronicle)) }
     ensures tasks { IfOk result (λ meeting. (vec_len meeting.openers ≡ vec_len openers) × (vec_len meeting.tasks ≡ vec_len tasks)) }
-    ensures refused { IfErr result (λ unmet. (unmet.fault ≡ OpenFault.Memory) ⊎ (opened_chronicle terms.base terms.hard (vec_len openers + vec_len tasks) terms.places terms.levels ≡ Err unmet.fault)) }
+    ensures refused { IfErr result (λ unmet. (unmet.fault ≡ OpenFault.Memory) ⊎ (opened_by (terms_of terms (vec_len openers + vec_len tasks)) ≡ Err unmet.fault)) }
     ensures unmet { IfErr result (λ unmet. (unmet.openers ≡ openers) × (unmet.tasks ≡ tasks)) }
 {
-    let Terms {
-        base,
-        hard,
-        places,
-        levels,
-    } = terms;
-    let seats = (openers.len() + tasks.len()) as u8;
-    match Office::<C, W>::open(alloc, base, hard, seats, places, levels, calls, workers) {
+    let terms = OfficeTerms {
+        base: terms.base,
+        hard: terms.hard,
+        seats: (openers.len() + tasks.len()) as u8,
+        places: terms.places,
+        levels: terms.levels,
+        last: terms.last,
+        keeping: terms.keeping,
+    };
+    match Office::<C, W>::on_terms(alloc, terms, calls, workers) {
         Err(fault) => Err(Unmet {
             fault,
             openers,
@@ -288,8 +295,9 @@ fn opened<
 
 /// Opens an office with a seat for each opener and then each task, and lets each work in a thread of its own with its seat's
 /// pass: the openers one after the other; when all have ended, and let others work, the tasks at the same time. It waits for
-/// all of them, and closes the office. Where no thread can be made they work in the calling thread. The faults are those of
-/// `Office::open`, and `Memory`; nobody has worked then, and all come back.
+/// all of them, and closes the office. Where no thread can be made they work in the calling thread. The history that is left is
+/// the whole one; the entries of it that can still be read are those that the office kept. The faults are those of
+/// `Office::on_terms`, and `Memory`; nobody has worked then, and all come back.
 pub fn meet<O: Task + Send, T: Task + Send, R: Threads + Wait + Sync>(
     rt: &R,
     alloc: Global,
@@ -298,12 +306,12 @@ pub fn meet<O: Task + Send, T: Task + Send, R: Threads + Wait + Sync>(
     tasks: Vec<T>,
 ) -> Result<Meeting<O, T>, Unmet<O, T>>
     requires few { vec_len openers + vec_len tasks ≤ 64 }
-    ensures headline { IfOk result (λ meeting. IsGivenBy (opening terms.base terms.hard (vec_len openers + vec_len tasks) terms.levels) meeting.closed.chronicle) }
-    ensures whole { IfOk result (λ meeting. meeting.closed.chronicle ≡ chronicle_of (terms_of terms (vec_len openers + vec_len tasks)) meeting.closed.chronicle.log) }
+    ensures headline { IfOk result (λ meeting. IsGivenBy (opening_to terms.base terms.hard (vec_len openers + vec_len tasks) terms.levels terms.last) meeting.closed.chronicle) }
+    ensures whole { IfOk result (λ meeting. meeting.closed.chronicle ≡ chronicle_cut (terms_of terms (vec_len openers + vec_len tasks)) meeting.closed.chronicle.log meeting.closed.chronicle.from) }
     ensures calls { IfOk result (λ meeting. meeting.closed.calls ≡ length meeting.closed.chronicle.log) }
     ensures workers { IfOk result (λ meeting. meeting.closed.workers ≡ seats_placed (market_of meeting.closed.chronicle)) }
     ensures tasks { IfOk result (λ meeting. (vec_len meeting.openers ≡ vec_len openers) × (vec_len meeting.tasks ≡ vec_len tasks)) }
-    ensures refused { IfErr result (λ unmet. (unmet.fault ≡ OpenFault.Memory) ⊎ (opened_chronicle terms.base terms.hard (vec_len openers + vec_len tasks) terms.places terms.levels ≡ Err unmet.fault)) }
+    ensures refused { IfErr result (λ unmet. (unmet.fault ≡ OpenFault.Memory) ⊎ (opened_by (terms_of terms (vec_len openers + vec_len tasks)) ≡ Err unmet.fault)) }
     ensures unmet { IfErr result (λ unmet. (unmet.openers ≡ openers) × (unmet.tasks ≡ tasks)) }
 {
     let seats = (openers.len() + tasks.len()) as u64;

@@ -2,7 +2,8 @@
 ghost use Rattle.std.specs.Prelude.{◌≡◌, length, vec_len};
 
 use super::*;
-use market_types::{ArenaId, Cmd, Level};
+use edit_history::Keeping;
+use market_types::{ArenaId, Cmd, LastNumber, Level};
 use std::alloc::{AllocError, Global};
 use std::process::Abort;
 use std::rt::HostRuntime;
@@ -14,6 +15,8 @@ const TERMS: Terms = Terms {
     hard: 64,
     places: 100,
     levels: 3,
+    last: LastNumber::USUAL,
+    keeping: Keeping::Everything,
 };
 
 /// A worker comes, is shown, stays and leaves.

@@ -7,20 +7,30 @@ use crate::fault::DemoFault;
 use crate::guest::Guest;
 use crate::note::LEVELS;
 use crate::watch::Watch;
+use edit_history::Keeping;
 use market_lock::Closed;
-use office_crew::{EndlessTerms, meet_unrecorded};
+use market_types::LastNumber;
+use office_crew::{Terms, meet};
 use std::alloc::{AllocError, Global};
 use std::rt::HostRuntime;
 use std::sync::Wait;
 use std::thread::Threads;
 use std::time::Duration;
 
-/// What the office is opened with.
-const TERMS: EndlessTerms = EndlessTerms {
-    base: 8,
-    hard: 64,
-    levels: LEVELS,
-};
+/// The greatest last number: arenas are opened as long as anybody waits.
+const LAST: u32 = 4_294_967_294;
+
+/// What the office is opened with, that keeps no entries.
+fn terms() -> Terms {
+    Terms {
+        base: 8,
+        hard: 64,
+        places: 1_048_576,
+        levels: LEVELS,
+        last: LastNumber::new(LAST).unwrap_or(LastNumber::USUAL),
+        keeping: Keeping::Nothing,
+    }
+}
 
 /// What is left when the time is over.
 #[derive(Drop)]
@@ -75,7 +85,7 @@ pub fn last<R: Threads + Wait + Sync>(
     let watch = Watch::new(system, time)?;
     let guests = guests(system, alloc, &watch, callers)?;
     let nobody = Vec::<Guest<'_>>::new(alloc);
-    let meeting = meet_unrecorded(rt, alloc, TERMS, nobody, guests).map_err(|unmet| unmet.fault)?;
+    let meeting = meet(rt, alloc, terms(), nobody, guests).map_err(|unmet| unmet.fault)?;
     Ok(Lasted {
         time: watch.elapsed(),
         quarter: meeting.tasks.iter().filter_map(|guest| guest.quarter).max(),

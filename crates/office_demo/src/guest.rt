@@ -17,13 +17,8 @@ use std::sync::ledger::Ledger;
 /// It looks at the clock each time that it has called so often.
 const CALLS_A_LOOK: u32 = 1_024;
 
-/// It comes to close its arena once in so many of the calls that ask for no move: so seldom that the numbers of arenas last for
-/// hours.
-const CALLS_A_CLOSE: u32 = 16_384;
-
-/// Arenas with a higher number are not closed. A market gives out 1,048,576 numbers and refuses any further Open: so each guest
-/// has an arena for good before they run out, however long it calls.
-const LAST_CLOSED: u32 = 1_000_000;
+/// It comes to close its arena once in so many of the calls that ask for no move.
+const CALLS_A_CLOSE: u32 = 256;
 
 /// So many workers an arena asks for, or none.
 const WORKERS: i32 = 3;
@@ -63,7 +58,7 @@ impl<'a> Guest<'a> {
         let Some(arena) = self.arena else {
             return Cmd::Open(8, 1, Level::from_index(self.dice.below(3) as usize));
         };
-        if arena.get() <= LAST_CLOSED && self.dice.below(CALLS_A_CLOSE) == 0 {
+        if self.dice.below(CALLS_A_CLOSE) == 0 {
             return Cmd::Close(arena);
         }
         match self.dice.below(8) {

@@ -4,7 +4,9 @@ ghost use Rattle.std.specs.Prelude.{◌≡◌, ◌≤◌, length, vec_len, IfOk}
 use crate::fault::DemoFault;
 use crate::note::LEVELS;
 use crate::visitor::Visitor;
+use edit_history::Keeping;
 use market_lock::Closed;
+use market_types::LastNumber;
 use office_crew::{Meeting, Terms, meet};
 use std::alloc::{AllocError, Global};
 use std::sync::Wait;
@@ -16,6 +18,8 @@ pub const TERMS: Terms = Terms {
     hard: 64,
     places: 1_048_576,
     levels: LEVELS,
+    last: LastNumber::USUAL,
+    keeping: Keeping::Everything,
 };
 
 /// What is left of the callers' work.

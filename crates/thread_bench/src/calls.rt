@@ -4,6 +4,8 @@ ghost use Rattle.std.specs.Prelude.{◌≡◌, ◌≤◌, ◌<◌, vec_len, IfOk
 use crate::crowd::Crowd;
 use crate::fault::BenchFault;
 use crate::repeater::{Repeater, Turn};
+use edit_history::Keeping;
+use market_types::LastNumber;
 use office_crew::{Terms, meet};
 use std::alloc::{AllocError, Global};
 use std::rt::Clock;
@@ -16,6 +18,8 @@ const TERMS: Terms = Terms {
     hard: 65_535,
     places: 1_048_576,
     levels: 3,
+    last: LastNumber::USUAL,
+    keeping: Keeping::Everything,
 };
 
 /// What turn is taken again and again, by how many threads, and with how many arenas.

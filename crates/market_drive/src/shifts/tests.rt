@@ -64,6 +64,8 @@ fn all_leave<Y: Yard + Send + Sync, R: Threads + Wait + Sync + Abort>(
         hard: 64,
         places: PLACES,
         levels: 3,
+        last: LastNumber::USUAL,
+        keeping: Keeping::Everything,
     };
     let (closed, tasks) = match meet(rt, alloc, terms, openers, workers) {
         Ok(meeting) => (Some(meeting.closed), meeting.tasks),

@@ -5,7 +5,7 @@ use Rattle.edit_history.specs.Chronicled.{Chronicled, HasNumbersOf, market_of}
 use Rattle.edit_history.specs.Places.{placed}
 use Rattle.market_desk.specs.Forgetting.{forgotten}
 use Rattle.worker_ledger.specs.Pooled.{Pooled}
-use Rattle.market_lock.specs.declared.view.Terms.{Terms}
+use Rattle.edit_history.specs.declared.terms.Terms.{Terms}
 use Rattle.market_lock.specs.Seen.{OfOffice, Met}
 use Rattle.market_lock.specs.Held.{whos}
 use Rattle.market_lock.proofs.Meeting.{all_who}

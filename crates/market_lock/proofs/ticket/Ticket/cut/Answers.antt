@@ -4,7 +4,7 @@ use Rattle.market_types.specs.History.{IsLegal}
 use Rattle.edit_history.specs.Chronicled.{most_forgotten}
 use Rattle.edit_history.specs.declared.part.Part.{Part}
 use Rattle.edit_history.specs.declared.keeping.Keeping.TheVariants.{InParts}
-use Rattle.market_lock.specs.declared.view.Terms.{Terms}
+use Rattle.edit_history.specs.declared.terms.Terms.{Terms}
 use Rattle.market_lock.specs.Views.{opening_of}
 use Rattle.market_lock.specs.Seen.{OfPass, known_of, pass_of, Looks}
 use Rattle.market_lock.proofs.Calls.{may_cut, cut_by, cut_may_give, cut_ticket_after, cut_after, told_part, told_served}
