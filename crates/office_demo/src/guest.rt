@@ -18,7 +18,7 @@ use std::sync::ledger::Ledger;
 const CALLS_A_LOOK: u32 = 1_024;
 
 /// It comes to close its arena once in so many of the calls that ask for no move.
-const CALLS_A_CLOSE: u32 = 256;
+const CALLS_A_CLOSE: u32 = 2_048;
 
 /// So many workers an arena asks for, or none.
 const WORKERS: i32 = 3;
