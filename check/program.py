@@ -111,7 +111,7 @@ def helps(program):
 
 def refuses_words(program):
     bad = [[], ["fly"], ["run", "--base", "0"], ["run", "--seats", "65"], ["run", "--levels", "9"], ["run", "--hard", "x"], ["replay", "x"],
-           ["run", "--last", "0"], ["explain", "--last", "4294967295"], ["run", "--journal", "--last", "3"],
+           ["run", "--last", "0"], ["explain", "--last", "4294967295"], ["run", "--journal", "--last", "0"],
            ["drive", "--workers", "0"], ["drive", "--workers", "17"], ["drive", "--workers"], ["run", b"\xff"]]
     for words in bad:
         found = ran([program, *words], SCRIPT)
@@ -123,6 +123,8 @@ def does_its_job(program):
     journal = ran([program, "run", "--journal"], SCRIPT).stdout
     due("where the fourth control has no number it is refused", ran([program, "run", "--last", "3"], b"0 control 9\n" * 4).stdout, b"control 1\ncontrol 2\ncontrol 3\nF04 out of numbers\n")
     due("a journal of the usual last number is written", ran([program, "run", "--journal", "--last", "1048576"], SCRIPT).stdout, journal)
+    numbered = ran([program, "run", "--journal", "--last", "3"], b"0 control 9\n" * 4).stdout
+    due("a journal of another last number is legal", ran([program, "replay"], numbered).stdout, b"legal 4\n")
     due("its journal is legal", ran([program, "replay"], journal).stdout, b"legal 3\n")
     for workers in range(1, 17):
         found = ran([program, "drive", "--workers", str(workers), "--progress"], PLAN)

@@ -151,10 +151,7 @@ fn try_script(rt: &HostRuntime, task: ScriptTask, name: &str) -> Result<()> {
     let sink = &mut TestSink::new(Vec::with_capacity(alloc, MOST_WRITTEN)?);
     let (outcome, ending) = match task {
         ScriptTask::Answer => (run_script(alloc, options, source, sink), "out"),
-        ScriptTask::Journal => (
-            run_journal(alloc, base, 64, 4, levels, source, sink),
-            "journal",
-        ),
+        ScriptTask::Journal => (run_journal(alloc, options, source, sink), "journal"),
         ScriptTask::Explain => (explain_script(alloc, options, source, sink), "explained"),
     };
     let file = format!(in alloc; "{name}.{ending}")?;

@@ -60,7 +60,7 @@ impl Engine {
         let mut sink = new_sink(rt, alloc);
         let told = match self {
             Engine::Run => run_script(alloc, MarketOptions::USUAL, &mut source, &mut sink),
-            Engine::Journal => run_journal(alloc, 8, 64, 4, 3, &mut source, &mut sink),
+            Engine::Journal => run_journal(alloc, MarketOptions::USUAL, &mut source, &mut sink),
             Engine::Explain => explain_script(alloc, MarketOptions::USUAL, &mut source, &mut sink),
         };
         (told, sink)

@@ -42,30 +42,14 @@ fn finish<T: Drop>(rt: &HostRuntime, outcome: Result<T, RunFault>, status: u8) -
     }
 }
 
-/// What is said where a journal is asked for of a market that it cannot tell.
-const NO_LAST_IN_JOURNALS: &str = "\
-error: '--journal' cannot be used with '--last <N>' but for the usual 1048576: no journal tells it
-
-For more information, try '--help'.";
-
 /// Writes what was chosen of the script on standard input.
 fn work_script(rt: &HostRuntime, task: ScriptTask, options: MarketOptions) -> u8 {
-    if task == ScriptTask::Journal && options.last != MarketOptions::USUAL.last {
-        return fail(rt, NO_LAST_IN_JOURNALS, BAD_COMMAND_LINE);
-    }
-    let MarketOptions {
-        base,
-        hard,
-        seats,
-        levels,
-        last: _,
-    } = options;
     let alloc = rt.alloc();
     let input = &mut ReadSource::new(rt.stdin());
     let output = &mut WriteSink::new(rt.stdout());
     let outcome = match task {
         ScriptTask::Answer => run_script(alloc, options, input, output),
-        ScriptTask::Journal => run_journal(alloc, base, hard, seats, levels, input, output),
+        ScriptTask::Journal => run_journal(alloc, options, input, output),
         ScriptTask::Explain => explain_script(alloc, options, input, output),
     };
     let status = status_of_run(&outcome);

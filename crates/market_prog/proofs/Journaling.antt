@@ -6,14 +6,16 @@ use Rattle.byte_devices.specs.Devices.{WritesFront}
 use Rattle.byte_devices.specs.Output.{IsOutFault}
 use Rattle.byte_devices.specs.declared.out_fault.OutFault.{OutFault}
 use Rattle.byte_devices.specs.declared.out_fault.OutFault.TheVariants.{Write as WriteFailed, Memory as OutMemory}
-use Rattle.edit_history.specs.Chronicled.{Chronicled, opened_chronicle}
+use Rattle.edit_history.specs.Chronicled.{Chronicled, opened_by}
+use Rattle.edit_history.specs.declared.keeping.Keeping.TheVariants.{Everything}
+use Rattle.edit_history.specs.declared.terms.Terms.{Terms}
 use Rattle.edit_history.specs.declared.fault.CallFault.{CallFault}
 use Rattle.edit_history.specs.declared.fault.CallFault.TheVariants.{Memory as CallMemory, HistoryFull as NoPlace}
 use Rattle.journal_replay.specs.Journal.{journal_text}
 use Rattle.market_types.specs.declared.reply.OpenFault.{OpenFault}
 use Rattle.market_types.specs.declared.reply.OpenFault.TheVariants.{BadBase, BadHard, BadSeats, BadLevels}
-use Rattle.market_types.specs.Opening.{opened_market, MemoryAside}
-use Rattle.market_types.specs.State.{State, opening}
+use Rattle.market_types.specs.Opening.{opened_market_to, MemoryAside}
+use Rattle.market_types.specs.State.{State, opening_to}
 use Rattle.market_types.specs.Script.{told}
 use Rattle.line_engine.specs.Lines.{Line, lines_of}
 use Rattle.line_engine.specs.Rule.{replies_to}
@@ -150,16 +152,21 @@ chronicle_on (Ok s) = Ok (unwritten s)
 chronicle_on (Err fault) = Err fault
 
 -- by what is out of range, how a market is opened
-abbrev opened_by : Bool → Bool → Bool → Bool → State → Result State OpenFault
-opened_by a b c d s = cond a (Err BadBase) (cond b (Err BadHard) (cond c (Err BadSeats) (cond d (Err BadLevels) (Ok s))))
+abbrev opened_in_order : Bool → Bool → Bool → Bool → State → Result State OpenFault
+opened_in_order a b c d s = cond a (Err BadBase) (cond b (Err BadHard) (cond c (Err BadSeats) (cond d (Err BadLevels) (Ok s))))
 
-opened-both : (base hard seats levels : ℕ) → opened_chronicle base hard seats 1048576 levels ≡ chronicle_on (opened_market base hard seats levels)
-opened-both base hard seats levels = go (base == 0 || nat_lt 65536 base) (hard == 0 || nat_lt 65535 hard) (seats == 0 || nat_lt 64 seats) (levels == 0 || nat_lt 8 levels)
+-- the terms of a script's chronicle
+abbrev pub script_terms : ℕ → ℕ → ℕ → ℕ → ℕ → Terms
+script_terms base hard seats levels last =
+    record { base = base; hard = hard; seats = seats; places = 1048576; levels = levels; last = last; keeping = Everything }
+
+opened-both : (base hard seats levels last : ℕ) → opened_by (script_terms base hard seats levels last) ≡ chronicle_on (opened_market_to base hard seats levels last)
+opened-both base hard seats levels last = go (base == 0 || nat_lt 65536 base) (hard == 0 || nat_lt 65535 hard) (seats == 0 || nat_lt 64 seats) (levels == 0 || nat_lt 8 levels)
   where
     s : State
-    s = opening base hard seats levels
+    s = opening_to base hard seats levels last
 
-    go : (a b c d : Bool) → cond a (Err BadBase) (cond b (Err BadHard) (cond c (Err BadSeats) (cond d (Err BadLevels) (Ok (unwritten s))))) ≡ chronicle_on (opened_by a b c d s)
+    go : (a b c d : Bool) → cond a (Err BadBase) (cond b (Err BadHard) (cond c (Err BadSeats) (cond d (Err BadLevels) (Ok (unwritten s))))) ≡ chronicle_on (opened_in_order a b c d s)
     go true b c d = refl
     go false true c d = refl
     go false false true d = refl
@@ -172,11 +179,12 @@ due-start (Ok s) r (inr e) = inr (e.0, ap start_of e.1)
 due-start (Err fault) r (inl e) = inl (ap start_of e)
 due-start (Err fault) r (inr e) = inr (e.0, ap start_of e.1)
 
-pub opened-exact : (base hard seats levels : ℕ) (r : Result Chronicled OpenFault) → MemoryAside (opened_chronicle base hard seats 1048576 levels) r → MemoryAside (opened_market base hard seats levels) (start_of r)
-opened-exact base hard seats levels r h =
-    due-start (opened_market base hard seats levels) r (subst (λ (due : Result Chronicled OpenFault). MemoryAside due r) (opened-both base hard seats levels) h)
+pub opened-exact : (base hard seats levels last : ℕ) (r : Result Chronicled OpenFault) → MemoryAside (opened_by (script_terms base hard seats levels last)) r
+    → MemoryAside (opened_market_to base hard seats levels last) (start_of r)
+opened-exact base hard seats levels last r h =
+    due-start (opened_market_to base hard seats levels last) r (subst (λ (due : Result Chronicled OpenFault). MemoryAside due r) (opened-both base hard seats levels last) h)
 
-opened-ok : (a b c d : Bool) (s : State) (r : Result Chronicled OpenFault) → MemoryAside (chronicle_on (opened_by a b c d s)) r → IfOk r (λ x. x ≡ unwritten s)
+opened-ok : (a b c d : Bool) (s : State) (r : Result Chronicled OpenFault) → MemoryAside (chronicle_on (opened_in_order a b c d s)) r → IfOk r (λ x. x ≡ unwritten s)
 opened-ok a b c d s (Err fault) h = tt
 opened-ok true b c d s (Ok x) (inl e) = absurd (cc)
 opened-ok true b c d s (Ok x) (inr e) = absurd (true≢false (sym e.0))
@@ -189,7 +197,8 @@ opened-ok false false false true s (Ok x) (inr e) = absurd (true≢false (sym e.
 opened-ok false false false false s (Ok x) (inl e) = cc
 opened-ok false false false false s (Ok x) (inr e) = absurd (let same = e.1 in cc)
 
-pub opened-is : (base hard seats levels : ℕ) (r : Result Chronicled OpenFault) → MemoryAside (opened_chronicle base hard seats 1048576 levels) r → IfOk r (λ x. x ≡ unwritten (opening base hard seats levels))
-opened-is base hard seats levels r h =
-    opened-ok (base == 0 || nat_lt 65536 base) (hard == 0 || nat_lt 65535 hard) (seats == 0 || nat_lt 64 seats) (levels == 0 || nat_lt 8 levels) (opening base hard seats levels) r
-    (subst (λ (due : Result Chronicled OpenFault). MemoryAside due r) (opened-both base hard seats levels) h)
+pub opened-is : (base hard seats levels last : ℕ) (r : Result Chronicled OpenFault) → MemoryAside (opened_by (script_terms base hard seats levels last)) r
+    → IfOk r (λ x. x ≡ unwritten (opening_to base hard seats levels last))
+opened-is base hard seats levels last r h =
+    opened-ok (base == 0 || nat_lt 65536 base) (hard == 0 || nat_lt 65535 hard) (seats == 0 || nat_lt 64 seats) (levels == 0 || nat_lt 8 levels) (opening_to base hard seats levels last) r
+    (subst (λ (due : Result Chronicled OpenFault). MemoryAside due r) (opened-both base hard seats levels last) h)

@@ -3,7 +3,7 @@
 use crate::endless::{LineCount, Repeated};
 use crate::work::{Work, new_sink};
 use byte_devices::{Refusal, TestSource};
-use market_prog::{RunFault, ScriptTask, run_journal, status_of_run};
+use market_prog::{MarketOptions, RunFault, ScriptTask, run_journal, status_of_run};
 use market_types::OpenFault;
 use std::rt::HostRuntime;
 
@@ -84,7 +84,11 @@ fn a_failing_sink_has_the_first_bytes(rt: HostRuntime) {
 fn no_journal_is_written_of_a_market_that_cannot_be_opened(rt: HostRuntime) {
     let mut source = TestSource::new(THREE);
     let mut sink = new_sink(&rt, rt.alloc());
-    let told = run_journal(rt.alloc(), 0, 64, 4, 3, &mut source, &mut sink);
+    let options = MarketOptions {
+        base: 0,
+        ..MarketOptions::USUAL
+    };
+    let told = run_journal(rt.alloc(), options, &mut source, &mut sink);
     assert!(&rt; told == Err(RunFault::Open(OpenFault::BadBase)));
     assert!(&rt; sink.taken().is_empty());
 }
@@ -93,7 +97,7 @@ fn no_journal_is_written_of_a_market_that_cannot_be_opened(rt: HostRuntime) {
 fn a_history_with_a_call_too_many_is_full(rt: HostRuntime) {
     let mut source = Repeated::new(b"0 limit\n", b"0 limit\n", 1_048_576);
     let mut sink = new_sink(&rt, rt.alloc());
-    let told = run_journal(rt.alloc(), 8, 64, 4, 3, &mut source, &mut sink);
+    let told = run_journal(rt.alloc(), MarketOptions::USUAL, &mut source, &mut sink);
     assert!(&rt; told == Err(RunFault::HistoryFull));
     assert!(&rt; status_of_run(&told) == 3);
     assert!(&rt; sink.taken().is_empty());
@@ -103,7 +107,7 @@ fn a_history_with_a_call_too_many_is_full(rt: HostRuntime) {
 fn a_history_has_1_048_576_calls_at_most(rt: HostRuntime) {
     let mut source = Repeated::new(b"0 limit\n", b"0 limit\n", 1_048_575);
     let mut sink = LineCount::new();
-    let told = run_journal(rt.alloc(), 8, 64, 4, 3, &mut source, &mut sink);
+    let told = run_journal(rt.alloc(), MarketOptions::USUAL, &mut source, &mut sink);
     assert!(&rt; told == Ok(0));
     assert!(&rt; sink.lines() == 1_048_577);
 }

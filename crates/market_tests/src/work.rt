@@ -29,7 +29,7 @@ pub(crate) fn work_script<R: Source, W: Sink>(
 {
     match task {
         ScriptTask::Answer => run_script(alloc, MarketOptions::USUAL, source, sink),
-        ScriptTask::Journal => run_journal(alloc, 8, 64, 4, 3, source, sink),
+        ScriptTask::Journal => run_journal(alloc, MarketOptions::USUAL, source, sink),
         ScriptTask::Explain => explain_script(alloc, MarketOptions::USUAL, source, sink),
     }
 }
