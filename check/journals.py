@@ -83,7 +83,7 @@ def with_a_key_doubled(rng, line):
 def with_a_key_more_or_less(rng, line):
     members = members_of(rng, line)
     if rng.random() < 0.5:
-        key = rng.choice(["more", "", "Seat", "seat ", "levels", "level", "journal", "é"])
+        key = rng.choice(["more", "", "Seat", "seat ", "levels", "level", "journal", "last", "é"])
         members.insert(rng.randint(0, len(members)), (key, a_value(rng)))
     else:
         del members[rng.randrange(len(members))]
@@ -112,19 +112,24 @@ ANY_LINE = [laid_out_anew, laid_out_anew, with_a_value, with_a_key_doubled, with
 
 
 def with_another_number(rng, line):
-    key, most = rng.choice([("base", 65536), ("hard", 65535), ("journal", 2), ("levels", 8), ("seats", 64)])
+    key, most = rng.choice([("base", 65536), ("hard", 65535), ("journal", 3), ("last", 4294967294), ("levels", 8), ("seats", 64)])
     return having(rng, line, key, str(rng.choice([0, 0, 1, 2, 3, most, most + 1, most + 1, 2**64 - 1])))
 
 
-def of_version_1(rng, line):
+def of_another_version(rng, line):
     members = json_of(line)
-    members["journal"] = rng.choice([1, 1, 1, 2, 3, 0])
-    if rng.random() < 0.8:
+    version = rng.choice([1, 1, 1, 2, 2, 3, 3, 0, 4])
+    members["journal"] = version
+    if rng.random() < (0.8 if version == 1 else 0.1):
         del members["levels"]
+    if rng.random() < (0.8 if version < 3 else 0.1):
+        members.pop("last", None)
+    elif rng.random() < 0.8:
+        members["last"] = rng.choice([1, 2, 3, 10, 1048576, 4294967294, 4294967295, 0])
     return laid_out(rng, [(key, str(value)) for key, value in members.items()], 0.1)
 
 
-HEADER = [with_another_number, with_another_number, of_version_1]
+HEADER = [with_another_number, with_another_number, of_another_version]
 
 
 # ---- changes of an entry
@@ -207,7 +212,6 @@ def main():
     for k in range(count):
         rng = random.Random(f"{seed}/{k}")
         opening, script = a_script(rng)
-        opening = opening[:4]  # no journal tells the last number: it is the usual one
         market = Market(*opening)
         called = list(calls(market, script))
         lines = journal(market, called)

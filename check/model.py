@@ -7,13 +7,14 @@ calls; or it reads a journal and writes what is found of it.
     check/model.py --replay < journal
 """
 import argparse
+import math
 import sys
 
 from json_reader import NotJson, json_of
 
 USUAL_LAST = 1_048_576
 MOST_WANTED, LEAST_WANTED = 2**31 - 1, -(2**31)
-MOST_ENTRIES, LONGEST_LINE = 1_048_576, 65_536
+MOST_ENTRIES, LONGEST_LINE, MOST_LAST = 1_048_576, 65_536, 4_294_967_294
 NAMES = {"high": 1, "normal": 2, "low": 3}
 
 
@@ -336,7 +337,8 @@ def replies(called):
 
 def journal(market, called):
     """The journal of the calls from the opening of this market on, line by line."""
-    lines = [f'{{"base":{market.base},"hard":{market.hard},"journal":2,"levels":{market.levels},"seats":{len(market.seats)}}}']
+    version = '2' if market.last == USUAL_LAST else f'3,"last":{market.last}'
+    lines = [f'{{"base":{market.base},"hard":{market.hard},"journal":{version},"levels":{market.levels},"seats":{len(market.seats)}}}']
     for call in called:
         if call is not None:
             seat, text, reply = call
@@ -352,14 +354,16 @@ def whole(value, key, least, most):
 
 
 def opened(header):
-    """The market that a header opens."""
+    """The market that a header opens, and how many entries may follow it."""
     if type(header) is not dict:
         raise NoRecord
-    version = whole(header, "journal", 1, 2)
-    if set(header) != {"base", "hard", "journal", "seats"} | ({"levels"} if version == 2 else set()):
+    version = whole(header, "journal", 1, 3)
+    if set(header) != {"base", "hard", "journal", "seats"} | {1: set(), 2: {"levels"}, 3: {"levels", "last"}}[version]:
         raise NoRecord
-    levels = whole(header, "levels", 1, 8) if version == 2 else 3
-    return Market(whole(header, "base", 1, 65536), whole(header, "hard", 1, 65535), whole(header, "seats", 1, 64), levels)
+    levels = whole(header, "levels", 1, 8) if version > 1 else 3
+    last = whole(header, "last", 1, MOST_LAST) if version > 2 else USUAL_LAST
+    market = Market(whole(header, "base", 1, 65536), whole(header, "hard", 1, 65535), whole(header, "seats", 1, 64), levels, last)
+    return market, math.inf if version > 2 else MOST_ENTRIES
 
 
 def recorded(entry, market):
@@ -385,7 +389,7 @@ def verdict(text):
     """What is found of a journal, told by its first faulty line."""
     *lines, left = text.split(b"\n")
     try:
-        market = opened(value_of(lines[0]))
+        market, most_entries = opened(value_of(lines[0]))
     except (IndexError, NotJson, NoRecord):
         return "J1 bad header"
     for place, line in enumerate(lines[1:], 2):
@@ -394,7 +398,7 @@ def verdict(text):
         except NotJson:
             return f"J2 bad json line {place}"
         try:
-            if place - 2 >= MOST_ENTRIES:
+            if place - 2 >= most_entries:
                 raise NoRecord
             seat, name, arguments, reply = recorded(entry, market)
         except NoRecord:

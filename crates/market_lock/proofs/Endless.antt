@@ -1,11 +1,11 @@
 -- An office that keeps no entries has places for each call.
-use Rattle.std.proofs.Common.{◌≡◌, ℕ, ◌+◌, ◌≤◌, min, length, Result, Ok, Err, ap, sym, ◌∙◌, subst, arith}
+use Rattle.std.proofs.Common.{◌≡◌, ℕ, ◌+◌, ◌≤◌, length, Result, Ok, Err, ap, sym, ◌∙◌, subst, arith}
 use Rattle.std.proofs.Math.Nat.{min-eq_left}
 use Rattle.std.proofs.lemmas.List.{length-replicate}
 use Rattle.std.specs.Prelude.{IfOk, None}
 use Rattle.market_types.specs.declared.command.Cmd.{Cmd}
 use Rattle.market_types.specs.declared.reply.OpenFault.{OpenFault}
-use Rattle.edit_history.specs.Chronicled.{Chronicled, most_forgotten}
+use Rattle.edit_history.specs.Chronicled.{Chronicled}
 use Rattle.edit_history.specs.Places.{LacksPlaces}
 use Rattle.edit_history.specs.declared.keeping.Keeping.{Keeping}
 use Rattle.edit_history.specs.declared.keeping.Keeping.TheVariants.{Nothing}

@@ -1,7 +1,4 @@
-use Rattle.std.proofs.Common.{rules, ◌≡◌, ◌+◌, refl, arith}
-use Rattle.edit_history.specs.declared.keeping.Keeping.TheVariants.{Nothing}
-use Rattle.edit_history.specs.declared.terms.Terms.{Terms}
-use Rattle.market_lock.proofs.Endless.{endless-by, endless-of}
+use Rattle.std.proofs.Common.{rules, ◌≡◌, refl, arith}
 use Rattle.market_lock.proofs.office.Office.open_unrecorded.Goals as goal
 
 pub returns-clause-endless : goal.returns-clause-endless
