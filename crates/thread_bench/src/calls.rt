@@ -22,6 +22,9 @@ const TERMS: Terms = Terms {
     keeping: Keeping::Everything,
 };
 
+/// Entries that are to be cut out are, each time that all threads together have called some so often.
+const CALLS_A_CUT: u32 = 100_000;
+
 /// What turn is taken again and again, by how many threads, and with how many arenas.
 #[derive(Clone, Copy, Debug, PartialEq, Eq)]
 pub struct Scene {
@@ -42,6 +45,10 @@ fn repeaters(alloc: Global, scene: Scene, threads: u8) -> Result<Vec<Repeater>, 
             times: scene.turn.times() / u32::from(threads),
             opens: seat == 0,
             arenas: scene.arenas,
+            cuts: match (scene.turn, seat) {
+                (Turn::RequestInParts, 0) => CALLS_A_CUT.checked_div(u32::from(threads)),
+                _ => None,
+            },
         });
     }
     Ok(repeaters)
@@ -56,7 +63,11 @@ impl Scene {
     ) -> Result<u64, BenchFault> {
         let repeaters = repeaters(alloc, self, self.crowd.count())?;
         let nobody = Vec::<Repeater>::new(alloc);
-        let meeting = meet(rt, alloc, TERMS, nobody, repeaters).map_err(|unmet| unmet.fault)?;
+        let terms = Terms {
+            keeping: self.turn.keeping(),
+            ..TERMS
+        };
+        let meeting = meet(rt, alloc, terms, nobody, repeaters).map_err(|unmet| unmet.fault)?;
         Ok(meeting.closed.calls)
     }
 

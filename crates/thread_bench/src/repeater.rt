@@ -4,18 +4,26 @@ ghost use Rattle.market_types.specs.Commands.{moves_seat};
 ghost use Rattle.market_lock.specs.Seen.{IsSamePass};
 ghost use Rattle.office_crew.specs.Callers.{who_is};
 
+use edit_history::Keeping;
 use market_lock::{Joined, Office, Pass, Placed, Stayed};
-use market_types::{ArenaId, Cmd, Level};
+use market_types::{ArenaId, Cmd, Entry, Level};
 use office_crew::{Asked, Caller, Task, ask};
 use std::alloc::Global;
 use std::sync::Wait;
 use std::sync::ledger::Ledger;
+
+/// How many seats an office has at most: a vector that entries are cut into has room for each.
+const MOST_SEATS: usize = 64;
 
 /// What a turn is.
 #[derive(Clone, Copy, Debug, PartialEq, Eq)]
 pub enum Turn {
     /// A Request, by one worker more and then by one less.
     Request,
+    /// The same, and the entries are cut out after some 100,000 calls each time.
+    RequestInParts,
+    /// The same, and no entry is kept.
+    RequestUnrecorded,
     /// A Show.
     Show,
     /// A Join, a Stay and a Leave.
@@ -24,12 +32,20 @@ pub enum Turn {
 
 impl Turn {
     /// Every turn, as the table has them.
-    pub const ALL: [Turn; 3] = [Turn::Request, Turn::Show, Turn::Visit];
+    pub const ALL: [Turn; 5] = [
+        Turn::Request,
+        Turn::RequestInParts,
+        Turn::RequestUnrecorded,
+        Turn::Show,
+        Turn::Visit,
+    ];
 
     /// What the table calls it.
     pub fn name(self) -> &'static str {
         match self {
             Turn::Request => "request",
+            Turn::RequestInParts => "request, in parts",
+            Turn::RequestUnrecorded => "request, no record",
             Turn::Show => "show",
             Turn::Visit => "join, stay, leave",
         }
@@ -38,8 +54,17 @@ impl Turn {
     /// How many turns all callers take together.
     pub fn times(self) -> u32 {
         match self {
-            Turn::Request | Turn::Show => 240_000,
             Turn::Visit => 80_000,
+            _ => 240_000,
+        }
+    }
+
+    /// Which entries its office keeps.
+    pub fn keeping(self) -> Keeping {
+        match self {
+            Turn::RequestInParts => Keeping::InParts,
+            Turn::RequestUnrecorded => Keeping::Nothing,
+            _ => Keeping::Everything,
         }
     }
 }
@@ -52,6 +77,8 @@ pub struct Repeater {
     pub opens: bool,
     /// How many arenas there are, no fewer than 1.
     pub arenas: u32,
+    /// It cuts entries out each time that it has called so often, if it does.
+    pub cuts: Option<u32>,
 }
 
 impl Repeater {
@@ -70,9 +97,9 @@ impl Repeater {
     {
         let arena = self.arena(index);
         match self.turn {
-            Turn::Request if index % 2 == 0 => Cmd::Request(arena, 1, 0),
-            Turn::Request => Cmd::Request(arena, -1, 0),
             Turn::Show | Turn::Visit => Cmd::Show(arena),
+            _ if index % 2 == 0 => Cmd::Request(arena, 1, 0),
+            _ => Cmd::Request(arena, -1, 0),
         }
     }
 
@@ -134,7 +161,32 @@ fn visit<C: Ledger, W: Ledger, R: Wait>(
     }
 }
 
+/// Cuts the entries out. What comes back is room for the next ones.
+fn cut_out<C: Ledger, W: Ledger, R: Wait>(
+    rt: &R,
+    alloc: Global,
+    office: &Office<C, W>,
+    pass: &mut Pass<C, W>,
+    spare: Vec<Entry>,
+) -> Vec<Entry>
+    requires office { pass.old.table ≡ office.now.table }
+    ensures same { IsSamePass pass.old pass.new }
+{
+    match office.cut(rt, pass, spare) {
+        Some(part) => part.entries,
+        None => Vec::new(alloc),
+    }
+}
+
 impl Repeater {
+    /// Whether it cuts entries out after this turn.
+    fn cuts_after(&self, index: u32) -> bool {
+        match self.cuts {
+            Some(turns) => index.checked_rem(turns) == turns.checked_sub(1),
+            None => false,
+        }
+    }
+
     /// Takes all turns that move no seat.
     fn call_all<C: Ledger, W: Ledger, R: Wait>(
         &self,
@@ -147,8 +199,12 @@ impl Repeater {
         ensures same { IsSamePass pass result }
     {
         let mut pass = pass;
+        let mut spare = Vec::with_capacity(alloc, MOST_SEATS).unwrap_or(Vec::new(alloc));
         for index in 0..self.times {
             drop(office.call(rt, alloc, &mut pass, self.cmd(index)));
+            if self.cuts_after(index) {
+                spare = cut_out(rt, alloc, office, &mut pass, spare);
+            }
         }
         pass
     }
