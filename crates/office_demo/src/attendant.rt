@@ -1,0 +1,36 @@
+//! Who is at an office that lasts.
+use crate::guest::Guest;
+use crate::writer::Writer;
+use market_lock::{Office, Pass, Placed};
+use office_crew::{Caller, Task};
+use std::alloc::Global;
+use std::sync::Wait;
+use std::sync::ledger::Ledger;
+
+/// A caller of an office that lasts.
+#[derive(Drop)]
+pub enum Attendant<'a> {
+    /// It calls as it likes.
+    Guest(Guest<'a>),
+    /// It writes down what the guests do.
+    Writer(Writer<'a>),
+}
+
+impl Task for Attendant<'_> {
+    fn work<C: Ledger, W: Ledger, R: Wait>(
+        &mut self,
+        rt: &R,
+        alloc: Global,
+        office: &Office<C, W>,
+        caller: Caller<Pass<C, W>, Placed<C, W>>,
+    ) -> Caller<Pass<C, W>, Placed<C, W>> {
+        match self {
+            Attendant::Guest(guest) => guest.work(rt, alloc, office, caller),
+            Attendant::Writer(writer) => writer.work(rt, alloc, office, caller),
+        }
+    }
+
+    fn lets_others_work(&self) -> bool {
+        true
+    }
+}
