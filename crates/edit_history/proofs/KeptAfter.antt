@@ -6,7 +6,7 @@ use Rattle.std.specs.List.{All}
 use Rattle.market_types.specs.declared.command.Cmd.{Cmd}
 use Rattle.market_types.specs.declared.reply.Entry.{Entry}
 use Rattle.market_types.specs.declared.reply.Reply.{Reply}
-use Rattle.market_types.specs.State.{State, opening}
+use Rattle.market_types.specs.State.{State, opening_to}
 use Rattle.market_types.specs.Step.{place_of, step}
 use Rattle.market_types.specs.History.{IsLegal, calls_of, state_after}
 use Rattle.market_types.specs.Reading.{Fits}
@@ -17,23 +17,25 @@ use Rattle.edit_history.proofs.Longer.{state-longer, legal-longer}
 use Rattle.market_core.proofs.Moved.{steps}
 use Rattle.edit_history.proofs.Placed.{same-seats-after, nobody, one-of, placed-after, room, takes-some}
 
-pub opening-is : (base hard seats levels : ℕ) → (1 ≤ base) × (base ≤ 65536) → (1 ≤ hard) × (hard ≤ 65535) → (1 ≤ seats) × (seats ≤ 64) → (1 ≤ levels) × (levels ≤ 8) → IsOpening (opening base hard seats levels)
-opening-is base hard seats levels b h s l =
-    let long : length (opening base hard seats levels).seats ≡ seats = length-replicate seats None in
+pub opening-is : (base hard seats levels last : ℕ) → (1 ≤ base) × (base ≤ 65536) → (1 ≤ hard) × (hard ≤ 65535) → (1 ≤ seats) × (seats ≤ 64) → (1 ≤ levels) × (levels ≤ 8)
+    → (1 ≤ last) × (last ≤ 4294967294) → IsOpening (opening_to base hard seats levels last)
+opening-is base hard seats levels last b h s l n =
+    let long : length (opening_to base hard seats levels last).seats ≡ seats = length-replicate seats None in
     record {
-      same = ap (λ n. opening base hard n levels) (sym long);
+      same = ap (λ n. opening_to base hard n levels last) (sym long);
       base = b;
       hard = h;
       seats = (omega arith, omega arith);
       levels = l;
+      last = n;
     }
 
-pub kept-new : (base hard seats levels places capacity : ℕ) (past recent : List Entry) → IsOpening (opening base hard seats levels) → past ≡ [] → recent ≡ [] → 1 ≤ places → places ≤ 1048576
-    → IsKept (opening base hard seats levels) (opening base hard seats levels) past recent 0 places capacity
-kept-new base hard seats levels places capacity past recent opened none_past none some few =
-    subst (λ (z : List Entry × List Entry). IsKept (opening base hard seats levels) (opening base hard seats levels) z.0 z.1 0 places capacity) (λ i. (sym none_past i, sym none i)) (
-    let zero_placed : placed (opening base hard seats levels) ≡ 0 = nobody seats in
-    record { opened = opened; legal = refl; calls = All-nil (IsCallOf (length (opening base hard seats levels).seats)); market_is = refl; from_is = refl; room = omega arith; memory = omega arith; few = few; countable = omega arith }
+pub kept-new : (base hard seats levels last places capacity : ℕ) (past recent : List Entry) → IsOpening (opening_to base hard seats levels last) → past ≡ [] → recent ≡ [] → 1 ≤ places → places ≤ 1048576
+    → IsKept (opening_to base hard seats levels last) (opening_to base hard seats levels last) past recent 0 places capacity
+kept-new base hard seats levels last places capacity past recent opened none_past none some few =
+    subst (λ (z : List Entry × List Entry). IsKept (opening_to base hard seats levels last) (opening_to base hard seats levels last) z.0 z.1 0 places capacity) (λ i. (sym none_past i, sym none i)) (
+    let zero_placed : placed (opening_to base hard seats levels last) ≡ 0 = nobody seats in
+    record { opened = opened; legal = refl; calls = All-nil (IsCallOf (length (opening_to base hard seats levels last).seats)); market_is = refl; from_is = refl; room = omega arith; memory = omega arith; few = few; countable = omega arith }
     )
 
 module _ (start market : State) (past recent : List Entry) (from places capacity : ℕ) (k : IsKept start market past recent from places capacity) where

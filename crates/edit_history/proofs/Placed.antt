@@ -9,7 +9,7 @@ use Rattle.market_types.specs.declared.command.Cmd.{Cmd}
 use Rattle.market_types.specs.declared.command.Cmd.TheVariants.{Open, Close, Priority, Resize, Request, Control, Uncontrol, Join, Stay, Leave, Show, Lists, Limit}
 use Rattle.market_types.specs.declared.reply.Entry.{Entry}
 use Rattle.market_types.specs.declared.reply.Reply.{Reply}
-use Rattle.market_types.specs.State.{State, opening}
+use Rattle.market_types.specs.State.{State, opening_to}
 use Rattle.market_types.specs.Step.{place_of, step}
 use Rattle.market_types.specs.History.{IsLegal, calls_of, state_after, replies_to, of_seat, place_after, place_in}
 use Rattle.edit_history.specs.Chronicled.{Chronicled, HasNumbersOf, market_of}
@@ -91,11 +91,11 @@ place-is s (e ∷ es) seat legal small =
           ∙ ap (λ (b : Bool). fold by_reply (place_of s seat) (cond b (e ∷ of_seat seat es) (of_seat seat es))) (sym (ne_eqb e.call.seat seat apart))
     ]
 
-pub place-by-own : (base hard seats levels seat : ℕ) (h : List Entry) → IsLegal (opening base hard seats levels) h → seat < seats
-    → place_of (state_after (opening base hard seats levels) (calls_of h)) seat ≡ place_in seat h
-place-by-own base hard seats levels seat h legal small =
-    let long : length (opening base hard seats levels).seats ≡ seats = length-replicate seats None in
-    place-is (opening base hard seats levels) h seat legal (omega arith)
+pub place-by-own : (base hard seats levels last seat : ℕ) (h : List Entry) → IsLegal (opening_to base hard seats levels last) h → seat < seats
+    → place_of (state_after (opening_to base hard seats levels last) (calls_of h)) seat ≡ place_in seat h
+place-by-own base hard seats levels last seat h legal small =
+    let long : length (opening_to base hard seats levels last).seats ≡ seats = length-replicate seats None in
+    place-is (opening_to base hard seats levels last) h seat legal (omega arith)
     ∙ ap (λ p. fold by_reply p (of_seat seat h)) (none-at seats seat)
 
 -- ---- how many are placed

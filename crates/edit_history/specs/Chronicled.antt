@@ -6,8 +6,9 @@ use Rattle.market_types.specs.declared.reply.Reply.{Reply}
 use Rattle.market_types.specs.declared.reply.OpenFault.{OpenFault}
 use Rattle.market_types.specs.declared.reply.OpenFault.TheVariants.{BadBase, BadHard, BadSeats, BadPlaces, BadLevels}
 use Rattle.edit_history.specs.declared.keeping.Keeping.{Keeping}
+use Rattle.edit_history.specs.declared.terms.Terms.{Terms}
 use Rattle.edit_history.specs.declared.keeping.Keeping.TheVariants.{Everything, InParts, Nothing}
-use Rattle.market_types.specs.State.{State, opening}
+use Rattle.market_types.specs.State.{State, opening_to, usual_last}
 use Rattle.market_types.specs.Reading.{Fits}
 use Rattle.market_types.specs.History.{calls_of, state_after}
 
@@ -32,35 +33,44 @@ abbrev pub entry : ℕ → Cmd → Reply → Entry
 entry seat cmd reply = record { call = record { seat = seat; cmd = cmd }; reply = reply }
 
 -- a chronicle that nothing has happened to
-abbrev pub begun : ℕ → ℕ → ℕ → ℕ → ℕ → Chronicled
-begun base hard seats places levels =
-    record { start = opening base hard seats levels; log = []; places = places; from = 0; keeping = Everything }
+abbrev pub begun : Terms → Chronicled
+begun t =
+    record { start = opening_to t.base t.hard t.seats t.levels t.last; log = []; places = t.places; from = 0; keeping = t.keeping }
 
--- a new chronicle, or the first of its numbers that is out of range (own)
+-- a new chronicle, or the first of its numbers that is out of range; the last number is never (own)
+abbrev pub opened_by : Terms → Result Chronicled OpenFault
+opened_by t =
+    if t.base == 0 || nat_lt 65536 t.base then Err BadBase
+    else if t.hard == 0 || nat_lt 65535 t.hard then Err BadHard
+    else if t.seats == 0 || nat_lt 64 t.seats then Err BadSeats
+    else if t.places == 0 || nat_lt 1048576 t.places then Err BadPlaces
+    else if t.levels == 0 || nat_lt 8 t.levels then Err BadLevels
+    else Ok (begun t)
+
+-- the terms of these numbers: all entries are kept, and the last number is the usual one
+abbrev pub usual_terms : ℕ → ℕ → ℕ → ℕ → ℕ → Terms
+usual_terms base hard seats places levels =
+    record { base = base; hard = hard; seats = seats; places = places; levels = levels; last = usual_last; keeping = Everything }
+
+-- the same terms, but that the entries are cut out in parts
+abbrev pub in_parts : Terms → Terms
+in_parts t = record t { keeping = InParts }
+
+-- the same terms, but that no entry is kept: the places are those that calls need at a time, one for each seat's Leave, and two for a call
+abbrev pub unrecorded : Terms → Terms
+unrecorded t = record t { places = t.seats + 2; keeping = Nothing }
+
+-- a new chronicle of these numbers, whose entries are all kept
 abbrev pub opened_chronicle : ℕ → ℕ → ℕ → ℕ → ℕ → Result Chronicled OpenFault
-opened_chronicle base hard seats places levels =
-    if base == 0 || nat_lt 65536 base then Err BadBase
-    else if hard == 0 || nat_lt 65535 hard then Err BadHard
-    else if seats == 0 || nat_lt 64 seats then Err BadSeats
-    else if places == 0 || nat_lt 1048576 places then Err BadPlaces
-    else if levels == 0 || nat_lt 8 levels then Err BadLevels
-    else Ok (begun base hard seats places levels)
+opened_chronicle base hard seats places levels = opened_by (usual_terms base hard seats places levels)
 
--- the same chronicle, whose entries are not to be kept; its places are those that its calls need at a time: one for each seat's Leave, and two for a call
-abbrev pub unrecorded : Result Chronicled OpenFault → Result Chronicled OpenFault
-unrecorded (Ok c) = Ok (record c { keeping = Nothing })
-unrecorded (Err fault) = Err fault
-
-abbrev pub opened_unrecorded : ℕ → ℕ → ℕ → ℕ → Result Chronicled OpenFault
-opened_unrecorded base hard seats levels = unrecorded (opened_chronicle base hard seats (seats + 2) levels)
-
--- the same chronicle, whose entries are to be cut out in parts
-abbrev pub in_parts : Result Chronicled OpenFault → Result Chronicled OpenFault
-in_parts (Ok c) = Ok (record c { keeping = InParts })
-in_parts (Err fault) = Err fault
-
+-- the same, whose entries are to be cut out in parts
 abbrev pub opened_in_parts : ℕ → ℕ → ℕ → ℕ → ℕ → Result Chronicled OpenFault
-opened_in_parts base hard seats places levels = in_parts (opened_chronicle base hard seats places levels)
+opened_in_parts base hard seats places levels = opened_by (in_parts (usual_terms base hard seats places levels))
+
+-- the same, whose entries are not to be kept
+abbrev pub opened_unrecorded : ℕ → ℕ → ℕ → ℕ → Result Chronicled OpenFault
+opened_unrecorded base hard seats levels = opened_by (unrecorded (usual_terms base hard seats 0 levels))
 
 -- how long a history is at most whose entries are all forgotten or cut out: behind these, a history has places still, and its calls are counted in 64 bits
 abbrev pub most_forgotten : ℕ
@@ -68,11 +78,12 @@ most_forgotten = 18446744073708503039
 
 -- it is what a market is opened with, and its numbers are in their ranges
 pub record IsOpening (s : State) : Type 0 where
-  pub same : s ≡ opening s.base s.hard (length s.seats) s.levels
+  pub same : s ≡ opening_to s.base s.hard (length s.seats) s.levels s.last
   pub base : (1 ≤ s.base) × (s.base ≤ 65536)
   pub hard : (1 ≤ s.hard) × (s.hard ≤ 65535)
   pub seats : (1 ≤ length s.seats) × (length s.seats ≤ 64)
   pub levels : (1 ≤ s.levels) × (s.levels ≤ 8)
+  pub last : (1 ≤ s.last) × (s.last ≤ 4294967294)
 
 -- the market has the numbers of its opening still
 pub record HasNumbersOf (start s : State) : Type 0 where

@@ -5,7 +5,7 @@ ghost use Rattle.market_types.specs.Reading.{Fits};
 ghost use Rattle.market_types.specs.Step.{step, place_of};
 ghost use Rattle.market_types.specs.History.{IsLegal};
 ghost use Rattle.market_types.specs.Opening.{MemoryAside};
-ghost use Rattle.edit_history.specs.Chronicled.{entry, market_of, opened_chronicle, opened_in_parts, opened_unrecorded, most_forgotten, HasNumbersOf, IsCallOf, IsOpening};
+ghost use Rattle.edit_history.specs.Chronicled.{entry, market_of, opened_by, opened_chronicle, opened_in_parts, opened_unrecorded, most_forgotten, HasNumbersOf, IsCallOf, IsOpening};
 ghost use Rattle.edit_history.specs.Parts.{EndsWith};
 ghost use Rattle.edit_history.specs.Places.{placed, takes, taken, LacksPlaces};
 ghost use Rattle.edit_history.specs.declared.fault.CallFault.TheVariants.{HistoryFull, Memory};
@@ -14,8 +14,9 @@ use crate::fault::CallFault;
 use crate::keeping::Keeping;
 use crate::part::Part;
 use crate::past::Past;
+use crate::terms::Terms;
 use market_core::Market;
-use market_types::{ArenaId, Call, Cmd, Entry, OpenFault, Reply, SeatNo};
+use market_types::{ArenaId, Call, Cmd, Entry, LastNumber, OpenFault, Reply, SeatNo};
 use std::alloc::Global;
 use std::marker::Model;
 use std::mem;
@@ -53,20 +54,25 @@ impl Model for Chronicle {
 }
 
 impl Chronicle {
-    /// A chronicle that nothing has happened to: with a base of 1 to 65,536, else `BadBase`; a hard limit of 1 to 65,535,
-    /// else `BadHard`; 1 to 64 seats, else `BadSeats`; 1 to 1,048,576 places, else `BadPlaces`; and 1 to 8 levels, else
-    /// `BadLevels`. Then out of memory is `Memory`.
-    pub fn new(
-        alloc: Global,
-        base: u32,
-        hard: u32,
-        seats: u8,
-        places: u32,
-        levels: u32,
-    ) -> Result<Self, OpenFault>
-        ensures exact { MemoryAside (opened_chronicle base hard seats places levels) result }
+    /// A chronicle that nothing has happened to, on these terms: with a base of 1 to 65,536, else `BadBase`; a hard limit of 1
+    /// to 65,535, else `BadHard`; 1 to 64 seats, else `BadSeats`; 1 to 1,048,576 places, else `BadPlaces`; and 1 to 8 levels,
+    /// else `BadLevels`. Then out of memory is `Memory`.
+    ///
+    /// Entries that are to be cut out in parts are kept until whoever calls has it `cut`. Those that are not to be kept take their
+    /// places until whoever calls has it `forget` them, after each call: two places more than seats are then enough.
+    pub fn on_terms(alloc: Global, terms: Terms) -> Result<Self, OpenFault>
+        ensures exact { MemoryAside (opened_by terms) result }
     {
-        match Market::new(alloc, base, hard, seats, levels) {
+        let Terms {
+            base,
+            hard,
+            seats,
+            places,
+            levels,
+            last,
+            keeping,
+        } = terms;
+        match Market::with_last(alloc, base, hard, seats, levels, last) {
             Err(OpenFault::BadBase) => Err(OpenFault::BadBase),
             Err(OpenFault::BadHard) => Err(OpenFault::BadHard),
             Err(OpenFault::BadSeats) => Err(OpenFault::BadSeats),
@@ -79,9 +85,32 @@ impl Chronicle {
                 from: 0,
                 recent: Vec::new(alloc),
                 places,
-                keeping: Keeping::Everything,
+                keeping,
             }),
         }
+    }
+
+    /// The same, with the usual last number, and every entry is kept.
+    pub fn new(
+        alloc: Global,
+        base: u32,
+        hard: u32,
+        seats: u8,
+        places: u32,
+        levels: u32,
+    ) -> Result<Self, OpenFault>
+        ensures exact { MemoryAside (opened_chronicle base hard seats places levels) result }
+    {
+        let terms = Terms {
+            base,
+            hard,
+            seats,
+            places,
+            levels,
+            last: LastNumber::USUAL,
+            keeping: Keeping::Everything,
+        };
+        Chronicle::on_terms(alloc, terms)
     }
 
     /// The same for a history whose entries are to be kept until they are cut out: whoever calls has it `cut` in time.
@@ -95,9 +124,16 @@ impl Chronicle {
     ) -> Result<Self, OpenFault>
         ensures exact { MemoryAside (opened_in_parts base hard seats places levels) result }
     {
-        let mut chronicle = Chronicle::new(alloc, base, hard, seats, places, levels)?;
-        chronicle.keeping = Keeping::InParts;
-        Ok(chronicle)
+        let terms = Terms {
+            base,
+            hard,
+            seats,
+            places,
+            levels,
+            last: LastNumber::USUAL,
+            keeping: Keeping::InParts,
+        };
+        Chronicle::on_terms(alloc, terms)
     }
 
     /// The same for a history whose entries are not to be kept: whoever calls has it `forget` them after each call. It has the
@@ -111,9 +147,16 @@ impl Chronicle {
     ) -> Result<Self, OpenFault>
         ensures exact { MemoryAside (opened_unrecorded base hard seats levels) result }
     {
-        let mut chronicle = Chronicle::new(alloc, base, hard, seats, u32::from(seats) + 2, levels)?;
-        chronicle.keeping = Keeping::Nothing;
-        Ok(chronicle)
+        let terms = Terms {
+            base,
+            hard,
+            seats,
+            places: u32::from(seats) + 2,
+            levels,
+            last: LastNumber::USUAL,
+            keeping: Keeping::Nothing,
+        };
+        Chronicle::on_terms(alloc, terms)
     }
 
     /// Does what a seat asks, as the market does, and records it with its reply, be it a refusal. A Join by a seat that is not

@@ -1,7 +1,7 @@
 //! What is true of all histories. These functions do nothing: what they ensure holds wherever they are called.
 ghost use Rattle.std.specs.Prelude.{◌≡◌, ℕ, ◌+◌, ◌<◌, ◌≤◌, List, length};
 ghost use Rattle.market_types.specs.declared.command.Cmd.{Cmd};
-ghost use Rattle.market_types.specs.State.{opening};
+ghost use Rattle.market_types.specs.State.{opening_to};
 ghost use Rattle.market_types.specs.Step.{place_of};
 ghost use Rattle.market_types.specs.History.{IsLegal, calls_of, state_after, place_in};
 ghost use Rattle.market_types.specs.declared.reply.Entry.{Entry};
@@ -12,9 +12,9 @@ ghost use Rattle.edit_history.specs.Parts.{AreInARow, joined};
 
 /// In a legal history a seat is placed where its own entries say, whatever other seats do between.
 pub fn own_entries_place_a_seat()
-    ensures { (base hard seats levels seat : ℕ) (history : List Entry)
-        → IsLegal (opening base hard seats levels) history → seat < seats
-        → place_of (state_after (opening base hard seats levels) (calls_of history)) seat ≡ place_in seat history }
+    ensures { (base hard seats levels last seat : ℕ) (history : List Entry)
+        → IsLegal (opening_to base hard seats levels last) history → seat < seats
+        → place_of (state_after (opening_to base hard seats levels last) (calls_of history)) seat ≡ place_in seat history }
 {}
 
 /// A chronicle that has forgotten all its entries, and has two places more than it has seats, has places for every call.

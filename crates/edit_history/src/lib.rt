@@ -17,6 +17,7 @@ mod keeping;
 mod law;
 mod part;
 mod past;
+mod terms;
 
 pub use chronicle::Chronicle;
 pub use fault::CallFault;
@@ -25,6 +26,7 @@ pub use law::{
     a_forgetful_chronicle_is_never_full, own_entries_place_a_seat, parts_in_a_row_are_the_history,
 };
 pub use part::Part;
+pub use terms::Terms;
 
 #[cfg(test)]
 mod tests;
