@@ -20,10 +20,11 @@ use Rattle.market_types.specs.Texts.{cmd_text, reply_text}
 use Rattle.market_types.specs.Reading.{Fits, reading}
 use Rattle.edit_history.specs.Chronicled.{IsOpening, IsCallOf}
 use Rattle.journal_replay.specs.Journal.{header_data, entry_data, header_line, fields_line, entry_line, entry_lines, journal_text}
-use Rattle.journal_replay.specs.Reading.{json_of, from_one_to, header_of, entry_in}
+use Rattle.journal_replay.specs.Reading.{json_of, from_one_to, header_in, header_of, entry_in}
 use Rattle.journal_replay.specs.Verdicts.{most_entries}
 use Rattle.journal_replay.specs.Legality.{AreEntryLines, IsLegalJournal}
 use Rattle.market_types.specs.History.{IsLegal}
+use Rattle.journal_replay.specs.declared.header.Extent.TheVariants.{Limited}
 use Rattle.journal_replay.specs.Written.{IsShort, IsReadBack}
 
 -- what an entry has to be to be read again
@@ -160,8 +161,8 @@ from_one_to-within : (most n : ℕ) → 1 ≤ n → n ≤ most → from_one_to m
 from_one_to-within most n low high = let out : (n == 0 || nat_lt most n) ≡ false = grind (arith, nat_tests) in rw out refl
 
 header-opens : (base hard levels seats : ℕ) → (1 ≤ base) × (base ≤ 65536) → (1 ≤ hard) × (hard ≤ 65535) → (1 ≤ levels) × (levels ≤ 8) → (1 ≤ seats) × (seats ≤ 64)
-    → header_of (header_data base hard levels seats) ≡ Some (opening base hard seats levels)
-unfolding header_of
+    → header_of (header_data base hard levels seats) ≡ Some (record { market = opening base hard seats levels; extent = Limited })
+unfolding header_in
 header-opens base hard levels seats b h l s =
     rw (from_one_to-within 8 levels l.0 l.1, from_one_to-within 65536 base b.0 b.1, from_one_to-within 65535 hard h.0 h.1, from_one_to-within 64 seats s.0 s.1) refl
 
@@ -206,15 +207,16 @@ journal-told start log opened legal calls reads shorts header spells few =
     let short = header-short start.base start.hard start.levels seats opened.base.1 opened.hard.1 opened.levels.1 opened.seats.1 in
     record {
       start = start;
+      extent = Limited;
       history = log;
       reads = record {
         header = record { bytes = line; form = Whole };
         lines = map (entry_line_of start.levels) log;
         are = lines-first line (entry_lines start.levels log) free short ∙ ap (λ (ls : List Line). record { bytes = line; form = Whole } ∷ ls) (lines-entries start.levels seats log (omega (arith, opened.seats.1)) all);
-        opens = ap (option_and_then header_of) header ∙ header-opens start.base start.hard start.levels seats opened.base opened.hard opened.levels opened.seats ∙ ap Some (sym opened.same);
+        opens = ap (option_and_then header_of) header ∙ header-opens start.base start.hard start.levels seats opened.base opened.hard opened.levels opened.seats ∙ ap (λ (s : State). Some (record { market = s; extent = Limited })) (sym opened.same);
         entries = lines-read start.levels seats log spells all;
       };
       legal = legal;
       count = refl;
-      few = few;
+      few = λ _. few;
     }

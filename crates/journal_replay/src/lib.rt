@@ -7,6 +7,7 @@
 #![tactic(auto)]
 
 mod checker;
+mod header;
 mod journal;
 mod law;
 mod line;
