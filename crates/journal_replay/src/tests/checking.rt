@@ -157,8 +157,7 @@ fn spaces_and_the_order_of_keys_do_not_matter(rt: HostRuntime) {
     let header = " {\"seats\" : 4, \"journal\":1,\"hard\":64 ,\"base\": 8 }\r";
     let open = "{ \"seat\":0,\t\"cmd\":\"open 8 1 normal\", \"reply\":\"arena\\u00201\"}";
     lines_find(&rt, rt.alloc(), &[header, open, REQUEST, SHOW], "legal 3");
-    let header =
-        "{\"seats\":4, \"last\":9,\"journal\":3, \"levels\":3,\"hard\":64,\"base\": 8 }";
+    let header = "{\"seats\":4, \"last\":9,\"journal\":3, \"levels\":3,\"hard\":64,\"base\": 8 }";
     lines_find(&rt, rt.alloc(), &[header, open, REQUEST, SHOW], "legal 3");
 }
 
@@ -328,7 +327,12 @@ fn a_limited_journal_has_1_048_576_entries_at_most(rt: HostRuntime) {
     let last = after_entries(&rt, rt.alloc(), 1_048_575, Extent::Limited);
     assert!(&rt; matches!(&last, Progress::Replaying(_, 1_048_576, Extent::Limited)));
     let more = after_entries(&rt, rt.alloc(), 1_048_576, Extent::Limited);
-    assert!(&rt; matches!(&more, Progress::Faulty(Verdict::BadRecord(1_048_578), Extent::Limited)));
+    assert!(&rt;
+        matches!(
+            &more,
+            Progress::Faulty(Verdict::BadRecord(1_048_578), Extent::Limited)
+        )
+    );
 }
 
 #[test]
@@ -336,7 +340,12 @@ fn an_endless_journal_has_any_number_of_entries(rt: HostRuntime) {
     let more = after_entries(&rt, rt.alloc(), 1_048_576, Extent::Endless);
     assert!(&rt; matches!(&more, Progress::Replaying(_, 1_048_577, Extent::Endless)));
     let far = after_entries(&rt, rt.alloc(), 1_000_000_000_000, Extent::Endless);
-    assert!(&rt; matches!(&far, Progress::Replaying(_, 1_000_000_000_001, Extent::Endless)));
+    assert!(&rt;
+        matches!(
+            &far,
+            Progress::Replaying(_, 1_000_000_000_001, Extent::Endless)
+        )
+    );
 }
 
 #[test]
