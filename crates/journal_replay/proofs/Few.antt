@@ -20,7 +20,7 @@ use Rattle.market_types.specs.Step.{Outcome, if_arena, if_claim, arena_at, witho
 -- ---- the arenas of a market
 
 abbrev pub IsBounded : Arena → Type 0
-IsBounded a = (a.number ≤ 1048576) × (a.claim.slots ≤ 65535)
+IsBounded a = (a.number ≤ 4294967294) × (a.claim.slots ≤ 65535)
 
 abbrev pub AllBounded : List Arena → Type 0
 AllBounded [] = Unit {0}
@@ -124,14 +124,14 @@ length-with n claim (a ∷ arenas) = ap (λ k. suc k) (length-with n claim arena
 few-with : (n : ℕ) (claim : Claim) (arenas : List Arena) → claim.slots ≤ 65535 → Few arenas → Few (with_claim n claim arenas)
 few-with n claim arenas small h = record { few = omega (arith, length-with n claim arenas, h.few); all = bounded-with n claim arenas small h.all }
 
-few-open : (s : State) (slots reserved level : ℕ) → s.last ≤ 1048576 → Few s.arenas → Few (open_step s slots reserved level).1.arenas
+few-open : (s : State) (slots reserved level : ℕ) → s.last ≤ 4294967294 → Few s.arenas → Few (open_step s slots reserved level).1.arenas
 few-open s slots reserved level last h =
     few-claim s (new_claim slots reserved) _ h (λ claim is.
     few-if (nat_lt s.levels level) _ _ h (λ _.
     few-if (nat_le 1024 (length s.arenas)) _ _ h (λ room.
     few-if (nat_lt s.last s.next_arena || nat_lt s.last s.next_stamp) _ _ h (λ left.
     let slots_are = new-slots slots reserved claim is in
-    let number : s.next_arena ≤ 1048576 = grind (arith, nat_tests) in
+    let number : s.next_arena ≤ 4294967294 = grind (arith, nat_tests) in
     let fewer : length s.arenas < 1024 = grind (arith, nat_tests) in
     let small : claim.slots ≤ 65535 = omega (arith, slots_are.0, slots_are.1) in
     record { few = omega arith; all = ((number, small), h.all) }))))
@@ -186,7 +186,7 @@ few-leave : (s : State) (seat : ℕ) (p : Option ℕ) → Few s.arenas → Few (
 few-leave s seat None h = h
 few-leave s seat (Some a) h = h
 
-pub few-step : (s : State) (seat : ℕ) (cmd : Cmd) → s.last ≤ 1048576 → Few s.arenas → Few (step s seat cmd).1.arenas
+pub few-step : (s : State) (seat : ℕ) (cmd : Cmd) → s.last ≤ 4294967294 → Few s.arenas → Few (step s seat cmd).1.arenas
 few-step s seat (Open slots reserved level) last h = few-open s slots reserved level last h
 few-step s seat (Close a) last h = few-close s a h
 few-step s seat (Priority a level) last h = few-priority s a level h

@@ -9,7 +9,9 @@ use Rattle.serde_json.specs.View.{members_view}
 use Rattle.serde_json.specs.declared.value.Value.{Value}
 use Rattle.market_types.specs.State.{State}
 use Rattle.edit_history.specs.Chronicled.{HasNumbersOf}
-use Rattle.journal_replay.specs.Journal.{header_data, header_line}
+use Rattle.journal_replay.specs.declared.header.Extent.{Extent}
+use Rattle.journal_replay.specs.declared.header.Header.{Header}
+use Rattle.journal_replay.specs.Journal.{header_for, header_data, header_line}
 use Rattle.journal_replay.specs.Reading.{json_of, count_members}
 
 pub json-read : (text : List ℕ) → IsUtf8 text → json_of text ≡ read text
@@ -28,9 +30,12 @@ pub count-members : (entries : List (String Global × Value)) → count_members 
 count-members [] = refl
 count-members (e ∷ entries) = omega (arith, count-members entries)
 
--- the header's line was written, for a market with the numbers of its opening
-pub header-back : (start s : State) (text : List ℕ) → HasNumbersOf start s → text ≡ header_line s.base s.hard s.levels (length s.seats) → IsUtf8 text
-    → read text ≡ Some (header_data s.base s.hard s.levels (length s.seats)) → json_of (header_line start.base start.hard start.levels (length start.seats)) ≡ Some (header_data start.base start.hard start.levels (length start.seats))
-header-back start s text same is utf8 reads =
-    ap json_of ((λ i. header_line (sym same.base i) (sym same.hard i) (sym same.levels i) (sym same.seats i)) ∙ sym is) ∙ json-read text utf8 ∙ reads
-    ∙ ap Some (λ i. header_data (same.base i) (same.hard i) (same.levels i) (same.seats i))
+-- a market with the numbers of its opening has the header of that
+pub same-header : (extent : Extent) (start s : State) → HasNumbersOf start s → header_for extent s ≡ header_for extent start
+same-header extent start s same =
+    λ i. record { base = same.base i; hard = same.hard i; seats = same.seats i; levels = same.levels i; last = same.last i; extent = extent }
+
+-- a header's line that was written reads back
+pub header-back : (h k : Header) (text : List ℕ) → h ≡ k → text ≡ header_line h → IsUtf8 text → read text ≡ Some (header_data h) → json_of (header_line k) ≡ Some (header_data k)
+header-back h k text same is utf8 reads =
+    ap json_of (ap header_line (sym same) ∙ sym is) ∙ json-read text utf8 ∙ reads ∙ ap (λ (x : Header). Some (header_data x)) same

@@ -10,10 +10,11 @@ use Rattle.std.specs.Io.KnownBytes.{Appends}
 use Rattle.byte_devices.specs.Devices.{WritesFront}
 use Rattle.market_types.specs.declared.reply.Entry.{Entry}
 use Rattle.market_types.specs.State.{State}
-use Rattle.edit_history.specs.Chronicled.{HasNumbersOf}
 use Rattle.edit_history.specs.Parts.{EndsWith, joined}
 use Rattle.edit_history.specs.declared.part.Part.{Part}
-use Rattle.journal_replay.specs.Journal.{entry_line, entry_lines, header_line, journal_text, part_lines}
+use Rattle.journal_replay.specs.declared.header.Extent.{Extent}
+use Rattle.journal_replay.specs.declared.header.Header.{Header}
+use Rattle.journal_replay.specs.Journal.{header_for, entry_line, entry_lines, header_line, journal_in, part_lines}
 use Rattle.byte_devices.specs.Output.{Fronts}
 
 -- an entry's line with its LF
@@ -98,11 +99,11 @@ lines-split start levels i log =
     ∙ sym (append_assoc start (entry_lines levels (take i log)) (entry_lines levels (drop i log)))
 
 -- the header's line and the lines of all entries are the journal
-pub header-is : (start s : State) (log : List Entry) (text waiting : List ℕ) → HasNumbersOf start s → text ≡ header_line s.base s.hard s.levels (length s.seats) → waiting ≡ text ++ codes "\n"
-    → waiting ++ entry_lines start.levels log ≡ journal_text start log
-header-is start s log text waiting same is w =
-    let header : List ℕ = header_line start.base start.hard start.levels (length start.seats) in
-    let its : text ≡ header = is ∙ (λ i. header_line (same.base i) (same.hard i) (same.levels i) (same.seats i)) in
+pub header-is : (extent : Extent) (start : State) (h : Header) (log : List Entry) (text waiting : List ℕ) → h ≡ header_for extent start → text ≡ header_line h → waiting ≡ text ++ codes "\n"
+    → waiting ++ entry_lines start.levels log ≡ journal_in extent start log
+header-is extent start h log text waiting same is w =
+    let header : List ℕ = header_line (header_for extent start) in
+    let its : text ≡ header = is ∙ ap header_line same in
     ap (λ xs. xs ++ entry_lines start.levels log) (w ∙ ap (λ xs. xs ++ codes "\n") its) ∙ append_assoc header (codes "\n") (entry_lines start.levels log)
 
 -- with what waits, all of the text is written
@@ -129,8 +130,8 @@ lines-of-parts levels [] = refl
 lines-of-parts levels (p ∷ ps) =
     ap (λ xs. entry_lines levels p.entries.items ++ xs) (lines-of-parts levels ps) ∙ sym (flat_map-append (line levels) p.entries.items (joined ps))
 
-pub parts-are-journal : (start : State) (history : List Entry) (parts : List Part) → joined parts ≡ history
-    → (header_line start.base start.hard start.levels (length start.seats) ++ codes "\n") ++ part_lines start.levels parts ≡ journal_text start history
-parts-are-journal start history parts all =
-    append_assoc (header_line start.base start.hard start.levels (length start.seats)) (codes "\n") (part_lines start.levels parts)
-    ∙ ap (λ xs. header_line start.base start.hard start.levels (length start.seats) ++ (codes "\n" ++ xs)) (lines-of-parts start.levels parts ∙ ap (entry_lines start.levels) all)
+pub parts-are-journal : (extent : Extent) (start : State) (history : List Entry) (parts : List Part) → joined parts ≡ history
+    → (header_line (header_for extent start) ++ codes "\n") ++ part_lines start.levels parts ≡ journal_in extent start history
+parts-are-journal extent start history parts all =
+    append_assoc (header_line (header_for extent start)) (codes "\n") (part_lines start.levels parts)
+    ∙ ap (λ xs. header_line (header_for extent start) ++ (codes "\n" ++ xs)) (lines-of-parts start.levels parts ∙ ap (entry_lines start.levels) all)

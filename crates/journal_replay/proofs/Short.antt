@@ -201,7 +201,7 @@ reply-size (Refused fault) e = let h = fault-size fault in omega arith
 -- ---- lists
 
 abbrev IsSmall : ℕ × ℕ → Type 0
-IsSmall e = (e.0 ≤ 1048576) × (e.1 ≤ 4397912294400)
+IsSmall e = (e.0 ≤ 4294967294) × (e.1 ≤ 4397912294400)
 
 abbrev AllSmall : List (ℕ × ℕ) → Type 0
 AllSmall [] = Unit {0}
@@ -211,14 +211,14 @@ plain-more : (c : ℕ) (xs : List ℕ) → (c ≡ 34 → ⊥) → (c ≡ 92 → 
 unfolding size
 plain-more c xs q b l = omega (arith, length-append (escape_byte c) (escape xs), ap length (escape_byte_plain c q b l))
 
-count-size : (e : ℕ × ℕ) → IsSmall e → size (count_text e) ≤ 21
+count-size : (e : ℕ × ℕ) → IsSmall e → size (count_text e) ≤ 24
 count-size e h =
-    let number = small-size 7 e.0 (omega arith) (omega (arith, h.0)) (omega (arith, h.0)) in
+    let number = small-size 10 e.0 (omega arith) (omega (arith, h.0)) (omega (arith, h.0)) in
     let count = small-size 13 e.1 (omega arith) (omega (arith, h.1)) (omega (arith, h.1)) in
     let colon = plain-more 58 (decimal e.1) (λ e. omega arith) (λ e. omega arith) (omega arith) in
     omega (arith, size-append (decimal e.0) (codes ":" ++ decimal e.1))
 
-joined-size : (e : ℕ × ℕ) (es : List (ℕ × ℕ)) → AllSmall (e ∷ es) → size (join_with_byte 44 (map count_text (e ∷ es))) ≤ 22 * (1 + length es)
+joined-size : (e : ℕ × ℕ) (es : List (ℕ × ℕ)) → AllSmall (e ∷ es) → size (join_with_byte 44 (map count_text (e ∷ es))) ≤ 25 * (1 + length es)
 joined-size e [] h = let one = count-size e h.0 in omega arith
 joined-size e (f ∷ fs) h =
     let one = count-size e h.0 in
@@ -226,7 +226,7 @@ joined-size e (f ∷ fs) h =
     let comma = plain-more 44 (join_with_byte 44 (map count_text (f ∷ fs))) (λ e. omega arith) (λ e. omega arith) (omega arith) in
     omega (arith, size-append (count_text e) (44 ∷ join_with_byte 44 (map count_text (f ∷ fs))))
 
-counts-size : (es : List (ℕ × ℕ)) → AllSmall es → length es ≤ 1024 → size (counts_text es) ≤ 22528
+counts-size : (es : List (ℕ × ℕ)) → AllSmall es → length es ≤ 1024 → size (counts_text es) ≤ 25600
 counts-size [] h few = let dash = lit (codes "-") (omega arith) in omega arith
 counts-size (e ∷ es) h few = let all = joined-size e es h in omega arith
 
@@ -246,18 +246,18 @@ above-length : (count : ℕ → ℕ) (arenas : List Arena) → length (above_zer
 above-length count [] = omega arith
 above-length count (a ∷ arenas) = omega (arith, length-kept (nat_lt 0 (count a.number)) (a.number, count a.number) (above_zero count arenas), above-length count arenas)
 
-lists-size : (s : State) → Few s.arenas → s.hard ≤ 65535 → length s.seats ≤ 64 → size (reply_text (Listed (counts_of s))) ≤ 46000
+lists-size : (s : State) → Few s.arenas → s.hard ≤ 65535 → length s.seats ≤ 64 → size (reply_text (Listed (counts_of s))) ≤ 52000
 lists-size s h hard seats =
     let o = few-in_order s h in
     let few = o.few in
-    let recalls : size (counts_text (above_zero (recall s) (in_order s))) ≤ 22528 =
+    let recalls : size (counts_text (above_zero (recall s) (in_order s))) ≤ 25600 =
     counts-size _ (above-small (recall s) (in_order s) o.all (λ n. let a = active-small s n seats in omega arith)) (omega (arith, above-length (recall s) (in_order s))) in
-    let hires : size (counts_text (above_zero (hire s) (in_order s))) ≤ 22528 =
+    let hires : size (counts_text (above_zero (hire s) (in_order s))) ≤ 25600 =
     counts-size _ (above-small (hire s) (in_order s) o.all (λ n. let a = allotment-small s n hard h in omega arith)) (omega (arith, above-length (hire s) (in_order s))) in
-    let tail = lit-part (codes " hire ") (counts_text (above_zero (hire s) (in_order s))) 22528 (omega arith) hires in
-    let both : size (counts_text (above_zero (recall s) (in_order s)) ++ (codes " hire " ++ counts_text (above_zero (hire s) (in_order s)))) ≤ 45296 =
+    let tail = lit-part (codes " hire ") (counts_text (above_zero (hire s) (in_order s))) 25600 (omega arith) hires in
+    let both : size (counts_text (above_zero (recall s) (in_order s)) ++ (codes " hire " ++ counts_text (above_zero (hire s) (in_order s)))) ≤ 51440 =
     omega (arith, size-append (counts_text (above_zero (recall s) (in_order s))) (codes " hire " ++ counts_text (above_zero (hire s) (in_order s)))) in
-    let all = lit-part (codes "recall ") _ 45296 (omega arith) both in
+    let all = lit-part (codes "recall ") _ 51440 (omega arith) both in
     omega arith
 
 -- ---- Lists alone is answered by lists
@@ -323,10 +323,10 @@ plain-leave : (s : State) (seat : ℕ) (p : Option ℕ) → Plain (leave_from s 
 plain-leave s seat None = refl
 plain-leave s seat (Some a) = refl
 
-plain-size : (o : Outcome) → Plain o → size (reply_text o.0) ≤ 46000
+plain-size : (o : Outcome) → Plain o → size (reply_text o.0) ≤ 52000
 plain-size o h = let small = reply-size o.0 h in omega arith
 
-step-size : (s : State) (seat : ℕ) (cmd : Cmd) → Few s.arenas → s.hard ≤ 65535 → length s.seats ≤ 64 → size (reply_text (step s seat cmd).0) ≤ 46000
+step-size : (s : State) (seat : ℕ) (cmd : Cmd) → Few s.arenas → s.hard ≤ 65535 → length s.seats ≤ 64 → size (reply_text (step s seat cmd).0) ≤ 52000
 step-size s seat (Open slots reserved level) h hard seats = plain-size (open_step s slots reserved level) (plain-open s slots reserved level)
 step-size s seat (Close a) h hard seats = plain-size (close_step s a) (plain-close s a)
 step-size s seat (Priority a level) h hard seats = plain-size (priority_step s a level) (plain-priority s a level)
@@ -343,11 +343,11 @@ step-size s seat Limit h hard seats = plain-size (step s seat Limit) refl
 
 -- ---- the lines of a history
 
-line-length : (cmd reply : List ℕ) (seat : ℕ) → length (escape cmd) ≤ 5000 → length (escape reply) ≤ 46000 → length (fields_line cmd reply seat) ≤ 65536
+line-length : (cmd reply : List ℕ) (seat : ℕ) → length (escape cmd) ≤ 5000 → length (escape reply) ≤ 52000 → length (fields_line cmd reply seat) ≤ 65536
 line-length cmd reply seat c r = let s = decimal-length seat in simp length-append (omega arith)
 
 module _ (keeps : (s : State) (seat : ℕ) (cmd : Cmd) → (length (step s seat cmd).1.seats ≡ length s.seats) × ((step s seat cmd).1.hard ≡ s.hard) × ((step s seat cmd).1.last ≡ s.last)) where
-  all-short : (levels : ℕ) (log : List Entry) (s : State) → s.last ≤ 1048576 → Few s.arenas → s.hard ≤ 65535 → length s.seats ≤ 64 → IsLegal s log → All (IsShort levels) log
+  all-short : (levels : ℕ) (log : List Entry) (s : State) → s.last ≤ 4294967294 → Few s.arenas → s.hard ≤ 65535 → length s.seats ≤ 64 → IsLegal s log → All (IsShort levels) log
   unfolding size
   all-short levels [] s last h hard seats legal = All-nil (IsShort levels)
   all-short levels (e ∷ log) s last h hard seats legal =
@@ -355,7 +355,7 @@ module _ (keeps : (s : State) (seat : ℕ) (cmd : Cmd) → (length (step s seat 
       let due : e.reply ≡ o.0 = cc in
       let rest : IsLegal o.1 log = cc in
       let same = keeps s e.call.seat e.call.cmd in
-      let reply : size (reply_text e.reply) ≤ 46000 = subst (λ (r : Reply). size (reply_text r) ≤ 46000) (sym due) (step-size s e.call.seat e.call.cmd h hard seats) in
+      let reply : size (reply_text e.reply) ≤ 52000 = subst (λ (r : Reply). size (reply_text r) ≤ 52000) (sym due) (step-size s e.call.seat e.call.cmd h hard seats) in
       All-cons (IsShort levels) e log (line-length (cmd_text levels e.call.cmd) (reply_text e.reply) e.call.seat (cmd-size levels e.call.cmd) reply)
       (all-short levels log o.1 (omega (arith, same.2)) (few-step s e.call.seat e.call.cmd last h) (omega (arith, same.1)) (omega (arith, same.0)) rest)
 
@@ -363,5 +363,4 @@ module _ (keeps : (s : State) (seat : ℕ) (cmd : Cmd) → (length (step s seat 
   short-history start history opened legal =
       let none : start.arenas ≡ [] = ap (λ (s : State). s.arenas) opened.same in
       let begun : Few start.arenas = subst (λ (arenas : List Arena). Few arenas) (sym none) (let few : length {A = Arena} [] ≤ 1024 = omega arith in record { few = few; all = tt }) in
-      let usual : start.last ≡ 1048576 = ap (λ (s : State). s.last) opened.same in
-      all-short start.levels history start (omega arith) begun opened.hard.1 opened.seats.1 legal
+      all-short start.levels history start opened.last.1 begun opened.hard.1 opened.seats.1 legal

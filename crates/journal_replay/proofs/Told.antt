@@ -1,10 +1,11 @@
 -- A journal that was written tells its history.
-use Rattle.std.specs.Prelude.{nat_lt, ◌==◌, ◌||◌}
+use Rattle.std.specs.Prelude.{nat_lt, ◌==◌, ◌||◌, ◌&&◌}
 use Rattle.std.specs.List.{All}
 use Rattle.std.specs.Char.{digit_char}
 use Rattle.std.specs.Str.{all_ascii_digits}
 use Rattle.std.specs.Str.Parse.{AllDigits, digits_value}
 use Rattle.std.proofs.Common.{◌≡◌, ℕ, ◌/◌, ◌%◌, ◌<◌, ◌≤◌, ◌^◌, ◌++◌, Bool, true, false, cond, List, [], ◌∷◌, length, map, Some, option_and_then, codes, decimal, refl, sym, ap, ◌∙◌, arith, append_assoc, length-append}
+use Rattle.std.proofs.lemmas.Bool.{eqb-true}
 use Rattle.std.proofs.lemmas.Bool.Decides.{nat_tests}
 use Rattle.std.proofs.lemmas.List.Elements.{All-nil, All-cons, All-head, All-tail}
 use Rattle.std.proofs.lemmas.Str.Parse.{IsNumeralModel, numerals_by_value, tells_all_ascii_digits, digit_from_value}
@@ -15,15 +16,18 @@ use Rattle.line_engine.specs.declared.form.LineForm.TheVariants.{Whole}
 use Rattle.line_engine.proofs.Cut.{ended_lines-first, unfinished_line-first, ended_lines-none, unfinished_line-none}
 use Rattle.market_types.specs.declared.command.Cmd.{Cmd}
 use Rattle.market_types.specs.declared.reply.Entry.{Entry}
-use Rattle.market_types.specs.State.{State, opening}
+use Rattle.market_types.specs.State.{State, opening_to}
 use Rattle.market_types.specs.Texts.{cmd_text, reply_text}
 use Rattle.market_types.specs.Reading.{Fits, reading}
 use Rattle.edit_history.specs.Chronicled.{IsOpening, IsCallOf}
-use Rattle.journal_replay.specs.Journal.{header_data, entry_data, header_line, fields_line, entry_line, entry_lines, journal_text}
-use Rattle.journal_replay.specs.Reading.{json_of, from_one_to, header_of, entry_in}
+use Rattle.journal_replay.specs.Journal.{is_limited, fits_second, header_for, second_data, third_data, header_data, entry_data, second_line, third_line, header_line, fields_line, entry_line, entry_lines, journal_in}
+use Rattle.journal_replay.specs.Reading.{json_of, from_one_to, opened_by, header_in, header_of, entry_in}
 use Rattle.journal_replay.specs.Verdicts.{most_entries}
 use Rattle.journal_replay.specs.Legality.{AreEntryLines, IsLegalJournal}
 use Rattle.market_types.specs.History.{IsLegal}
+use Rattle.journal_replay.specs.declared.header.Extent.{Extent}
+use Rattle.journal_replay.specs.declared.header.Extent.TheVariants.{Limited, Endless}
+use Rattle.journal_replay.specs.declared.header.Header.{Header}
 use Rattle.journal_replay.specs.Written.{IsShort, IsReadBack}
 
 -- what an entry has to be to be read again
@@ -118,15 +122,29 @@ free-fields cmd reply seat small =
     free-append (decimal seat) (codes "}") (free-decimal seat small) refl
     ))
 
-free-numbers : (base hard levels seats : ℕ) → base < 2 ^ 64 → hard < 2 ^ 64 → levels < 2 ^ 64 → seats < 2 ^ 64 → lf_free (header_line base hard levels seats) ≡ true
+-- a header whose numbers are in their ranges
+record IsInRanges (h : Header) : Type 0 where
+  pub base : (1 ≤ h.base) × (h.base ≤ 65536)
+  pub hard : (1 ≤ h.hard) × (h.hard ≤ 65535)
+  pub seats : (1 ≤ h.seats) × (h.seats ≤ 64)
+  pub levels : (1 ≤ h.levels) × (h.levels ≤ 8)
+  pub last : (1 ≤ h.last) × (h.last ≤ 4294967294)
+
+-- a number and what follows it
+free-number : (n : ℕ) (rest : List ℕ) → n < 2 ^ 64 → lf_free rest ≡ true → lf_free (decimal n ++ rest) ≡ true
+free-number n rest small free = free-append (decimal n) rest (free-decimal n small) free
+
+free-second : (h : Header) → IsInRanges h → lf_free (second_line h) ≡ true
 unfolding lf_free
-free-numbers base hard levels seats b h l s =
-    free-append (decimal base) (codes ",\"hard\":" ++ (decimal hard ++ (codes ",\"journal\":" ++ (decimal 2 ++ (codes ",\"levels\":" ++ (decimal levels ++ (codes ",\"seats\":" ++ (decimal seats ++ codes "}")))))))) (free-decimal base b) (
-    free-append (decimal hard) (codes ",\"journal\":" ++ (decimal 2 ++ (codes ",\"levels\":" ++ (decimal levels ++ (codes ",\"seats\":" ++ (decimal seats ++ codes "}")))))) (free-decimal hard h) (
-    free-append (decimal 2) (codes ",\"levels\":" ++ (decimal levels ++ (codes ",\"seats\":" ++ (decimal seats ++ codes "}")))) (free-decimal 2 (omega arith)) (
-    free-append (decimal levels) (codes ",\"seats\":" ++ (decimal seats ++ codes "}")) (free-decimal levels l) (
-    free-append (decimal seats) (codes "}") (free-decimal seats s) refl
-    ))))
+free-second h r =
+    free-number h.base _ (omega (arith, r.base.1)) (free-number h.hard _ (omega (arith, r.hard.1)) (free-number 2 _ (omega arith)
+    (free-number h.levels _ (omega (arith, r.levels.1)) (free-number h.seats _ (omega (arith, r.seats.1)) refl))))
+
+free-third : (h : Header) → IsInRanges h → lf_free (third_line h) ≡ true
+unfolding lf_free
+free-third h r =
+    free-number h.base _ (omega (arith, r.base.1)) (free-number h.hard _ (omega (arith, r.hard.1)) (free-number 3 _ (omega arith) (free-number h.last _ (omega (arith, r.last.1))
+    (free-number h.levels _ (omega (arith, r.levels.1)) (free-number h.seats _ (omega (arith, r.seats.1)) refl)))))
 
 -- ---- the lines of a journal
 
@@ -159,11 +177,49 @@ lines-entries levels seats (e ∷ log) few all =
 from_one_to-within : (most n : ℕ) → 1 ≤ n → n ≤ most → from_one_to most n ≡ Some n
 from_one_to-within most n low high = let out : (n == 0 || nat_lt most n) ≡ false = grind (arith, nat_tests) in rw out refl
 
-header-opens : (base hard levels seats : ℕ) → (1 ≤ base) × (base ≤ 65536) → (1 ≤ hard) × (hard ≤ 65535) → (1 ≤ levels) × (levels ≤ 8) → (1 ≤ seats) × (seats ≤ 64)
-    → header_of (header_data base hard levels seats) ≡ Some (opening base hard seats levels)
-unfolding header_of
-header-opens base hard levels seats b h l s =
-    rw (from_one_to-within 8 levels l.0 l.1, from_one_to-within 65536 base b.0 b.1, from_one_to-within 65535 hard h.0 h.1, from_one_to-within 64 seats s.0 s.1) refl
+second-opens : (h : Header) → IsInRanges h → header_of (second_data h) ≡ Some (opened_by (record h { last = 1048576; extent = Limited }))
+unfolding header_in
+second-opens h r =
+    rw (from_one_to-within 8 h.levels r.levels.0 r.levels.1, from_one_to-within 65536 h.base r.base.0 r.base.1, from_one_to-within 65535 h.hard r.hard.0 r.hard.1, from_one_to-within 64 h.seats r.seats.0 r.seats.1)
+    refl
+
+third-opens : (h : Header) → IsInRanges h → header_of (third_data h) ≡ Some (opened_by (record h { extent = Endless }))
+unfolding header_in
+third-opens h r =
+    rw (
+      from_one_to-within 8 h.levels r.levels.0 r.levels.1,
+      from_one_to-within 4294967294 h.last r.last.0 r.last.1,
+      from_one_to-within 65536 h.base r.base.0 r.base.1,
+      from_one_to-within 65535 h.hard r.hard.0 r.hard.1,
+      from_one_to-within 64 h.seats r.seats.0 r.seats.1,
+    )
+    refl
+
+-- the extent that is read of a header that was written
+read_extent : Bool → Extent
+read_extent true = Limited
+read_extent false = Endless
+
+usual-by : (extent : Extent) (last : ℕ) → (is_limited extent && (last == 1048576)) ≡ true → last ≡ 1048576
+usual-by Limited last e = eqb-true last 1048576 e
+usual-by Endless last e = absurd (cc)
+
+limited-by : (extent : Extent) (last : ℕ) → (is_limited extent && (last == 1048576)) ≡ true → extent ≡ Limited
+limited-by Limited last e = refl
+limited-by Endless last e = absurd (cc)
+
+-- what a header that was written opens
+header-opens : (b : Bool) (h : Header) → fits_second h ≡ b → IsInRanges h
+    → header_of (cond b (second_data h) (third_data h)) ≡ Some (record { market = opening_to h.base h.hard h.seats h.levels h.last; extent = read_extent b })
+unfolding read_extent
+header-opens true h e r = second-opens h r ∙ ap (λ n. Some (opened_by (record h { last = n; extent = Limited }))) (sym (usual-by h.extent h.last e))
+header-opens false h e r = third-opens h r
+
+-- and if that is limited, so was the header
+limit-kept : (b : Bool) (h : Header) → fits_second h ≡ b → read_extent b ≡ Limited → h.extent ≡ Limited
+unfolding read_extent
+limit-kept true h e same = limited-by h.extent h.last e
+limit-kept false h e same = absurd (cc)
 
 pub entry-reads : (levels seats : ℕ) (e : Entry) → e.call.seat < seats → reading levels (cmd_text levels e.call.cmd) ≡ Some e.call.cmd
     → entry_in seats levels (entry_data (cmd_text levels e.call.cmd) (reply_text e.reply) e.call.seat) ≡ Some (record { seat = e.call.seat; cmd = e.call.cmd; reply = reply_text e.reply })
@@ -185,36 +241,55 @@ all-of seats levels (e ∷ log) calls reads shorts = (
   all-of seats levels log (All-tail (IsCallOf seats) e log calls) (All-tail (IsReadBack levels) e log reads) (All-tail (IsShort levels) e log shorts),
 )
 
-header-short : (base hard levels seats : ℕ) → base ≤ 65536 → hard ≤ 65535 → levels ≤ 8 → seats ≤ 64 → length (header_line base hard levels seats) ≤ 65536
-header-short base hard levels seats b h l s =
-    let p = length-decimal-le 5 base (omega arith) (omega arith) (omega arith) in
-    let q = length-decimal-le 5 hard (omega arith) (omega arith) (omega arith) in
-    let r = length-decimal-le 5 levels (omega arith) (omega arith) (omega arith) in
-    let t = length-decimal-le 5 seats (omega arith) (omega arith) (omega arith) in
+second-short : (h : Header) → IsInRanges h → length (second_line h) ≤ 65536
+second-short h r =
+    let p = length-decimal-le 5 h.base (omega arith) (omega (arith, r.base.1)) (omega (arith, r.base.1)) in
+    let q = length-decimal-le 5 h.hard (omega arith) (omega (arith, r.hard.1)) (omega (arith, r.hard.1)) in
+    let s = length-decimal-le 5 h.levels (omega arith) (omega (arith, r.levels.1)) (omega (arith, r.levels.1)) in
+    let t = length-decimal-le 5 h.seats (omega arith) (omega (arith, r.seats.1)) (omega (arith, r.seats.1)) in
     let u = length-decimal-le 5 2 (omega arith) (omega arith) (omega arith) in
     simp length-append (omega arith)
 
+third-short : (h : Header) → IsInRanges h → length (third_line h) ≤ 65536
+third-short h r =
+    let p = length-decimal-le 5 h.base (omega arith) (omega (arith, r.base.1)) (omega (arith, r.base.1)) in
+    let q = length-decimal-le 5 h.hard (omega arith) (omega (arith, r.hard.1)) (omega (arith, r.hard.1)) in
+    let s = length-decimal-le 5 h.levels (omega arith) (omega (arith, r.levels.1)) (omega (arith, r.levels.1)) in
+    let t = length-decimal-le 5 h.seats (omega arith) (omega (arith, r.seats.1)) (omega (arith, r.seats.1)) in
+    let u = length-decimal-le 5 3 (omega arith) (omega arith) (omega arith) in
+    let v = length-decimal-le 10 h.last (omega arith) (omega (arith, r.last.1)) (omega (arith, r.last.1)) in
+    simp length-append (omega arith)
+
+-- what holds of both lines holds of the one that is written
+either-line : (P : List ℕ → Type 0) (b : Bool) (xs ys : List ℕ) → P xs → P ys → P (cond b xs ys)
+either-line P true xs ys p q = p
+either-line P false xs ys p q = q
+
 -- a journal that was written tells its history
-pub journal-told : (start : State) (log : List Entry) → IsOpening start → IsLegal start log → All (IsCallOf (length start.seats)) log → All (IsReadBack start.levels) log → All (IsShort start.levels) log
-    → json_of (header_line start.base start.hard start.levels (length start.seats)) ≡ Some (header_data start.base start.hard start.levels (length start.seats))
-    → ((cmd : Cmd) → Fits cmd → reading start.levels (cmd_text start.levels cmd) ≡ Some cmd) → length log ≤ most_entries → IsLegalJournal (journal_text start log) (length log)
-journal-told start log opened legal calls reads shorts header spells few =
+pub journal-told : (start : State) (extent : Extent) (log : List Entry) → IsOpening start → IsLegal start log → All (IsCallOf (length start.seats)) log → All (IsReadBack start.levels) log → All (IsShort start.levels) log
+    → json_of (header_line (header_for extent start)) ≡ Some (header_data (header_for extent start))
+    → ((cmd : Cmd) → Fits cmd → reading start.levels (cmd_text start.levels cmd) ≡ Some cmd) → (extent ≡ Limited → length log ≤ most_entries) → IsLegalJournal (journal_in extent start log) (length log)
+journal-told start extent log opened legal calls reads shorts header spells few =
     let seats : ℕ = length start.seats in
-    let line : List ℕ = header_line start.base start.hard start.levels seats in
+    let h : Header = header_for extent start in
+    let line : List ℕ = header_line h in
     let all = all-of seats start.levels log calls reads shorts in
-    let free = free-numbers start.base start.hard start.levels seats (omega (arith, opened.base.1)) (omega (arith, opened.hard.1)) (omega (arith, opened.levels.1)) (omega (arith, opened.seats.1)) in
-    let short = header-short start.base start.hard start.levels seats opened.base.1 opened.hard.1 opened.levels.1 opened.seats.1 in
+    let r : IsInRanges h = record { base = opened.base; hard = opened.hard; seats = opened.seats; levels = opened.levels; last = opened.last } in
+    let free = either-line (λ xs. lf_free xs ≡ true) (fits_second h) (second_line h) (third_line h) (free-second h r) (free-third h r) in
+    let short = either-line (λ xs. length xs ≤ 65536) (fits_second h) (second_line h) (third_line h) (second-short h r) (third-short h r) in
+    let told : Extent = read_extent (fits_second h) in
     record {
       start = start;
+      extent = told;
       history = log;
       reads = record {
         header = record { bytes = line; form = Whole };
         lines = map (entry_line_of start.levels) log;
         are = lines-first line (entry_lines start.levels log) free short ∙ ap (λ (ls : List Line). record { bytes = line; form = Whole } ∷ ls) (lines-entries start.levels seats log (omega (arith, opened.seats.1)) all);
-        opens = ap (option_and_then header_of) header ∙ header-opens start.base start.hard start.levels seats opened.base opened.hard opened.levels opened.seats ∙ ap Some (sym opened.same);
+        opens = ap (option_and_then header_of) header ∙ header-opens (fits_second h) h refl r ∙ ap (λ (s : State). Some (record { market = s; extent = told })) (sym opened.same);
         entries = lines-read start.levels seats log spells all;
       };
       legal = legal;
       count = refl;
-      few = few;
+      few = λ limited. few (limit-kept (fits_second h) h refl limited);
     }

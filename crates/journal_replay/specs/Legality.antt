@@ -5,12 +5,14 @@ use Rattle.market_types.specs.State.{State}
 use Rattle.market_types.specs.History.{IsLegal}
 use Rattle.market_types.specs.Texts.{reply_text}
 use Rattle.line_engine.specs.Lines.{Line, lines_of}
+use Rattle.journal_replay.specs.declared.header.Extent.{Extent}
+use Rattle.journal_replay.specs.declared.header.Extent.TheVariants.{Limited}
 use Rattle.journal_replay.specs.Reading.{header_of, entry_in}
 use Rattle.journal_replay.specs.Verdicts.{json_by, longest_line, most_entries}
 
--- the line reads as a header that opens this market
-abbrev pub IsHeaderLine : State → Line → Type 0
-IsHeaderLine start line = option_and_then header_of (json_by line.form line.bytes) ≡ Some start
+-- the line reads as a header that opens this market, of a journal that may have so many entries
+abbrev pub IsHeaderLine : State → Extent → Line → Type 0
+IsHeaderLine start extent line = option_and_then header_of (json_by line.form line.bytes) ≡ Some (record { market = start; extent = extent })
 
 -- in a market of so many seats and levels the line reads as this entry: its call, and the text of its reply
 abbrev pub IsEntryLine : ℕ → ℕ → Line → Entry → Type 0
@@ -25,18 +27,19 @@ AreEntryLines seats levels (line ∷ lines) (e ∷ history) = IsEntryLine seats 
 AreEntryLines seats levels _ _ = ⊥
 
 -- the text reads as a header that opens this market, and the entries of this history
-pub record Reads (text : List ℕ) (start : State) (history : List Entry) : Type 0 where
+pub record Reads (text : List ℕ) (start : State) (extent : Extent) (history : List Entry) : Type 0 where
   pub header : Line
   pub lines : List Line
   pub are : lines_of longest_line text ≡ header ∷ lines
-  pub opens : IsHeaderLine start header
+  pub opens : IsHeaderLine start extent header
   pub entries : AreEntryLines (length start.seats) start.levels lines history
 
--- the text reads as a header and a legal history of so many entries, which are not too many
+-- the text reads as a header and a legal history of so many entries, which are not too many where they are limited
 pub record IsLegalJournal (text : List ℕ) (entries : ℕ) : Type 0 where
   pub start : State
+  pub extent : Extent
   pub history : List Entry
-  pub reads : Reads text start history
+  pub reads : Reads text start extent history
   pub legal : IsLegal start history
   pub count : length history ≡ entries
-  pub few : entries ≤ most_entries
+  pub few : extent ≡ Limited → entries ≤ most_entries

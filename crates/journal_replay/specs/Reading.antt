@@ -5,8 +5,14 @@ use Rattle.serde_json.specs.Data.{Data, Members, no_members, member}
 use Rattle.serde_json.specs.Find.{get, as_str, as_number, as_u64, as_object}
 use Rattle.serde_json.specs.Read.{read}
 use Rattle.market_types.specs.declared.command.Cmd.{Cmd}
-use Rattle.market_types.specs.State.{State, opening}
+use Rattle.market_types.specs.State.{usual_last, opening_to}
 use Rattle.market_types.specs.Reading.{reading, in_seats}
+use Rattle.journal_replay.specs.declared.header.Extent.{Extent}
+use Rattle.journal_replay.specs.declared.header.Extent.TheVariants.{Limited, Endless}
+use Rattle.journal_replay.specs.declared.header.Header.{Header}
+use Rattle.journal_replay.specs.declared.reading.Version.{Version}
+use Rattle.journal_replay.specs.declared.reading.Version.TheVariants.{First, Second, Third}
+use Rattle.journal_replay.specs.declared.reading.Opened.{Opened}
 
 -- ---- JSON
 
@@ -43,28 +49,63 @@ number_at key most d = option_and_then (from_one_to most) (whole_at key d)
 
 -- ---- the header
 
--- the levels by the version: version 1 has four keys and three levels, version 2 has a key more, which tells them
-abbrev pub levels_in : Data → ℕ → Option ℕ
-levels_in d version =
-    if version == 1 && (member_count d == 4) then Some 3
-    else if version == 2 && (member_count d == 5) then number_at (codes "levels") 8 d
+-- the version that a number and a count of keys tell together
+abbrev pub version_by : ℕ → ℕ → Option Version
+version_by keys number =
+    if number == 1 && (keys == 4) then Some First
+    else if number == 2 && (keys == 5) then Some Second
+    else if number == 3 && (keys == 6) then Some Third
     else None
 
-abbrev pub levels_of : Data → Option ℕ
-levels_of d = option_and_then (levels_in d) (number_at (codes "journal") 2 d)
+abbrev pub version_of : Data → Option Version
+version_of d = option_and_then (version_by (member_count d)) (number_at (codes "journal") 3 d)
 
-abbrev pub with_hard : Data → ℕ → ℕ → ℕ → Option State
-with_hard d levels base hard = option_map (λ seats. opening base hard seats levels) (number_at (codes "seats") 64 d)
+-- how many levels the market has: version 1 tells none, and they are three
+abbrev pub levels_in : Data → Version → Option ℕ
+levels_in d First = Some 3
+levels_in d Second = number_at (codes "levels") 8 d
+levels_in d Third = number_at (codes "levels") 8 d
 
-abbrev pub with_base : Data → ℕ → ℕ → Option State
-with_base d levels base = option_and_then (with_hard d levels base) (number_at (codes "hard") 65535 d)
+-- the market's last number: version 3 tells it, and before that it is the usual one
+abbrev pub last_in : Data → Version → Option ℕ
+last_in d First = Some usual_last
+last_in d Second = Some usual_last
+last_in d Third = number_at (codes "last") 4294967294 d
 
-abbrev pub with_levels : Data → ℕ → Option State
-with_levels d levels = option_and_then (with_base d levels) (number_at (codes "base") 65536 d)
+-- how many entries the journal may have: in version 3 any number
+abbrev pub extent_of : Version → Extent
+extent_of First = Limited
+extent_of Second = Limited
+extent_of Third = Endless
 
--- the market that a header opens: it has exactly the keys of its version, with numbers in their ranges
-unfoldable pub header_of : Data → Option State
-header_of d = option_and_then (with_levels d) (levels_of d)
+abbrev pub with_hard : Data → Version → ℕ → ℕ → ℕ → ℕ → Option Header
+with_hard d version levels last base hard =
+    option_map (λ seats. record { base = base; hard = hard; seats = seats; levels = levels; last = last; extent = extent_of version })
+    (number_at (codes "seats") 64 d)
+
+abbrev pub with_base : Data → Version → ℕ → ℕ → ℕ → Option Header
+with_base d version levels last base = option_and_then (with_hard d version levels last base) (number_at (codes "hard") 65535 d)
+
+abbrev pub with_last : Data → Version → ℕ → ℕ → Option Header
+with_last d version levels last = option_and_then (with_base d version levels last) (number_at (codes "base") 65536 d)
+
+abbrev pub with_levels : Data → Version → ℕ → Option Header
+with_levels d version levels = option_and_then (with_last d version levels) (last_in d version)
+
+abbrev pub with_version : Data → Version → Option Header
+with_version d version = option_and_then (with_levels d version) (levels_in d version)
+
+-- what a header tells: it has exactly the keys of its version, with numbers in their ranges
+unfoldable pub header_in : Data → Option Header
+header_in d = option_and_then (with_version d) (version_of d)
+
+-- what is opened with these numbers
+abbrev pub opened_by : Header → Opened
+opened_by h = record { market = opening_to h.base h.hard h.seats h.levels h.last; extent = h.extent }
+
+-- the market that a header opens, and how many entries its journal may have
+abbrev pub header_of : Data → Option Opened
+header_of d = option_map opened_by (header_in d)
 
 -- ---- an entry
 

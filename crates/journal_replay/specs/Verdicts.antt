@@ -15,6 +15,9 @@ use Rattle.line_engine.specs.declared.form.LineForm.{LineForm}
 use Rattle.line_engine.specs.declared.form.LineForm.TheVariants.{Whole, WithoutLf, TooLong}
 use Rattle.journal_replay.specs.declared.checker.Progress.{Progress}
 use Rattle.journal_replay.specs.declared.checker.Progress.TheVariants.{Unopened, Replaying, Faulty}
+use Rattle.journal_replay.specs.declared.header.Extent.{Extent}
+use Rattle.journal_replay.specs.declared.header.Extent.TheVariants.{Limited, Endless}
+use Rattle.journal_replay.specs.declared.reading.Opened.{Opened}
 use Rattle.journal_replay.specs.declared.verdict.Verdict.{Verdict}
 use Rattle.journal_replay.specs.declared.verdict.Verdict.TheVariants.{Legal, BadHeader, BadJson, BadRecord, WrongReply}
 use Rattle.journal_replay.specs.Reading.{json_of, header_of, Recorded, entry_in}
@@ -23,7 +26,7 @@ use Rattle.journal_replay.specs.Reading.{json_of, header_of, Recorded, entry_in}
 abbrev pub longest_line : ℕ
 longest_line = 65536
 
--- the most entries of a journal
+-- the most entries of a journal that is limited
 abbrev pub most_entries : ℕ
 most_entries = 1048576
 
@@ -35,35 +38,39 @@ json_by TooLong bytes = None
 
 -- ---- one line more: the header is line 1, and after n entries the next line is line n + 2
 
-abbrev pub after_header : Option State → Progress
-after_header None = Faulty BadHeader
-after_header (Some market) = Replaying market 0
+abbrev pub after_header : Option Opened → Progress
+after_header None = Faulty BadHeader Limited
+after_header (Some o) = Replaying o.market 0 o.extent
 
 -- an entry with this reply, where that one is due
-abbrev pub after_reply : ℕ → List ℕ → Reply × State → Progress
-after_reply entries reply due =
-    if bytes_eq (reply_text due.0) reply then Replaying due.1 (entries + 1)
-    else Faulty (WrongReply (entries + 2) (reply_text due.0))
+abbrev pub after_reply : ℕ → Extent → List ℕ → Reply × State → Progress
+after_reply entries extent reply due =
+    if bytes_eq (reply_text due.0) reply then Replaying due.1 (entries + 1) extent
+    else Faulty (WrongReply (entries + 2) (reply_text due.0)) extent
 
-abbrev pub after_entry : State → ℕ → Option Recorded → Progress
-after_entry market entries None = Faulty (BadRecord (entries + 2))
-after_entry market entries (Some e) = after_reply entries e.reply (step market e.seat e.cmd)
+abbrev pub after_entry : State → ℕ → Extent → Option Recorded → Progress
+after_entry market entries extent None = Faulty (BadRecord (entries + 2)) extent
+after_entry market entries extent (Some e) = after_reply entries extent e.reply (step market e.seat e.cmd)
 
--- a journal has no more than the most entries
-abbrev pub after_record : State → ℕ → Data → Progress
-after_record market entries d =
-    if nat_le most_entries entries then Faulty (BadRecord (entries + 2))
-    else after_entry market entries (entry_in (length market.seats) market.levels d)
+-- no entry may follow so many
+abbrev pub is_full : Extent → ℕ → Bool
+is_full Limited entries = nat_le most_entries entries
+is_full Endless entries = false
 
-abbrev pub after_json : State → ℕ → Option Data → Progress
-after_json market entries None = Faulty (BadJson (entries + 2))
-after_json market entries (Some d) = after_record market entries d
+abbrev pub after_record : State → ℕ → Extent → Data → Progress
+after_record market entries extent d =
+    if is_full extent entries then Faulty (BadRecord (entries + 2)) extent
+    else after_entry market entries extent (entry_in (length market.seats) market.levels d)
+
+abbrev pub after_json : State → ℕ → Extent → Option Data → Progress
+after_json market entries extent None = Faulty (BadJson (entries + 2)) extent
+after_json market entries extent (Some d) = after_record market entries extent d
 
 -- the first fault stays
 abbrev pub after_line : Progress → Line → Progress
 after_line Unopened line = after_header (option_and_then header_of (json_by line.form line.bytes))
-after_line (Replaying market entries) line = after_json market entries (json_by line.form line.bytes)
-after_line (Faulty verdict) line = Faulty verdict
+after_line (Replaying market entries extent) line = after_json market entries extent (json_by line.form line.bytes)
+after_line (Faulty verdict extent) line = Faulty verdict extent
 
 -- a journal's lines are answered by nothing
 abbrev pub journal_rule : LineRule Progress
@@ -74,8 +81,8 @@ journal_rule = record { reply = λ _ _. []; next = after_line }
 -- what is found at the end
 abbrev pub verdict_of : Progress → Verdict
 verdict_of Unopened = BadHeader
-verdict_of (Replaying market entries) = Legal entries
-verdict_of (Faulty verdict) = verdict
+verdict_of (Replaying market entries extent) = Legal entries
+verdict_of (Faulty verdict extent) = verdict
 
 -- the verdict of a text
 abbrev pub verdict : List ℕ → Verdict
@@ -97,5 +104,5 @@ pub record StopsReading {F : Type 0} (left left' : Option (List ℕ)) (source_fa
 -- how many lines of a legal journal were taken
 abbrev pub lines_taken : Progress → ℕ
 lines_taken Unopened = 0
-lines_taken (Replaying market entries) = entries + 1
-lines_taken (Faulty verdict) = 0
+lines_taken (Replaying market entries extent) = entries + 1
+lines_taken (Faulty verdict extent) = 0

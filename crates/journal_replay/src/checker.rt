@@ -5,7 +5,8 @@ ghost use Rattle.serde_json.specs.View.{view};
 ghost use Rattle.journal_replay.specs.Verdicts.{Finds, StopsReading, after_header, after_line, after_record, json_by, lines_taken, verdict, verdict_of};
 ghost use Rattle.journal_replay.specs.Reading.{header_of};
 
-use crate::reading::{open_market, read_entry, read_json};
+use crate::header::Extent;
+use crate::reading::{Opened, open_market, read_entry, read_json};
 use crate::verdict::{DueReply, Verdict};
 use byte_devices::Source;
 use line_engine::{InputFault, LineForm, LineTaker, Nowhere, take_lines, take_text};
@@ -15,18 +16,15 @@ use serde_json::Value;
 use std::alloc::{AllocError, Global};
 use std::mem;
 
-/// The most entries of a journal.
-const MOST_ENTRIES: u64 = 1_048_576;
-
 /// How far a journal is found legal.
 #[derive(Drop)]
 pub(crate) enum Progress {
     /// No line was taken.
     Unopened,
-    /// The market after so many entries.
-    Replaying(Market, u64),
-    /// What was found at the first faulty line.
-    Faulty(Verdict),
+    /// The market after so many entries, of so many that the journal may have.
+    Replaying(Market, u64, Extent),
+    /// What was found at the first faulty line, and how many entries the journal may have.
+    Faulty(Verdict, Extent),
 }
 
 /// What a line is as JSON, if it is any and is whole.
@@ -45,12 +43,12 @@ impl Progress {
         ensures { IfOk result (λ progress. progress ≡ after_header (option_and_then header_of (option_map view value))) }
     {
         let Some(value) = value else {
-            return Ok(Progress::Faulty(Verdict::BadHeader));
+            return Ok(Progress::Faulty(Verdict::BadHeader, Extent::Limited));
         };
-        let Some(market) = open_market(alloc, &value)? else {
-            return Ok(Progress::Faulty(Verdict::BadHeader));
+        let Some(Opened { market, extent }) = open_market(alloc, &value)? else {
+            return Ok(Progress::Faulty(Verdict::BadHeader, Extent::Limited));
         };
-        Ok(Progress::Replaying(market, 0))
+        Ok(Progress::Replaying(market, 0, extent))
     }
 
     /// After a line that is JSON, behind so many entries.
@@ -58,25 +56,26 @@ impl Progress {
         alloc: Global,
         mut market: Market,
         entries: u64,
+        extent: Extent,
         value: &Value,
     ) -> Result<Progress, AllocError>
         requires few { entries + 2 < 2 ^ 64 }
-        ensures { IfOk result (λ progress. progress ≡ after_record market entries (view value.now)) }
+        ensures { IfOk result (λ progress. progress ≡ after_record market entries extent (view value.now)) }
     {
         let bad_record = Verdict::BadRecord(entries + 2);
-        if entries >= MOST_ENTRIES {
-            return Ok(Progress::Faulty(bad_record));
+        if extent.is_full(entries) {
+            return Ok(Progress::Faulty(bad_record, extent));
         }
         let Some(entry) = read_entry(value, market.seats(), market.levels()) else {
-            return Ok(Progress::Faulty(bad_record));
+            return Ok(Progress::Faulty(bad_record, extent));
         };
         let reply = market.apply(alloc, entry.seat, entry.cmd)?;
         let due = reply_text(alloc, &reply)?;
         if due.as_str() != entry.reply {
             let wrong_reply = Verdict::WrongReply(entries + 2, DueReply::new(due));
-            return Ok(Progress::Faulty(wrong_reply));
+            return Ok(Progress::Faulty(wrong_reply, extent));
         }
-        Ok(Progress::Replaying(market, entries + 1))
+        Ok(Progress::Replaying(market, entries + 1, extent))
     }
 
     /// After one line more.
@@ -94,11 +93,11 @@ impl Progress {
                 let value = read_line(alloc, line, form)?;
                 Progress::after_header(alloc, value)
             }
-            Progress::Replaying(market, entries) => match read_line(alloc, line, form)? {
-                Some(value) => Progress::after_record(alloc, market, entries, &value),
-                None => Ok(Progress::Faulty(Verdict::BadJson(entries + 2))),
+            Progress::Replaying(market, entries, extent) => match read_line(alloc, line, form)? {
+                Some(value) => Progress::after_record(alloc, market, entries, extent, &value),
+                None => Ok(Progress::Faulty(Verdict::BadJson(entries + 2), extent)),
             },
-            Progress::Faulty(verdict) => Ok(Progress::Faulty(verdict)),
+            Progress::Faulty(verdict, extent) => Ok(Progress::Faulty(verdict, extent)),
         }
     }
 
@@ -108,8 +107,8 @@ impl Progress {
     {
         match self {
             Progress::Unopened => Verdict::BadHeader,
-            Progress::Replaying(_market, entries) => Verdict::Legal(entries),
-            Progress::Faulty(verdict) => verdict,
+            Progress::Replaying(_market, entries, _extent) => Verdict::Legal(entries),
+            Progress::Faulty(verdict, _extent) => verdict,
         }
     }
 }
@@ -167,8 +166,8 @@ impl LineTaker for Checker {
 }
 
 /// What is found of a journal's text, of whatever length: whether its calls, replayed on a new market, get the replies
-/// that it tells, as `Legal` with the number of entries, or the first line at which they don't. Journals of version 1, which
-/// have three levels and tell none, are read too. What a line is as JSON is serde_json's reading of it, so that other spacing
+/// that it tells, as `Legal` with the number of entries, or the first line at which they don't. Journals of versions 1, 2 and 3
+/// are read; those of version 3 alone may have more than 1,048,576 entries. What a line is as JSON is serde_json's reading of it, so that other spacing
 /// and another order of keys are accepted. It asks for no free places. It takes the memory of the market, of a line and of
 /// its replies; out of memory is the `Err`.
 pub fn check(alloc: Global, text: &[u8]) -> Result<Verdict, AllocError>

@@ -8,8 +8,9 @@ ghost use Rattle.journal_replay.specs.Journal.{entry_lines, header_line, journal
 ghost use Rattle.journal_replay.specs.Written.{IsReadBack};
 ghost use Rattle.journal_replay.specs.Verdicts.{most_entries, verdict};
 
+use crate::header::{Extent, Header};
 use crate::law::{legal_journals_tell_legal_histories, written_lines_are_short};
-use crate::line::{Texts, entry_line, header_line, numbers_line};
+use crate::line::{Texts, entry_line, header_line};
 use crate::verdict::Verdict;
 use byte_devices::{OutFault, Sink, put_all};
 use edit_history::{Chronicle, Part};
@@ -85,31 +86,18 @@ fn write_entries<W: Sink>(
     write_lines(alloc, levels, chronicle.kept(), waiting, sink)
 }
 
-/// Writes the header of a journal, for a market that was opened with these numbers. Behind it come the parts of its history, by
-/// `write_part`. At the first write that fails it is `Write`, and out of memory is `Memory`; what was written is then a prefix
-/// of the header.
-pub fn write_header<W: Sink>(
-    alloc: Global,
-    base: u32,
-    hard: u32,
-    seats: u8,
-    levels: u32,
-    sink: &mut W,
-) -> Result<(), OutFault>
+/// Writes the header of a journal. It is of version 2 where that tells all of it, else of version 3: where the last number is
+/// not the usual one, or the journal may have any number of entries. Behind it come the parts of the history, by `write_part`.
+/// At the first write that fails it is `Write`, and out of memory is `Memory`; what was written is then a prefix of the header.
+pub fn write_header<W: Sink>(alloc: Global, header: Header, sink: &mut W) -> Result<(), OutFault>
     requires working { W.failed sink.old ≡ false }
-    ensures all { OnOk result (Appends (W.taken sink.old) (W.taken sink.new) (header_line base hard levels seats ++ codes "\n")) }
+    ensures all { OnOk result (Appends (W.taken sink.old) (W.taken sink.new) (header_line header ++ codes "\n")) }
     ensures working { OnOk result (W.failed sink.new ≡ false) }
-    ensures prefix { OnErr result (WritesFront (W.taken sink.old) (W.taken sink.new) (header_line base hard levels seats ++ codes "\n")) }
+    ensures prefix { OnErr result (WritesFront (W.taken sink.old) (W.taken sink.new) (header_line header ++ codes "\n")) }
     ensures cause { IfErr result (λ fault. IsOutFault fault (W.failed sink.new)) }
 {
     let mut waiting = Vec::new(alloc);
-    let line = numbers_line(
-        alloc,
-        u64::from(base),
-        u64::from(hard),
-        u64::from(levels),
-        u64::from(seats),
-    )?;
+    let line = header_line(alloc, &header)?;
     push_line(&mut waiting, &line)?;
     put_all(sink, &waiting)?;
     Ok(())
@@ -139,7 +127,7 @@ pub fn write_part<W: Sink>(
 /// Writes the journal of a chronicle: a line for its opening, and one for each call with its reply. At the first write that
 /// fails it is `Write`, and out of memory is `Memory`; what was written is then a prefix of the journal. It is written in
 /// pieces of some 65,536 bytes, and takes the memory of one piece. The journal is found legal, with as many entries as the
-/// chronicle has.
+/// chronicle has. It is of version 2 where the market's last number is the usual one, else of version 3.
 pub fn write_journal<W: Sink>(
     alloc: Global,
     chronicle: &Chronicle,
@@ -157,8 +145,9 @@ pub fn write_journal<W: Sink>(
     legal_journals_tell_legal_histories();
     written_lines_are_short();
     let mut waiting = Vec::new(alloc);
-    let header = header_line(alloc, chronicle.market())?;
-    push_line(&mut waiting, &header)?;
+    let header = Header::of(chronicle.market(), Extent::Limited);
+    let line = header_line(alloc, &header)?;
+    push_line(&mut waiting, &line)?;
     write_entries(alloc, chronicle, &mut waiting, sink)?;
     put_all(sink, &waiting)?;
     Ok(())

@@ -1,5 +1,5 @@
 //! What is true of all journals. These functions do nothing: what they ensure holds wherever they are called.
-ghost use Rattle.std.specs.Prelude.{◌≡◌, ◌++◌, ℕ, List, codes, length};
+ghost use Rattle.std.specs.Prelude.{◌≡◌, ◌++◌, ℕ, List, codes};
 ghost use Rattle.std.specs.List.{All};
 ghost use Rattle.market_types.specs.declared.reply.Entry.{Entry};
 ghost use Rattle.market_types.specs.State.{State};
@@ -7,7 +7,8 @@ ghost use Rattle.market_types.specs.History.{IsLegal};
 ghost use Rattle.edit_history.specs.Chronicled.{IsOpening};
 ghost use Rattle.edit_history.specs.Parts.{AreInARow};
 ghost use Rattle.edit_history.specs.declared.part.Part.{Part};
-ghost use Rattle.journal_replay.specs.Journal.{header_line, journal_text, part_lines};
+ghost use Rattle.journal_replay.specs.Journal.{header_for, header_line, journal_in, part_lines};
+ghost use Rattle.journal_replay.specs.declared.header.Extent.{Extent};
 ghost use Rattle.journal_replay.specs.Legality.{IsLegalJournal};
 ghost use Rattle.journal_replay.specs.Verdicts.{verdict};
 ghost use Rattle.journal_replay.specs.Written.{IsShort};
@@ -15,8 +16,8 @@ ghost use Rattle.journal_replay.specs.declared.verdict.Verdict.TheVariants.{Lega
 
 use edit_history::parts_in_a_row_are_the_history;
 
-/// A text is found legal exactly where it reads as a header and a legal history, of at most 1,048,576 entries; so many are
-/// found.
+/// A text is found legal exactly where it reads as a header and a legal history, of at most 1,048,576 entries where the header
+/// limits them; so many are found.
 pub fn legal_journals_tell_legal_histories()
     ensures found { (text : List ℕ) (entries : ℕ) → verdict text ≡ Legal entries → IsLegalJournal text entries }
     ensures legal { (text : List ℕ) (entries : ℕ) → IsLegalJournal text entries → verdict text ≡ Legal entries }
@@ -28,11 +29,11 @@ pub fn written_lines_are_short()
     ensures { (start : State) (history : List Entry) → IsOpening start → IsLegal start history → All (IsShort start.levels) history }
 {}
 
-/// The header of a journal, and behind it the lines of parts that are the history one after the other, are the journal of the
-/// history.
+/// The header of a journal, limited or endless, and behind it the lines of parts that are the history one after the other, are
+/// the journal of the history.
 pub fn header_and_parts_are_the_journal()
-    ensures { (start : State) (history : List Entry) (parts : List Part) → AreInARow 0 parts history
-        → (header_line start.base start.hard start.levels (length start.seats) ++ codes "\n") ++ part_lines start.levels parts ≡ journal_text start history }
+    ensures { (extent : Extent) (start : State) (history : List Entry) (parts : List Part) → AreInARow 0 parts history
+        → (header_line (header_for extent start) ++ codes "\n") ++ part_lines start.levels parts ≡ journal_in extent start history }
 {
     parts_in_a_row_are_the_history();
 }

@@ -7,6 +7,7 @@
 #![tactic(auto)]
 
 mod checker;
+mod header;
 mod journal;
 mod law;
 mod line;
@@ -15,6 +16,7 @@ mod verdict;
 
 pub use byte_devices::OutFault;
 pub use checker::{check, check_source};
+pub use header::{Extent, Header};
 pub use journal::{write_header, write_journal, write_part};
 pub use law::{
     header_and_parts_are_the_journal, legal_journals_tell_legal_histories, written_lines_are_short,

@@ -1,55 +1,66 @@
 //! The lines of a journal, without their LF.
-ghost use Rattle.std.specs.Prelude.{◌≡◌, Some, IfOk, IsUtf8, length};
+ghost use Rattle.std.specs.Prelude.{◌≡◌, Some, IfOk, IsUtf8};
 ghost use Rattle.serde_json.specs.Read.{read};
 ghost use Rattle.serde_json.specs.View.{view};
-ghost use Rattle.journal_replay.specs.Journal.{entry_data, entry_line, fields_line, header_data, header_line};
+ghost use Rattle.journal_replay.specs.Journal.{entry_data, entry_line, fields_line, header_data, header_line, second_data, second_line, third_data, third_line};
 ghost use Rattle.journal_replay.specs.Reading.{json_of};
 ghost use Rattle.journal_replay.specs.Written.{IsReadBack};
 
+use crate::header::Header;
 use json::Writer;
-use market_core::Market;
 use market_types::{Entry, push_cmd, push_reply};
 use serde_json::{Value, json};
 use std::alloc::{AllocError, Global};
 use std::str;
 
-/// The line of an opening.
-pub(crate) fn header_line(alloc: Global, market: &Market) -> Result<Vec<u8>, AllocError>
-    ensures text { IfOk result (λ line. line.items ≡ header_line market.now.base market.now.hard market.now.levels (length market.now.seats)) }
+/// The line of a header. It is of version 3 only where version 2 doesn't tell all of it.
+pub(crate) fn header_line(alloc: Global, header: &Header) -> Result<Vec<u8>, AllocError>
+    ensures text { IfOk result (λ line. line.items ≡ header_line header.now) }
     ensures utf8 { IfOk result (λ line. IsUtf8 line.items) }
-    ensures reads_back { IfOk result (λ line. read line.items ≡ Some (header_data market.now.base market.now.hard market.now.levels (length market.now.seats))) }
+    ensures reads_back { IfOk result (λ line. read line.items ≡ Some (header_data header.now)) }
 {
-    let (base, hard) = (u64::from(market.base()), u64::from(market.hard()));
-    let (levels, seats) = (u64::from(market.levels()), u64::from(market.seats()));
-    numbers_line(alloc, base, hard, levels, seats)
+    if header.fits_second() {
+        second_line(alloc, header)
+    } else {
+        third_line(alloc, header)
+    }
 }
 
-/// The line of these numbers of an opening.
-pub(crate) fn numbers_line(
-    alloc: Global,
-    base: u64,
-    hard: u64,
-    levels: u64,
-    seats: u64,
-) -> Result<Vec<u8>, AllocError>
-    ensures text { IfOk result (λ line. line.items ≡ header_line base hard levels seats) }
+/// The line of a header in version 2.
+fn second_line(alloc: Global, header: &Header) -> Result<Vec<u8>, AllocError>
+    ensures text { IfOk result (λ line. line.items ≡ second_line header.now) }
     ensures utf8 { IfOk result (λ line. IsUtf8 line.items) }
-    ensures reads_back { IfOk result (λ line. read line.items ≡ Some (header_data base hard levels seats)) }
+    ensures reads_back { IfOk result (λ line. read line.items ≡ Some (second_data header.now)) }
 {
-    header_value(alloc, base, hard, levels, seats)?.to_vec(alloc)
+    second_value(alloc, header)?.to_vec(alloc)
 }
 
-/// What an opening is as JSON.
-fn header_value(
-    alloc: Global,
-    base: u64,
-    hard: u64,
-    levels: u64,
-    seats: u64,
-) -> Result<Value, AllocError>
-    ensures { IfOk result (λ value. view value ≡ header_data base hard levels seats) }
+/// The line of a header in version 3.
+fn third_line(alloc: Global, header: &Header) -> Result<Vec<u8>, AllocError>
+    ensures text { IfOk result (λ line. line.items ≡ third_line header.now) }
+    ensures utf8 { IfOk result (λ line. IsUtf8 line.items) }
+    ensures reads_back { IfOk result (λ line. read line.items ≡ Some (third_data header.now)) }
 {
+    third_value(alloc, header)?.to_vec(alloc)
+}
+
+/// What a header in version 2 is as JSON.
+fn second_value(alloc: Global, header: &Header) -> Result<Value, AllocError>
+    ensures { IfOk result (λ value. view value ≡ second_data header.now) }
+{
+    let (base, hard) = (u64::from(header.base), u64::from(header.hard));
+    let (levels, seats) = (u64::from(header.levels), u64::from(header.seats));
     json!(in alloc; {"base": base, "hard": hard, "journal": 2u64, "levels": levels, "seats": seats})
+}
+
+/// What a header in version 3 is as JSON.
+fn third_value(alloc: Global, header: &Header) -> Result<Value, AllocError>
+    ensures { IfOk result (λ value. view value ≡ third_data header.now) }
+{
+    let (base, hard) = (u64::from(header.base), u64::from(header.hard));
+    let (levels, seats) = (u64::from(header.levels), u64::from(header.seats));
+    let last = u64::from(header.last.get());
+    json!(in alloc; {"base": base, "hard": hard, "journal": 3u64, "last": last, "levels": levels, "seats": seats})
 }
 
 /// Room for the two texts of an entry, which is used again for each.

@@ -1,11 +1,11 @@
 //! The lines of a journal, read.
 ghost use Rattle.std.specs.Prelude.{◌≡◌, ◌<◌, ◌≤◌, IfOk, IfSome, option_map};
 ghost use Rattle.serde_json.specs.View.{view};
-ghost use Rattle.market_types.specs.State.{opening};
-ghost use Rattle.journal_replay.specs.Reading.{entry_in, header_of, json_of, levels_of, member_count, number_at, seat_in, text_at, whole_at};
+ghost use Rattle.journal_replay.specs.Reading.{entry_in, extent_of, header_in, header_of, json_of, last_in, levels_in, member_count, number_at, seat_in, text_at, version_of, whole_at};
 
+use crate::header::{Extent, Header};
 use market_core::Market;
-use market_types::{Cmd, SeatNo, read_cmd};
+use market_types::{Cmd, LastNumber, SeatNo, read_cmd};
 use serde_json::Value;
 use std::alloc::{AllocError, Global};
 
@@ -54,7 +54,7 @@ fn whole_at(value: &Value, key: &str) -> Option<u64>
 /// The whole number from 1 to `most` at a key.
 fn number_at(value: &Value, key: &str, most: u32) -> Option<u32>
     ensures exact { result ≡ number_at key.now most (view value.now) }
-    ensures within { IfSome result (λ n. n ≤ most) }
+    ensures within { IfSome result (λ n. (1 ≤ n) × (n ≤ most)) }
 {
     let number = whole_at(value, key)?;
     if number == 0 || number > u64::from(most) {
@@ -63,56 +63,105 @@ fn number_at(value: &Value, key: &str, most: u32) -> Option<u32>
     Some(number as u32)
 }
 
-/// What a market is opened with.
+/// A form of a journal's header.
 #[derive(Clone, Copy)]
-pub(crate) struct Header {
-    pub base: u32,
-    pub hard: u32,
-    pub seats: u8,
-    pub levels: u32,
+pub(crate) enum Version {
+    /// Version 1.
+    First,
+    /// Version 2.
+    Second,
+    /// Version 3.
+    Third,
 }
 
-/// How many levels a header's market has. One of version 1 has three, one of version 2 tells it by a key more.
-fn levels_of(value: &Value) -> Option<u32>
-    ensures { result ≡ levels_of (view value.now) }
+/// The version of a header, by its number and how many keys it has.
+fn version_of(value: &Value) -> Option<Version>
+    ensures { result ≡ version_of (view value.now) }
 {
-    match (number_at(value, "journal", 2)?, member_count(value)) {
-        (1, 4) => Some(3),
-        (2, 5) => number_at(value, "levels", 8),
+    match (number_at(value, "journal", 3)?, member_count(value)) {
+        (1, 4) => Some(Version::First),
+        (2, 5) => Some(Version::Second),
+        (3, 6) => Some(Version::Third),
         _ => None,
     }
 }
 
+impl Version {
+    /// How many levels the market of a header has. Version 1 tells none, and they are three.
+    fn levels_in(self, value: &Value) -> Option<u32>
+        ensures { result ≡ levels_in (view value.now) self }
+    {
+        match self {
+            Version::First => Some(3),
+            Version::Second | Version::Third => number_at(value, "levels", 8),
+        }
+    }
+
+    /// The last number of a header's market. Version 3 tells it, and before that it is the usual one.
+    fn last_in(self, value: &Value) -> Option<LastNumber>
+        ensures { result ≡ last_in (view value.now) self }
+    {
+        match self {
+            Version::First | Version::Second => Some(LastNumber::USUAL),
+            Version::Third => LastNumber::new(number_at(value, "last", 4_294_967_294)?),
+        }
+    }
+
+    /// How many entries a journal may have. In version 3 it is any number.
+    fn extent(self) -> Extent
+        ensures { result ≡ extent_of self }
+    {
+        match self {
+            Version::First | Version::Second => Extent::Limited,
+            Version::Third => Extent::Endless,
+        }
+    }
+}
+
 /// The header that a value is, if it is one.
-#[tactic(auto, unfolding(crate::specs::Reading::header_of))]
-pub(crate) fn read_header(value: &Value) -> Option<Header>
-    ensures { option_map (λ h. opening h.base h.hard h.seats h.levels) result ≡ header_of (view value.now) }
+#[tactic(auto, unfolding(crate::specs::Reading::header_in))]
+fn read_header(value: &Value) -> Option<Header>
+    ensures { result ≡ header_in (view value.now) }
 {
-    let levels = levels_of(value)?;
+    let version = version_of(value)?;
+    let levels = version.levels_in(value)?;
+    let last = version.last_in(value)?;
     let base = number_at(value, "base", 65_536)?;
     let hard = number_at(value, "hard", 65_535)?;
     let seats = number_at(value, "seats", 64)? as u8;
+    let extent = version.extent();
     Some(Header {
         base,
         hard,
         seats,
         levels,
+        last,
+        extent,
     })
 }
 
-/// The market that a value opens as a header, if it is one.
-pub(crate) fn open_market(alloc: Global, value: &Value) -> Result<Option<Market>, AllocError>
-    ensures { IfOk result (λ market. market ≡ header_of (view value.now)) }
+/// The market that a header opens, and how many entries the journal may have.
+#[derive(Drop)]
+pub(crate) struct Opened {
+    pub market: Market,
+    pub extent: Extent,
+}
+
+/// What a value opens as a header, if it is one.
+pub(crate) fn open_market(alloc: Global, value: &Value) -> Result<Option<Opened>, AllocError>
+    ensures { IfOk result (λ opened. opened ≡ header_of (view value.now)) }
 {
     let Some(header) = read_header(value) else {
         return Ok(None);
     };
+    let (base, hard) = (header.base, header.hard);
+    let (seats, levels, last) = (header.seats, header.levels, header.last);
     // A header's numbers are in their ranges, so that memory alone can lack.
-    let Ok(market) = Market::new(alloc, header.base, header.hard, header.seats, header.levels)
-    else {
+    let Ok(market) = Market::with_last(alloc, base, hard, seats, levels, last) else {
         return Err(AllocError);
     };
-    Ok(Some(market))
+    let extent = header.extent;
+    Ok(Some(Opened { market, extent }))
 }
 
 /// A call, and the text that is to be its reply.

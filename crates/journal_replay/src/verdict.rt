@@ -44,7 +44,7 @@ pub enum Verdict {
     /// J2: this line has no LF, has more than 65,536 bytes, or is not JSON. An empty line is not.
     BadJson(u64),
     /// J3: this line is JSON and no entry, or its command does not read, or the market has no such seat, or 1,048,576
-    /// entries are before it.
+    /// entries are before it and the journal is of version 1 or 2.
     BadRecord(u64),
     /// J4: this line's reply is not the one that is due after the entries before it.
     WrongReply(u64, DueReply),

@@ -74,9 +74,13 @@ fn each_front_of_a_journal_is_told(rt: HostRuntime) {
     }
 }
 
-/// The journal of so many calls for the limit is told by this line.
-fn limits_are_told(rt: &impl Abort, alloc: Global, calls: u32, line: &[u8]) {
-    let header = b"{\"base\":8,\"hard\":64,\"journal\":2,\"levels\":3,\"seats\":4}\n";
+const LIMITED: &[u8] = b"{\"base\":8,\"hard\":64,\"journal\":2,\"levels\":3,\"seats\":4}\n";
+
+const ENDLESS: &[u8] =
+    b"{\"base\":8,\"hard\":64,\"journal\":3,\"last\":1048576,\"levels\":3,\"seats\":4}\n";
+
+/// The journal of this header and so many calls for the limit is told by this line.
+fn limits_are_told(rt: &impl Abort, alloc: Global, header: &'static [u8], calls: u32, line: &[u8]) {
     let call = b"{\"cmd\":\"limit\",\"reply\":\"value 8 limit 7 effective 7\",\"seat\":0}\n";
     let mut source = Repeated::new(header, call, calls);
     let mut sink = new_sink(rt, alloc);
@@ -86,10 +90,15 @@ fn limits_are_told(rt: &impl Abort, alloc: Global, calls: u32, line: &[u8]) {
 }
 
 #[test]
-fn a_journal_has_1_048_576_entries_at_most(rt: HostRuntime) {
-    limits_are_told(&rt, rt.alloc(), 1_048_576, b"legal 1048576\n");
+fn a_journal_of_version_2_has_1_048_576_entries_at_most(rt: HostRuntime) {
+    limits_are_told(&rt, rt.alloc(), LIMITED, 1_048_576, b"legal 1048576\n");
     let more = b"J3 bad record line 1048578\n";
-    limits_are_told(&rt, rt.alloc(), 1_048_577, more);
+    limits_are_told(&rt, rt.alloc(), LIMITED, 1_048_577, more);
+}
+
+#[test]
+fn a_journal_of_version_3_has_more_entries(rt: HostRuntime) {
+    limits_are_told(&rt, rt.alloc(), ENDLESS, 1_048_577, b"legal 1048577\n");
 }
 
 #[test]

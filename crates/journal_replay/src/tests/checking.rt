@@ -3,6 +3,7 @@ ghost use Rattle.std.specs.Prelude.{◌+◌, ◌<◌, ◌^◌};
 
 use super::finds;
 use crate::checker::Progress;
+use crate::header::Extent;
 use crate::verdict::Verdict;
 use crate::{check, check_source};
 use byte_devices::TestSource;
@@ -23,6 +24,10 @@ const SHOW: &str =
 
 /// The header of three levels in version 2.
 const HEADER_2: &str = "{\"base\":8,\"hard\":64,\"journal\":2,\"levels\":3,\"seats\":4}";
+
+/// The same in version 3, whose last number is the usual one.
+const HEADER_3: &str =
+    "{\"base\":8,\"hard\":64,\"journal\":3,\"last\":1048576,\"levels\":3,\"seats\":4}";
 
 /// The lines, each with an LF.
 fn text_of(alloc: Global, lines: &[&str]) -> Result<Vec<u8>, AllocError> {
@@ -46,6 +51,7 @@ fn lines_find(rt: &impl Abort, alloc: Global, lines: &[&str], found: &str) {
 fn a_journal_is_legal(rt: HostRuntime) {
     lines_find(&rt, rt.alloc(), &[HEADER, OPEN, REQUEST, SHOW], "legal 3");
     lines_find(&rt, rt.alloc(), &[HEADER_2, OPEN, REQUEST, SHOW], "legal 3");
+    lines_find(&rt, rt.alloc(), &[HEADER_3, OPEN, REQUEST, SHOW], "legal 3");
     lines_find(&rt, rt.alloc(), &[HEADER], "legal 0");
 }
 
@@ -151,6 +157,8 @@ fn spaces_and_the_order_of_keys_do_not_matter(rt: HostRuntime) {
     let header = " {\"seats\" : 4, \"journal\":1,\"hard\":64 ,\"base\": 8 }\r";
     let open = "{ \"seat\":0,\t\"cmd\":\"open 8 1 normal\", \"reply\":\"arena\\u00201\"}";
     lines_find(&rt, rt.alloc(), &[header, open, REQUEST, SHOW], "legal 3");
+    let header = "{\"seats\":4, \"last\":9,\"journal\":3, \"levels\":3,\"hard\":64,\"base\": 8 }";
+    lines_find(&rt, rt.alloc(), &[header, open, REQUEST, SHOW], "legal 3");
 }
 
 #[test]
@@ -230,7 +238,13 @@ fn a_header_has_exactly_the_keys_of_its_version(rt: HostRuntime) {
         "{\"base\":8,\"hard\":64,\"journal\":2,\"seats\":4}",
         "{\"base\":8,\"hard\":64,\"journal\":1,\"levels\":3,\"seats\":4}",
         "{\"base\":8,\"hard\":64,\"journal\":2,\"level\":3,\"seats\":4}",
+        "{\"base\":8,\"hard\":64,\"journal\":2,\"last\":9,\"levels\":3,\"seats\":4}",
+        "{\"base\":8,\"hard\":64,\"journal\":2,\"last\":9,\"seats\":4}",
         "{\"base\":8,\"hard\":64,\"journal\":3,\"levels\":3,\"seats\":4}",
+        "{\"base\":8,\"hard\":64,\"journal\":3,\"last\":9,\"seats\":4}",
+        "{\"base\":8,\"hard\":64,\"journal\":3,\"last\":9,\"level\":3,\"seats\":4}",
+        "{\"base\":8,\"hard\":64,\"journal\":3,\"last\":9,\"levels\":3,\"more\":0,\"seats\":4}",
+        "{\"base\":8,\"hard\":64,\"journal\":4,\"last\":9,\"levels\":3,\"seats\":4}",
         "{\"base\":8,\"hard\":64,\"journal\":0,\"seats\":4}",
         "{\"base\":8,\"hard\":64,\"seats\":4}",
         "[8,64,1,4]",
@@ -251,12 +265,18 @@ fn the_numbers_of_a_header_are_in_their_ranges(rt: HostRuntime) {
         "{\"base\":8,\"hard\":64,\"journal\":2,\"levels\":9,\"seats\":4}",
         "{\"base\":8,\"hard\":64,\"journal\":2,\"levels\":3,\"seats\":0}",
         "{\"base\":8,\"hard\":64,\"journal\":2,\"levels\":3,\"seats\":65}",
+        "{\"base\":8,\"hard\":64,\"journal\":3,\"last\":9,\"levels\":9,\"seats\":4}",
+        "{\"base\":8,\"hard\":64,\"journal\":3,\"last\":0,\"levels\":3,\"seats\":4}",
+        "{\"base\":8,\"hard\":64,\"journal\":3,\"last\":4294967295,\"levels\":3,\"seats\":4}",
+        "{\"base\":8,\"hard\":64,\"journal\":3,\"last\":\"9\",\"levels\":3,\"seats\":4}",
     ] {
         lines_find(&rt, rt.alloc(), &[header], "J1 bad header");
     }
     for header in [
         "{\"base\":1,\"hard\":1,\"journal\":2,\"levels\":1,\"seats\":1}",
         "{\"base\":65536,\"hard\":65535,\"journal\":2,\"levels\":8,\"seats\":64}",
+        "{\"base\":1,\"hard\":1,\"journal\":3,\"last\":1,\"levels\":1,\"seats\":1}",
+        "{\"base\":65536,\"hard\":65535,\"journal\":3,\"last\":4294967294,\"levels\":8,\"seats\":64}",
     ] {
         lines_find(&rt, rt.alloc(), &[header], "legal 0");
     }
@@ -273,15 +293,29 @@ fn commands_are_read_with_the_levels_of_the_header(rt: HostRuntime) {
     lines_find(&rt, rt.alloc(), &[HEADER, last], due);
 }
 
+#[test]
+fn the_last_number_of_a_market_is_that_of_its_header(rt: HostRuntime) {
+    let last_3 = "{\"base\":8,\"hard\":64,\"journal\":3,\"last\":3,\"levels\":3,\"seats\":4}";
+    let second = "{\"cmd\":\"open 8 1 normal\",\"reply\":\"arena 2\",\"seat\":0}";
+    let third = "{\"cmd\":\"open 8 1 normal\",\"reply\":\"arena 3\",\"seat\":0}";
+    let refused = "{\"cmd\":\"open 8 1 normal\",\"reply\":\"F04 out of numbers\",\"seat\":0}";
+    let lines = [last_3, OPEN, second, third, refused];
+    lines_find(&rt, rt.alloc(), &lines, "legal 4");
+    for header in [HEADER, HEADER_2, HEADER_3] {
+        let lines = [header, OPEN, second, third, refused];
+        lines_find(&rt, rt.alloc(), &lines, "J4 wrong reply line 5 due arena 4");
+    }
+}
+
 /// After one entry more, which asks for the limit, behind so many.
-fn after_entries(rt: &impl Abort, alloc: Global, entries: u64) -> Progress
+fn after_entries(rt: &impl Abort, alloc: Global, entries: u64, extent: Extent) -> Progress
     requires { entries + 2 < 2 ^ 64 }
 {
     let Ok(market) = Market::new(alloc, 8, 64, 4, 3) else {
         panic!(rt; "no market");
     };
     let line = b"{\"cmd\":\"limit\",\"reply\":\"value 8 limit 7 effective 7\",\"seat\":0}";
-    let begun = Progress::Replaying(market, entries);
+    let begun = Progress::Replaying(market, entries, extent);
     let Ok(progress) = begun.after_line(alloc, line, LineForm::Whole) else {
         panic!(rt; "no memory");
     };
@@ -289,11 +323,29 @@ fn after_entries(rt: &impl Abort, alloc: Global, entries: u64) -> Progress
 }
 
 #[test]
-fn a_journal_has_1_048_576_entries_at_most(rt: HostRuntime) {
-    let last = after_entries(&rt, rt.alloc(), 1_048_575);
-    assert!(&rt; matches!(&last, Progress::Replaying(_, 1_048_576)));
-    let more = after_entries(&rt, rt.alloc(), 1_048_576);
-    assert!(&rt; matches!(&more, Progress::Faulty(Verdict::BadRecord(1_048_578))));
+fn a_limited_journal_has_1_048_576_entries_at_most(rt: HostRuntime) {
+    let last = after_entries(&rt, rt.alloc(), 1_048_575, Extent::Limited);
+    assert!(&rt; matches!(&last, Progress::Replaying(_, 1_048_576, Extent::Limited)));
+    let more = after_entries(&rt, rt.alloc(), 1_048_576, Extent::Limited);
+    assert!(&rt;
+        matches!(
+            &more,
+            Progress::Faulty(Verdict::BadRecord(1_048_578), Extent::Limited)
+        )
+    );
+}
+
+#[test]
+fn an_endless_journal_has_any_number_of_entries(rt: HostRuntime) {
+    let more = after_entries(&rt, rt.alloc(), 1_048_576, Extent::Endless);
+    assert!(&rt; matches!(&more, Progress::Replaying(_, 1_048_577, Extent::Endless)));
+    let far = after_entries(&rt, rt.alloc(), 1_000_000_000_000, Extent::Endless);
+    assert!(&rt;
+        matches!(
+            &far,
+            Progress::Replaying(_, 1_000_000_000_001, Extent::Endless)
+        )
+    );
 }
 
 #[test]

@@ -1,4 +1,4 @@
-use Rattle.std.proofs.Common.{◌≡◌, ◌++◌, List, ℕ, subst}
+use Rattle.std.proofs.Common.{◌≡◌, ◌++◌, subst}
 use Rattle.byte_devices.specs.Devices.{WritesFront}
 use Rattle.journal_replay.specs.Journal.{entry_lines}
 use Rattle.journal_replay.proofs.Lines.{at-err, some-written}

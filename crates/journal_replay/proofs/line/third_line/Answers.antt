@@ -1,6 +1,6 @@
 use Rattle.std.proofs.Common.{rules, append_assoc}
 use Rattle.serde_json.proofs.OnLiterals.{serde_json_on_literals}
-use Rattle.journal_replay.proofs.line.numbers_line.Goals as goal
+use Rattle.journal_replay.proofs.line.third_line.Goals as goal
 
 pub returns-clause-text : goal.returns-clause-text
 unfolding serde_json_on_literals

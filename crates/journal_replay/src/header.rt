@@ -1,0 +1,74 @@
+//! What the header of a journal tells.
+ghost use Rattle.std.specs.Prelude.{◌≡◌};
+ghost use Rattle.journal_replay.specs.Journal.{fits_second, header_for};
+ghost use Rattle.journal_replay.specs.Verdicts.{is_full};
+
+use market_core::Market;
+use market_types::LastNumber;
+
+/// The most entries of a journal that is limited.
+const MOST_ENTRIES: u64 = 1_048_576;
+
+/// How many entries a journal may have.
+#[derive(Clone, Copy, Debug, PartialEq, Eq)]
+pub enum Extent {
+    /// At most 1,048,576.
+    Limited,
+    /// Any number.
+    Endless,
+}
+
+impl Extent {
+    /// Whether no entry may follow so many.
+    pub(crate) fn is_full(self, entries: u64) -> bool
+        ensures { result ≡ is_full self entries }
+    {
+        match self {
+            Extent::Limited => entries >= MOST_ENTRIES,
+            Extent::Endless => false,
+        }
+    }
+}
+
+/// What the header of a journal tells: the numbers that the market is opened with, and how many entries may follow.
+#[derive(Clone, Copy, Debug, PartialEq, Eq)]
+pub struct Header {
+    /// Parallelism while no control lives.
+    pub base: u32,
+    /// How many workers there are at most.
+    pub hard: u32,
+    /// How many seats give commands.
+    pub seats: u8,
+    /// How many levels there are.
+    pub levels: u32,
+    /// The last number of an arena, a stamp and a control.
+    pub last: LastNumber,
+    /// How many entries the journal may have.
+    pub extent: Extent,
+}
+
+impl Header {
+    /// The header of a journal of so many entries, of this market.
+    pub fn of(market: &Market, extent: Extent) -> Self
+        ensures { result ≡ header_for extent market.now }
+    {
+        Header {
+            base: market.base(),
+            hard: market.hard(),
+            seats: market.seats(),
+            levels: market.levels(),
+            last: market.last(),
+            extent,
+        }
+    }
+
+    /// Whether version 2 tells all of it. That has no key for the last number, and a limit of entries.
+    pub(crate) fn fits_second(&self) -> bool
+        ensures { result ≡ fits_second self.now }
+    {
+        match self.extent {
+            Extent::Limited => self.last.get() == LastNumber::USUAL.get(),
+            Extent::Endless => false,
+        }
+    }
+}
