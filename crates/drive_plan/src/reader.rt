@@ -6,7 +6,7 @@ ghost use Rattle.drive_plan.specs.Format.{MemoryAside, after_line, after_text, b
 
 use crate::line::{PlanLine, read_plan_line};
 use crate::plan::Plan;
-use line_engine::{LineForm, LineTaker, take_text};
+use line_engine::{LONGEST_INPUT, LineForm, LineTaker, take_text};
 use std::alloc::{AllocError, Global};
 use std::mem;
 
@@ -146,6 +146,8 @@ impl Reader {
 
 impl LineTaker for Reader {
     ghost use Rattle.std.specs.Prelude.{⊤};
+    ghost use Rattle.std.proofs.Common.{le_refl};
+    ghost use Rattle.line_engine.specs.Input.{longest_input};
     ghost use Rattle.drive_plan.specs.Format.{Reached, longest_line, plan_rule};
 
     type Fault = AllocError;
@@ -163,6 +165,14 @@ impl LineTaker for Reader {
     ghost stops = { λ _ _ _. ⊤ };
 
     ghost count = { λ r. r.lines };
+
+    ghost most_bytes = { λ _. longest_input };
+
+    ghost grows = { λ _ _. le_refl longest_input };
+
+    fn most_bytes(&self) -> u64 {
+        LONGEST_INPUT
+    }
 
     fn take_line(
         &mut self,

@@ -99,7 +99,7 @@ pub record Finds (left left' : Option (List ℕ)) (found : Verdict) : Type 0 whe
 pub record StopsReading {F : Type 0} (left left' : Option (List ℕ)) (source_failed : Bool) (fault : InputFault F) : Type 0 where
   pub text : List ℕ
   pub read : Consumes left left' text
-  pub cause : CauseOf (λ _. ⊤) fault text source_failed false
+  pub cause : CauseOf (λ _. ⊤) (λ _. longest_input) fault text source_failed false
 
 -- how many lines of a legal journal were taken
 abbrev pub lines_taken : Progress → ℕ

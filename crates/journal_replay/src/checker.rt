@@ -9,7 +9,7 @@ use crate::header::Extent;
 use crate::reading::{Opened, open_market, read_entry, read_json};
 use crate::verdict::{DueReply, Verdict};
 use byte_devices::Source;
-use line_engine::{InputFault, LineForm, LineTaker, Nowhere, take_lines, take_text};
+use line_engine::{InputFault, LONGEST_INPUT, LineForm, LineTaker, Nowhere, take_lines, take_text};
 use market_core::Market;
 use market_types::reply_text;
 use serde_json::Value;
@@ -134,6 +134,8 @@ impl Checker {
 
 impl LineTaker for Checker {
     ghost use Rattle.std.specs.Prelude.{⊤};
+    ghost use Rattle.std.proofs.Common.{le_refl};
+    ghost use Rattle.line_engine.specs.Input.{longest_input};
     ghost use Rattle.journal_replay.specs.declared.checker.Progress.{Progress};
     ghost use Rattle.journal_replay.specs.Verdicts.{journal_rule, lines_taken, longest_line};
 
@@ -152,6 +154,14 @@ impl LineTaker for Checker {
     ghost stops = { λ _ _ _. ⊤ };
 
     ghost count = { λ c. lines_taken c.progress };
+
+    ghost most_bytes = { λ _. longest_input };
+
+    ghost grows = { λ _ _. le_refl longest_input };
+
+    fn most_bytes(&self) -> u64 {
+        LONGEST_INPUT
+    }
 
     fn take_line(
         &mut self,

@@ -7,7 +7,7 @@ use Rattle.line_engine.specs.declared.fault.InputFault.{InputFault}
 use Rattle.line_engine.specs.declared.fault.InputFault.TheVariants.{Read, TooLong, Write, Memory, Taker}
 use Rattle.line_engine.specs.Lines.{Line, NoLf, handed, whole_lines, last_line}
 use Rattle.line_engine.specs.Rule.{LineRule, replies_to}
-use Rattle.line_engine.specs.Input.{StopsAt, IsLineFault, longest_input}
+use Rattle.line_engine.specs.Input.{StopsAt, IsLineFault}
 use Rattle.line_engine.specs.Pieces.{Takes, IsPieceFault}
 use Rattle.line_engine.proofs.Handed.{last_line-some}
 use Rattle.line_engine.proofs.Taking.{WritesFront-none, takes-begun, takes-line, takes-handed, takes-part, front-inside, stops-line}
@@ -61,20 +61,20 @@ module _ {S : Type 0} (rule : LineRule S) (longest : ℕ) where
     pub line-fault : (s now : S) (a b : Option (List ℕ)) (input waiting u rest line more : List ℕ) (fault : InputFault F) → Feeding rule longest s now a b input waiting u rest
         → rest ≡ line ++ 10 ∷ more → NoLf line → IsLineFault (stops now (handed longest Whole (u ++ line))) fault
         → IsPieceFault (StopsAt rule stops s (whole_lines longest input)) fault false
-    line-fault s now a b input waiting u rest line more Read f is free why text short = absurd why
-    line-fault s now a b input waiting u rest line more TooLong f is free why text short = absurd why
-    line-fault s now a b input waiting u rest line more Write f is free why text short = absurd why
-    line-fault s now a b input waiting u rest line more Memory f is free why text short = (short, refl, refl)
-    line-fault s now a b input waiting u rest line more (Taker fault) f is free why text short =
+    line-fault s now a b input waiting u rest line more Read f is free why limit text short = absurd why
+    line-fault s now a b input waiting u rest line more TooLong f is free why limit text short = absurd why
+    line-fault s now a b input waiting u rest line more Write f is free why limit text short = absurd why
+    line-fault s now a b input waiting u rest line more Memory f is free why limit text short = (short, refl, refl)
+    line-fault s now a b input waiting u rest line more (Taker fault) f is free why limit text short =
         (short, refl, refl, feeding-stops s now a b input waiting u rest line more fault f is free why)
 
 -- the last line was not taken
 pub last-fault : {F : Type 0} (stops : F → Type 0) (fault : InputFault F) → IsLineFault stops fault → IsPieceFault stops fault false
-last-fault stops Read why text short = absurd why
-last-fault stops TooLong why text short = absurd why
-last-fault stops Write why text short = absurd why
-last-fault stops Memory why text short = (short, refl, refl)
-last-fault stops (Taker fault) why text short = (short, refl, refl, why)
+last-fault stops Read why limit text short = absurd why
+last-fault stops TooLong why limit text short = absurd why
+last-fault stops Write why limit text short = absurd why
+last-fault stops Memory why limit text short = (short, refl, refl)
+last-fault stops (Taker fault) why limit text short = (short, refl, refl, why)
 
 pub line-fault-weaker : {F : Type 0} (P Q : F → Type 0) → ((fault : F) → P fault → Q fault) → (fault : InputFault F) → IsLineFault P fault → IsLineFault Q fault
 line-fault-weaker P Q h Read why = why
@@ -88,13 +88,14 @@ pub stops-last : {S F : Type 0} (rule : LineRule S) (longest : ℕ) (stops : S �
     → stops s (handed longest WithoutLf u) fault → StopsAt rule stops s (last_line longest u) fault
 stops-last rule longest stops s u some fault why = record { before = []; line = handed longest WithoutLf u; more = []; are = last_line-some longest u some; why = why }
 
-zero-within : length {A = ℕ} [] ≤ longest_input
-zero-within = omega arith
+-- nothing was read of an input that may have no byte
+none-within : length {A = ℕ} [] ≤ 0
+none-within = omega arith
 
 -- and conversely, where no sink fails
 pub line-fault-of-piece : {F : Type 0} (P Q : F → Type 0) → ((fault : F) → P fault → Q fault) → (fault : InputFault F) → IsPieceFault P fault false → IsLineFault Q fault
-line-fault-of-piece P Q h Read why = absurd (true≢false (sym (why [] zero-within).1))
-line-fault-of-piece P Q h TooLong why = absurd (omega (arith, (why [] zero-within).0))
-line-fault-of-piece P Q h Write why = absurd (true≢false (sym (why [] zero-within).2))
+line-fault-of-piece P Q h Read why = absurd (true≢false (sym (why (λ _. 0) [] none-within).1))
+line-fault-of-piece P Q h TooLong why = absurd (omega (arith, (why (λ _. 0) [] none-within).0.above))
+line-fault-of-piece P Q h Write why = absurd (true≢false (sym (why (λ _. 0) [] none-within).2))
 line-fault-of-piece P Q h Memory why = tt
-line-fault-of-piece P Q h (Taker fault) why = h fault (why [] zero-within).3
+line-fault-of-piece P Q h (Taker fault) why = h fault (why (λ _. 0) [] none-within).3

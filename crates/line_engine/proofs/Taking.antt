@@ -42,7 +42,7 @@ no_lf-append xs ys h k = All-append (λ b. is_lf b ≡ false) xs ys h k
 -- ---- lines, a part of the input after another
 
 module _ (longest : ℕ) where
-  whole_lines-append : (xs ys : List ℕ) → whole_lines longest (xs ++ ys) ≡ whole_lines longest xs ++ whole_lines longest (unfinished_line xs ++ ys)
+  pub whole_lines-append : (xs ys : List ℕ) → whole_lines longest (xs ++ ys) ≡ whole_lines longest xs ++ whole_lines longest (unfinished_line xs ++ ys)
   whole_lines-append xs ys =
       ap (map (handed longest Whole)) (ended_lines-append xs ys)
       ∙ map-append (handed longest Whole) (ended_lines xs) (ended_lines (unfinished_line xs ++ ys))

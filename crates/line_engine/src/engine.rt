@@ -1,7 +1,7 @@
 //! The engine that takes an input, piece by piece.
-ghost use Rattle.std.specs.Prelude.{◌≡◌, ℕ, ◌+◌, ◌<◌, ◌≤◌, ◌^◌, ◌++◌, List, [], length, vec_len, take, true, false, Err, OnOk, IfOk, IfErr};
+ghost use Rattle.std.specs.Prelude.{◌≡◌, ℕ, ◌<◌, ◌≤◌, ◌^◌, List, [], length, vec_len, take, true, false, Err, OnOk, IfOk, IfErr};
 ghost use Rattle.std.specs.Io.KnownBytes.{Consumes, IsAtEnd};
-ghost use Rattle.line_engine.specs.Input.{TakesAll, Stops, HandsOver, longest_input};
+ghost use Rattle.line_engine.specs.Input.{TakesAll, Stops, HandsOver};
 ghost use Rattle.line_engine.specs.Pieces.{BreaksOff};
 
 use crate::fault::InputFault;
@@ -9,9 +9,6 @@ use crate::lines::Lines;
 use crate::taker::LineTaker;
 use byte_devices::{Sink, Source};
 use std::alloc::{AllocError, Global};
-
-/// The most bytes that an input may have.
-const LONGEST_INPUT: usize = 268_435_456;
 
 /// The most bytes that one read gives.
 const PIECE: usize = 65_536;
@@ -23,30 +20,29 @@ fn new_buffer(alloc: Global, size: usize) -> Result<Vec<u8>, AllocError>
     vec![in alloc; 0u8; size]
 }
 
-/// Reads the next piece after `total` bytes. It has no byte only where the source has ended.
+/// Reads the next piece of an input that may have `room` more bytes. It has no byte only where the source has ended.
 fn read_piece<R: Source, F>(
     source: &mut R,
     buffer: &mut [u8],
-    total: usize,
+    room: u64,
 ) -> Result<usize, InputFault<F>>
-    requires room { 0 < length buffer.old }
-    requires within { total ≤ longest_input }
+    requires some { 0 < length buffer.old }
     requires working { R.failed source.old ≡ false }
     requires begins { R.ended source.old ≡ false }
     ensures bound { IfOk result (λ n. n ≤ length buffer.new) }
-    ensures within { IfOk result (λ n. total + n ≤ longest_input) }
+    ensures within { IfOk result (λ n. n ≤ room) }
     ensures read { IfOk result (λ n. Consumes (R.left source.old) (R.left source.new) (take n buffer.new)) }
     ensures working { OnOk result (R.failed source.new ≡ false) }
     ensures more { IfOk result (λ n. 0 < n → R.ended source.new ≡ false) }
     ensures end { IfOk result (λ n. n ≡ 0 → R.ended source.new ≡ true) }
     ensures all { IfOk result (λ n. n ≡ 0 → IsAtEnd (R.left source.new)) }
-    ensures breaks_off { IfErr result (λ fault. BreaksOff (R.left source.old) (R.left source.new) total (R.failed source.new) fault) }
+    ensures breaks_off { IfErr result (λ fault. BreaksOff (R.left source.old) (R.left source.new) room (R.failed source.new) fault) }
     ensures none_given { result ≡ Err InputFault.Read → Consumes (R.left source.old) (R.left source.new) [] }
 {
     let Ok(count) = source.read(buffer) else {
         return Err(InputFault::Read);
     };
-    if count > LONGEST_INPUT - total {
+    if count as u64 > room {
         return Err(InputFault::TooLong);
     }
     Ok(count)
@@ -65,21 +61,22 @@ fn take_pieces<A: LineTaker, R: Source, W: Sink>(
     requires source_working { R.failed source.old ≡ false }
     requires source_begins { R.ended source.old ≡ false }
     requires sink_working { W.failed sink.old ≡ false }
-    ensures all { OnOk result (TakesAll A.rule A.LONGEST (A.state lines.old.answering.taker) (A.state lines.new.answering.taker) (R.left source.old) (R.left source.new) (W.taken sink.old) (W.taken sink.new)) }
+    ensures all { OnOk result (TakesAll A.rule A.LONGEST A.most_bytes (A.state lines.old.answering.taker) (A.state lines.new.answering.taker) (R.left source.old) (R.left source.new) (W.taken sink.old) (W.taken sink.new)) }
     ensures end { OnOk result (R.ended source.new ≡ true) }
     ensures whole { OnOk result (IsAtEnd (R.left source.new)) }
     ensures working { OnOk result ((R.failed source.new ≡ false) × (W.failed sink.new ≡ false)) }
-    ensures stops { IfErr result (λ fault. Stops A.rule A.LONGEST A.stops (A.state lines.old.answering.taker) (R.left source.old) (R.left source.new) (W.taken sink.old) (W.taken sink.new) (R.failed source.new) (W.failed sink.new) fault) }
+    ensures stops { IfErr result (λ fault. Stops A.rule A.LONGEST A.most_bytes A.stops (A.state lines.old.answering.taker) (R.left source.old) (R.left source.new) (W.taken sink.old) (W.taken sink.new) (R.failed source.new) (W.failed sink.new) fault) }
     ensures prompt { result ≡ Err InputFault.Read → HandsOver A.rule A.LONGEST (A.state lines.old.answering.taker) (R.left source.old) (R.left source.new) (W.taken sink.old) (W.taken sink.new) }
 {
     let mut total = 0;
     loop {
-        let count = read_piece(source, buffer, total)?;
+        let room = lines.answering.taker.most_bytes() - total;
+        let count = read_piece(source, buffer, room)?;
         if count == 0 {
             return lines.finish(sink);
         }
         lines.feed(sink, &buffer[..count])?;
-        total += count;
+        total += count as u64;
     }
 }
 
@@ -91,8 +88,9 @@ fn take_pieces<A: LineTaker, R: Source, W: Sink>(
 /// of the taker, of one piece of 65,536 bytes, of an unfinished line, of which one byte more is kept than the taker
 /// needs, and of the replies not yet handed over: at most 65,536 bytes and one reply.
 ///
-/// Whichever fault comes first stops it: a read that fails is `Read`, a write that fails or takes none `Write`, an input
-/// of more than 268,435,456 bytes `TooLong`, running out of memory `Memory`, and a fault of the taker `Taker`.
+/// Whichever fault comes first stops it: a read that fails is `Read`, a write that fails or takes none `Write`, a piece
+/// with which the input has more bytes than its taker lets it have, by the lines that had ended before that piece,
+/// `TooLong`, running out of memory `Memory`, and a fault of the taker `Taker`.
 pub fn take_lines<A: LineTaker, R: Source, W: Sink>(
     alloc: Global,
     taker: A,
@@ -105,13 +103,13 @@ pub fn take_lines<A: LineTaker, R: Source, W: Sink>(
     requires sink_working { W.failed sink.old ≡ false }
 
     // The whole input is read, and its lines are taken and answered.
-    ensures all { IfOk result (λ last. TakesAll A.rule A.LONGEST (A.state taker) (A.state last) (R.left source.old) (R.left source.new) (W.taken sink.old) (W.taken sink.new)) }
+    ensures all { IfOk result (λ last. TakesAll A.rule A.LONGEST A.most_bytes (A.state taker) (A.state last) (R.left source.old) (R.left source.new) (W.taken sink.old) (W.taken sink.new)) }
     ensures end { OnOk result (R.ended source.new ≡ true) }
     ensures whole { OnOk result (IsAtEnd (R.left source.new)) }
     ensures working { OnOk result ((R.failed source.new ≡ false) × (W.failed sink.new ≡ false)) }
 
     // After a fault a prefix of the replies is written; before a read that fails, all replies to ended lines are.
-    ensures stops { IfErr result (λ fault. Stops A.rule A.LONGEST A.stops (A.state taker) (R.left source.old) (R.left source.new) (W.taken sink.old) (W.taken sink.new) (R.failed source.new) (W.failed sink.new) fault) }
+    ensures stops { IfErr result (λ fault. Stops A.rule A.LONGEST A.most_bytes A.stops (A.state taker) (R.left source.old) (R.left source.new) (W.taken sink.old) (W.taken sink.new) (R.failed source.new) (W.failed sink.new) fault) }
     ensures prompt { result ≡ Err InputFault.Read → HandsOver A.rule A.LONGEST (A.state taker) (R.left source.old) (R.left source.new) (W.taken sink.old) (W.taken sink.new) }
 {
     let mut buffer = new_buffer(alloc, PIECE)?;

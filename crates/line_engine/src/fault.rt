@@ -8,7 +8,7 @@ use std::alloc::AllocError;
 pub enum InputFault<F> {
     /// A read failed.
     Read,
-    /// The input has more than 268,435,456 bytes.
+    /// The input has more bytes than its taker lets it have: 268,435,456 where it names no other limit.
     TooLong,
     /// A write failed, or took 0 of some bytes.
     Write,

@@ -3,8 +3,9 @@
 //! Whoever needs a whole input line by line writes a taker and no loop.
 //!
 //! A taker says how long a line it needs: of a longer one it gets the first bytes, told as [`LineForm::TooLong`]. It
-//! learns whether the last line had its LF, it may stop with a fault of its own, and it may write nothing at all and
-//! keep what it has made of the lines until the end: then [`silence`] says that nothing is handed over.
+//! says how many bytes its input may have, as a rule [`LONGEST_INPUT`], and lines can let it have more. It learns
+//! whether the last line had its LF, it may stop with a fault of its own, and it may write nothing at all and keep what
+//! it has made of the lines until the end: then [`silence`] says that nothing is handed over.
 #![tactic(auto)]
 
 mod engine;
@@ -19,7 +20,7 @@ pub use engine::take_lines;
 pub use fault::InputFault;
 pub use form::LineForm;
 pub use law::silence;
-pub use taker::LineTaker;
+pub use taker::{LONGEST_INPUT, LineTaker};
 pub use text::{Nowhere, take_text};
 
 #[cfg(test)]

@@ -3,7 +3,7 @@ ghost use Rattle.std.specs.Prelude.{◌<◌};
 
 use crate::fault::InputFault;
 use crate::form::LineForm;
-use crate::taker::LineTaker;
+use crate::taker::{LONGEST_INPUT, LineTaker};
 use crate::{take_lines, take_text};
 use byte_devices::{TestSink, TestSource};
 use std::alloc::{AllocError, Global};
@@ -35,6 +35,8 @@ impl Log {
 
 impl LineTaker for Log {
     ghost use Rattle.std.specs.Prelude.{⊤, []};
+    ghost use Rattle.std.proofs.Common.{le_refl};
+    ghost use Rattle.line_engine.specs.Input.{longest_input};
 
     type Fault = LogFault;
 
@@ -51,6 +53,14 @@ impl LineTaker for Log {
     ghost stops = { λ _ _ _. ⊤ };
 
     ghost count = { λ _. 0 };
+
+    ghost most_bytes = { λ _. longest_input };
+
+    ghost grows = { λ _ _. le_refl longest_input };
+
+    fn most_bytes(&self) -> u64 {
+        LONGEST_INPUT
+    }
 
     fn take_line(
         &mut self,
@@ -126,5 +136,84 @@ fn a_taker_stops(rt: HostRuntime) {
         };
         let stopped = take_text(rt.alloc(), taker, input);
         assert!(&rt; matches!(&stopped, Err(InputFault::Taker(LogFault::Asked))));
+    }
+}
+
+/// Counts its lines. An input may have 8 bytes, and 64 once its first line was taken.
+#[derive(Drop)]
+struct Growing {
+    lines: u64,
+}
+
+impl LineTaker for Growing {
+    ghost use Rattle.std.specs.Prelude.{ℕ, ◌+◌, ◌==◌, if◌then◌else◌, ⊤, []};
+    ghost use Rattle.std.proofs.Common.{arith};
+    ghost use Rattle.std.proofs.lemmas.Bool.Decides.{nat_tests};
+
+    type Fault = LogFault;
+
+    const LONGEST: u32 = 64;
+
+    ghost LONGEST = { 64 };
+
+    ghost State = { ℕ };
+
+    ghost state = { λ t. t.lines };
+
+    ghost rule = { record { reply = λ _ _. []; next = λ lines _. lines + 1 } };
+
+    ghost stops = { λ _ _ _. ⊤ };
+
+    ghost count = { λ t. t.lines };
+
+    ghost most_bytes = { λ lines. if lines == 0 then 8 else 64 };
+
+    ghost grows = { λ lines _. Prim.grind (arith, nat_tests) };
+
+    fn most_bytes(&self) -> u64 {
+        if self.lines == 0 { 8 } else { 64 }
+    }
+
+    fn take_line(
+        &mut self,
+        _line: &[u8],
+        _form: LineForm,
+        _replies: &mut Vec<u8>,
+    ) -> Result<(), LogFault> {
+        self.lines += 1;
+        Ok(())
+    }
+}
+
+/// The input, given in pieces of that size, is taken as so many lines, or is too long.
+fn lengthens(rt: &impl Abort, alloc: Global, input: &[u8], size: usize, lines: Option<u64>)
+    requires { 0 < size }
+{
+    let mut source = TestSource::new(input).in_pieces_of(size);
+    let mut sink = TestSink::new(Vec::new(alloc));
+    let taken = take_lines(alloc, Growing { lines: 0 }, &mut source, &mut sink);
+    let told = match &taken {
+        Ok(last) => Some(last.lines),
+        Err(fault) => {
+            assert!(rt; *fault == InputFault::TooLong);
+            None
+        }
+    };
+    assert!(rt; told == lines);
+}
+
+#[test]
+fn lines_lengthen_an_input(rt: HostRuntime) {
+    let dots = [b'.'; 65];
+    let mut cut = [b'.'; 65];
+    cut[4] = b'\n';
+    for size in 1..20 {
+        lengthens(&rt, rt.alloc(), &dots[..8], size, Some(1));
+        lengthens(&rt, rt.alloc(), &dots[..9], size, None);
+        lengthens(&rt, rt.alloc(), &cut[..8], size, Some(2));
+        // The piece that ends the first line must itself be within 8 bytes.
+        let told = if size <= 8 { Some(2) } else { None };
+        lengthens(&rt, rt.alloc(), &cut[..64], size, told);
+        lengthens(&rt, rt.alloc(), &cut, size, None);
     }
 }

@@ -1,4 +1,4 @@
-use Rattle.std.proofs.Common.{◌≡◌, length, take, arith, OnOk, OnErr, IfErr, Result, Ok, Err, length-take}
+use Rattle.std.proofs.Common.{◌≡◌, ◌+◌, ◌-◌, ◌≤◌, ◌++◌, length, take, arith, OnOk, OnErr, IfErr, Result, Ok, Err, length-take}
 use Rattle.std.proofs.lemmas.Result.{IfErr-weaker, err_from_is_err_and, on_ok_weaker}
 use Rattle.std.specs.Io.KnownBytes.{Appends}
 use Rattle.byte_devices.specs.Devices.{WritesFront}
@@ -6,7 +6,7 @@ use Rattle.line_engine.specs.Lines.{last_line}
 use Rattle.line_engine.specs.Rule.{after, replies_to}
 use Rattle.line_engine.specs.Input.{Stops, StopsAt}
 use Rattle.line_engine.specs.Pieces.{IsPieceFault}
-use Rattle.line_engine.proofs.Running.{running-begun, running-fed, running-all, stopped-reading, stopped-inside, stopped-last}
+use Rattle.line_engine.proofs.Running.{running-begun, running-fed, running-all, within-fed, stopped-reading, stopped-inside, stopped-last, no-read-fault}
 use Rattle.line_engine.proofs.engine.take_pieces.Goals as goal
 
 -- two facts of one result
@@ -39,8 +39,9 @@ returns-in_err-count-clause-stops g c =
     let l = c.loop-count in
     let t = g.A.LineTaker in
     let p = err_from_is_err_and c.from_residual.result c.from_residual.ensures.1 in
-    rw (p.1, p.2, l.invariant.sink_working) (stopped-reading t.rule t.LONGEST t.stops _ (t.state l.lines.answering.taker) _ _ _ _ _ l.lines.unfinished.items l.total _ c.in_err-count.field-0.0
-    l.invariant.running c.in_err-count.ensures.breaks_off)
+    let room : l.total + (c.most_bytes.result - l.total) ≡ t.most_bytes (t.state l.lines.answering.taker) = omega (arith, l.invariant.within, c.most_bytes.ensures.exact) in
+    rw (p.1, p.2, l.invariant.sink_working) (stopped-reading t.rule t.LONGEST t.most_bytes g.met.A.LineTaker.grows t.stops _ (t.state l.lines.answering.taker) _ _ _ _ _ l.lines.unfinished.items l.total (c.most_bytes.result - l.total) _ c.in_err-count.field-0.0
+    l.invariant.running room c.in_err-count.ensures.breaks_off)
 
 pub returns-then-count-eq0-clause-all : goal.returns-then-count-eq0-clause-all
 returns-then-count-eq0-clause-all g c =
@@ -51,7 +52,7 @@ returns-then-count-eq0-clause-all g c =
     let last = t.state c.finish.new.self.answering.taker in
     let W = g.W.Sink.taken in
     on_ok_weaker {P = (last ≡ after t.rule now (last_line t.LONGEST u)) × Appends (W l.sink) (W c.finish.new.sink) (replies_to t.rule now (last_line t.LONGEST u))} c.finish.result
-    (λ both. running-all t.rule t.LONGEST _ now last _ _ _ _ _ _ u l.total l.invariant.running
+    (λ both. running-all t.rule t.LONGEST t.most_bytes g.met.A.LineTaker.grows _ now last _ _ _ _ _ _ u l.total l.invariant.running
     (rw c.if-count-eq0.true at c.in_ok-count.ensures.read) l.invariant.within both.1 both.0)
     (ok-both c.finish.result _ _ c.finish.ensures.state c.finish.ensures.wrote)
 
@@ -69,11 +70,19 @@ returns-then-count-eq0-clause-stops g c =
     let sink = c.finish.new.sink in
     IfErr-weaker c.finish.result
     (λ fault. WritesFront (W l.sink) (W sink) (replies_to t.rule now (last_line t.LONGEST u)) × IsPieceFault (StopsAt t.rule t.stops now (last_line t.LONGEST u)) fault (g.W.Sink.failed sink))
-    (λ fault. Stops t.rule t.LONGEST t.stops start (R a.source.now) (R source) (W a.sink.now) (W sink) (g.R.Source.failed source) (g.W.Sink.failed sink) fault)
-    (λ fault both. rw c.in_ok-count.ensures.working (stopped-last t.rule t.LONGEST t.stops start now (R a.source.now) (R l.source) (R source) (W a.sink.now) (W l.sink) (W sink) u l.total (g.W.Sink.failed sink) fault l.invariant.running
+    (λ fault. Stops t.rule t.LONGEST t.most_bytes t.stops start (R a.source.now) (R source) (W a.sink.now) (W sink) (g.R.Source.failed source) (g.W.Sink.failed sink) fault)
+    (λ fault both. rw c.in_ok-count.ensures.working (stopped-last t.rule t.LONGEST t.most_bytes g.met.A.LineTaker.grows t.stops start now (R a.source.now) (R l.source) (R source) (W a.sink.now) (W l.sink) (W sink) u l.total (g.W.Sink.failed sink) fault l.invariant.running
     (rw c.if-count-eq0.true at c.in_ok-count.ensures.read) l.invariant.within both.0 both.1))
     (err-both c.finish.result (WritesFront (W l.sink) (W sink) (replies_to t.rule now (last_line t.LONGEST u)))
     (λ fault. IsPieceFault (StopsAt t.rule t.stops now (last_line t.LONGEST u)) fault (g.W.Sink.failed sink)) c.finish.ensures.prefix c.finish.ensures.cause)
+
+pub returns-then-count-eq0-clause-prompt : goal.returns-then-count-eq0-clause-prompt
+returns-then-count-eq0-clause-prompt g c = λ is. absurd (no-read-fault _ _ c.finish.result c.finish.ensures.cause is)
+
+pub returns-in_err-feed-clause-prompt : goal.returns-in_err-feed-clause-prompt
+returns-in_err-feed-clause-prompt g c =
+    let p = err_from_is_err_and c.from_residual-in_err-feed.result c.from_residual-in_err-feed.ensures.1 in
+    rw (p.1, p.2) (λ is. absurd (no-read-fault {T = Unit {0}} _ _ (Err c.in_err-feed.field-0.0) c.in_err-feed.ensures.cause is))
 
 pub returns-in_err-feed-clause-stops : goal.returns-in_err-feed-clause-stops
 returns-in_err-feed-clause-stops g c =
@@ -83,8 +92,9 @@ returns-in_err-feed-clause-stops g c =
     let h = c.in_err-feed.ensures in
     let piece = take c.in_ok-count.count c.read_piece.new.buffer in
     let len : length piece ≡ c.in_ok-count.count = omega (arith, length-take c.in_ok-count.count c.read_piece.new.buffer, c.in_ok-count.ensures.bound) in
-    rw (p.1, p.2, c.in_ok-count.ensures.working) (stopped-inside t.rule t.LONGEST t.stops _ (t.state l.lines.answering.taker) _ _ _ _ _ _ l.lines.unfinished.items piece l.total c.in_ok-count.count _ c.in_err-feed.field-0.0
-    l.invariant.running c.in_ok-count.ensures.read len c.in_ok-count.ensures.within h.prefix h.cause)
+    let within : l.total + c.in_ok-count.count ≤ t.most_bytes (t.state l.lines.answering.taker) = omega (arith, l.invariant.within, c.in_ok-count.ensures.within, c.most_bytes.ensures.exact) in
+    rw (p.1, p.2, c.in_ok-count.ensures.working) (stopped-inside t.rule t.LONGEST t.most_bytes g.met.A.LineTaker.grows t.stops _ (t.state l.lines.answering.taker) _ _ _ _ _ _ l.lines.unfinished.items piece l.total c.in_ok-count.count _ c.in_err-feed.field-0.0
+    l.invariant.running c.in_ok-count.ensures.read len within h.prefix h.cause)
 
 pub loop-count-preserved : goal.loop-count-preserved
 loop-count-preserved g c =
@@ -93,12 +103,13 @@ loop-count-preserved g c =
     let t = g.A.LineTaker in
     let piece = take c.in_ok-count.count c.read_piece.new.buffer in
     let len : length piece ≡ c.in_ok-count.count = omega (arith, length-take c.in_ok-count.count c.read_piece.new.buffer, c.in_ok-count.ensures.bound) in
+    let within : l.total + c.in_ok-count.count ≤ t.most_bytes (t.state l.lines.answering.taker) = omega (arith, l.invariant.within, c.in_ok-count.ensures.within, c.most_bytes.ensures.exact) in
     record {
       running = running-fed t.rule t.LONGEST _ (t.state l.lines.answering.taker) (t.state c.feed.new.self.answering.taker) _ _ _ _ _ _ l.lines.unfinished.items piece c.feed.new.self.unfinished.items l.total c.in_ok-count.count
           l.invariant.running c.in_ok-count.ensures.read len f.takes;
       handed = f.handed;
       few = omega (arith, f.few, len, l.invariant.few);
-      within = c.in_ok-count.ensures.within;
+      within = within-fed t.rule t.LONGEST t.most_bytes g.met.A.LineTaker.grows (t.state l.lines.answering.taker) (t.state c.feed.new.self.answering.taker) _ _ (l.lines.unfinished.items ++ piece) c.feed.new.self.unfinished.items l.total c.in_ok-count.count within f.takes;
       source_working = c.in_ok-count.ensures.working;
       source_begins = c.in_ok-count.ensures.more (omega arith);
       sink_working = f.working;
