@@ -35,9 +35,9 @@ quiet-after now (line ∷ lines) = quiet-after (script_rule.next now line) lines
 
 -- the lines were taken, and the text was written behind
 pub explain-answers : Silent → (m s : State) (n : ℕ) (last : State × ℕ) (left left' a b c : Option (List ℕ)) → m ≡ s → n ≡ 0
-    → TakesAll quiet_rule 256 (m, n) last left left' a b → Appends b c (explanation_text last.0) → Explains s left left' a c last.1
+    → TakesAll quiet_rule 256 (λ _. longest_input) (m, n) last left left' a b → Appends b c (explanation_text last.0) → Explains s left left' a c last.1
 explain-answers silent m s n last left left' a b c e f h wrote =
-    let t = subst (λ (q : State × ℕ). TakesAll quiet_rule 256 q last left left' a b) (begun m s n e f) h in
+    let t = subst (λ (q : State × ℕ). TakesAll quiet_rule 256 (λ _. longest_input) q last left left' a b) (begun m s n e f) h in
     let end : last ≡ after script_rule (s, 0) (lines_of 256 t.input) = t.state ∙ quiet-after (s, 0) (lines_of 256 t.input) in
     let none : Appends a b [] = subst (λ text. Appends a b text) (silent (s, 0) (lines_of 256 t.input)) t.wrote in
     let market : last.0 ≡ (told s t.input).last = ap (λ (q : State × ℕ). q.0) end ∙ last-told s t.input in
@@ -51,10 +51,10 @@ explain-answers silent m s n last left left' a b c e f h wrote =
 
 -- the text was not written whole
 pub explain-breaks : Silent → (m s : State) (n : ℕ) (last : State × ℕ) (left left' a b c : Option (List ℕ)) (source_failed sink_failed : Bool) (fault : OutFault) → m ≡ s → n ≡ 0
-    → TakesAll quiet_rule 256 (m, n) last left left' a b → source_failed ≡ false → WritesFront b c (explanation_text last.0) → IsOutFault fault sink_failed
+    → TakesAll quiet_rule 256 (λ _. longest_input) (m, n) last left left' a b → source_failed ≡ false → WritesFront b c (explanation_text last.0) → IsOutFault fault sink_failed
     → StopsExplaining s left left' a c source_failed sink_failed (run_fault_of_output fault)
 explain-breaks silent m s n last left left' a b c source_failed sink_failed fault e f h working wrote why =
-    let t = subst (λ (q : State × ℕ). TakesAll quiet_rule 256 q last left left' a b) (begun m s n e f) h in
+    let t = subst (λ (q : State × ℕ). TakesAll quiet_rule 256 (λ _. longest_input) q last left left' a b) (begun m s n e f) h in
     let end : last ≡ after script_rule (s, 0) (lines_of 256 t.input) = t.state ∙ quiet-after (s, 0) (lines_of 256 t.input) in
     let none : Appends a b [] = subst (λ text. Appends a b text) (silent (s, 0) (lines_of 256 t.input)) t.wrote in
     let market : last.0 ≡ (told s t.input).last = ap (λ (q : State × ℕ). q.0) end ∙ last-told s t.input in
@@ -69,9 +69,9 @@ explain-breaks silent m s n last left left' a b c source_failed sink_failed faul
 
 -- the lines were not all taken
 pub explain-stops : Silent → {F : Type 0} (stops : State × ℕ → Line → F → Type 0) (m s : State) (n : ℕ) (left left' taken taken' : Option (List ℕ)) (source_failed sink_failed : Bool) (fault : InputFault F) → m ≡ s → n ≡ 0
-    → InputStops quiet_rule 256 stops (m, n) left left' taken taken' source_failed sink_failed fault → StopsExplaining s left left' taken taken' source_failed sink_failed (run_fault_of_input fault)
+    → InputStops quiet_rule 256 (λ _. longest_input) stops (m, n) left left' taken taken' source_failed sink_failed fault → StopsExplaining s left left' taken taken' source_failed sink_failed (run_fault_of_input fault)
 explain-stops silent {F = F} stops m s n left left' taken taken' source_failed sink_failed fault e f h =
-    let t = subst (λ (q : State × ℕ). InputStops quiet_rule 256 stops q left left' taken taken' source_failed sink_failed fault) (begun m s n e f) h in
+    let t = subst (λ (q : State × ℕ). InputStops quiet_rule 256 (λ _. longest_input) stops q left left' taken taken' source_failed sink_failed fault) (begun m s n e f) h in
     let all : [] ≡ t.wrote.out ++ t.wrote.front.0 = sym (silent (s, 0) (lines_of 256 t.input)) ∙ t.wrote.front.1 in
     let none : Appends taken taken' [] = subst (λ text. Appends taken taken' text) (no-front t.wrote.out t.wrote.front.0 all) t.wrote.wrote in
     record {

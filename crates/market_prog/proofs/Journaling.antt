@@ -49,9 +49,9 @@ record Recorded (s : State) (last : Chronicled × ℕ) (left left' a b : Option 
   pub count : last.1 ≡ (told s script).unread
 
 all-recorded : Silent → (c : Chronicled) (s : State) (n : ℕ) (last : Chronicled × ℕ) (left left' a b : Option (List ℕ)) → c ≡ unwritten s → n ≡ 0
-    → TakesAll recording_rule 256 (c, n) last left left' a b → Recorded s last left left' a b
+    → TakesAll recording_rule 256 (λ _. longest_input) (c, n) last left left' a b → Recorded s last left left' a b
 all-recorded silent c s n last left left' a b e f h =
-    let t = subst (λ (q : Chronicled × ℕ). TakesAll recording_rule 256 q last left left' a b) (both c (unwritten s) n 0 e f) h in
+    let t = subst (λ (q : Chronicled × ℕ). TakesAll recording_rule 256 (λ _. longest_input) q last left left' a b) (both c (unwritten s) n 0 e f) h in
     let begun : Chronicled × ℕ = (unwritten s, 0) in
     let history : last.0 ≡ lengthened (unwritten s) (history_of s t.input) = ap (λ (q : Chronicled × ℕ). q.0) t.state ∙ history-after (unwritten s) 0 t.input in
     record {
@@ -65,7 +65,7 @@ all-recorded silent c s n last left left' a b e f h =
 
 -- the lines were taken, and the text was written behind
 pub journal-answers : Silent → (c : Chronicled) (s : State) (n : ℕ) (last : Chronicled × ℕ) (left left' x y z : Option (List ℕ)) → c ≡ unwritten s → n ≡ 0
-    → TakesAll recording_rule 256 (c, n) last left left' x y → Appends y z (journal_told last.0) → Journals s left left' x z last.1
+    → TakesAll recording_rule 256 (λ _. longest_input) (c, n) last left left' x y → Appends y z (journal_told last.0) → Journals s left left' x z last.1
 journal-answers silent c s n last left left' x y z e f h wrote =
     let r = all-recorded silent c s n last left left' x y e f h in
     record {
@@ -78,7 +78,7 @@ journal-answers silent c s n last left left' x y z e f h wrote =
 
 -- the text was not written whole
 pub journal-breaks : Silent → (c : Chronicled) (s : State) (n : ℕ) (last : Chronicled × ℕ) (left left' x y z : Option (List ℕ)) (source_failed sink_failed : Bool) (fault : OutFault) → c ≡ unwritten s → n ≡ 0
-    → TakesAll recording_rule 256 (c, n) last left left' x y → source_failed ≡ false → WritesFront y z (journal_told last.0) → IsOutFault fault sink_failed
+    → TakesAll recording_rule 256 (λ _. longest_input) (c, n) last left left' x y → source_failed ≡ false → WritesFront y z (journal_told last.0) → IsOutFault fault sink_failed
     → StopsJournaling s left left' x z source_failed sink_failed (run_fault_of_output fault)
 journal-breaks silent c s n last left left' x y z source_failed sink_failed fault e f h working wrote why =
     let r = all-recorded silent c s n last left left' x y e f h in
@@ -93,9 +93,9 @@ journal-breaks silent c s n last left left' x y z source_failed sink_failed faul
 
 -- the lines were not all taken
 pub journal-stops : Silent → (c : Chronicled) (s : State) (n : ℕ) (left left' taken taken' : Option (List ℕ)) (source_failed sink_failed : Bool) (fault : InputFault CallFault) → c ≡ unwritten s → n ≡ 0
-    → InputStops recording_rule 256 StopsRecording (c, n) left left' taken taken' source_failed sink_failed fault → StopsJournaling s left left' taken taken' source_failed sink_failed (run_fault_of_recording fault)
+    → InputStops recording_rule 256 (λ _. longest_input) StopsRecording (c, n) left left' taken taken' source_failed sink_failed fault → StopsJournaling s left left' taken taken' source_failed sink_failed (run_fault_of_recording fault)
 journal-stops silent c s n left left' taken taken' source_failed sink_failed fault e f h =
-    let t = subst (λ (q : Chronicled × ℕ). InputStops recording_rule 256 StopsRecording q left left' taken taken' source_failed sink_failed fault) (both c (unwritten s) n 0 e f) h in
+    let t = subst (λ (q : Chronicled × ℕ). InputStops recording_rule 256 (λ _. longest_input) StopsRecording q left left' taken taken' source_failed sink_failed fault) (both c (unwritten s) n 0 e f) h in
     let begun : Chronicled × ℕ = (unwritten s, 0) in
     let all : [] ≡ t.wrote.out ++ t.wrote.front.0 = sym (silent begun (lines_of 256 t.input)) ∙ t.wrote.front.1 in
     let none : Appends taken taken' [] = subst (λ text. Appends taken taken' text) (no-front t.wrote.out t.wrote.front.0 all) t.wrote.wrote in
@@ -118,10 +118,10 @@ journal-stops silent c s n left left' taken taken' source_failed sink_failed fau
     by (Taker CallMemory) text none = record { out = []; wrote = none; front = (text, refl) }
     by (Taker NoPlace) text none = none
 
-    why : (fault : InputFault CallFault) (input : List ℕ) → InputCauseOf (StopsAt recording_rule StopsRecording (unwritten s, 0) (lines_of 256 input)) fault input source_failed sink_failed
+    why : (fault : InputFault CallFault) (input : List ℕ) → InputCauseOf (StopsAt recording_rule StopsRecording (unwritten s, 0) (lines_of 256 input)) (λ _. longest_input) fault input source_failed sink_failed
         → JournalCauseOf (run_fault_of_recording fault) s input source_failed sink_failed
     why ReadFault input c = c
-    why LongInput input c = c
+    why LongInput input c = (c.0.above, c.1, c.2)
     why WriteFault input c = c
     why InputMemory input c = c
     why (Taker CallMemory) input c = (c.0, c.1, c.2)
@@ -139,9 +139,9 @@ journal-unopened s left taken source_failed sink_failed e f = record {
 
 -- all entries are kept
 pub journal-whole : (c : Chronicled) (s : State) (n : ℕ) (last : Chronicled × ℕ) (left left' x y : Option (List ℕ)) → c ≡ unwritten s → n ≡ 0
-    → TakesAll recording_rule 256 (c, n) last left left' x y → last.0.from ≡ 0
+    → TakesAll recording_rule 256 (λ _. longest_input) (c, n) last left left' x y → last.0.from ≡ 0
 journal-whole c s n last left left' x y e f h =
-    let t = subst (λ (q : Chronicled × ℕ). TakesAll recording_rule 256 q last left left' x y) (both c (unwritten s) n 0 e f) h in
+    let t = subst (λ (q : Chronicled × ℕ). TakesAll recording_rule 256 (λ _. longest_input) q last left left' x y) (both c (unwritten s) n 0 e f) h in
     ap (λ (q : Chronicled × ℕ). q.0.from) t.state ∙ ap (λ (d : Chronicled). d.from) (history-after (unwritten s) 0 t.input)
 
 -- ---- the opening

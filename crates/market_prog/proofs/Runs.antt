@@ -4,7 +4,7 @@ use Rattle.std.specs.Io.KnownBytes.{Appends}
 use Rattle.byte_devices.specs.Devices.{WritesFront}
 use Rattle.market_types.specs.State.{State}
 use Rattle.line_engine.specs.Lines.{Line, lines_of}
-use Rattle.line_engine.specs.Input.{TakesAll, StopsAt, CauseOf as InputCauseOf, Stops as InputStops, HandsOver as InputHandsOver}
+use Rattle.line_engine.specs.Input.{TakesAll, StopsAt, CauseOf as InputCauseOf, Stops as InputStops, HandsOver as InputHandsOver, longest_input}
 use Rattle.line_engine.specs.declared.fault.InputFault.{InputFault}
 use Rattle.line_engine.specs.declared.fault.InputFault.TheVariants.{Read as ReadFault, TooLong as LongInput, Write as WriteFault, Memory as InputMemory, Taker}
 use Rattle.market_prog.specs.declared.fault.RunFault.TheVariants.{Read}
@@ -18,8 +18,8 @@ pub begun : (m s : State) (n : ℕ) → m ≡ s → n ≡ 0 → ◌≡◌ {A = S
 begun m s n e f = cc
 
 pub run-answers : (m s : State) (n : ℕ) (last : State × ℕ) (left left' taken taken' : Option (List ℕ)) → m ≡ s → n ≡ 0
-    → TakesAll script_rule 256 (m, n) last left left' taken taken' → Answers s left left' taken taken' last.1
-run-answers m s n last left left' taken taken' e f h = let t = subst (λ (q : State × ℕ). TakesAll script_rule 256 q last left left' taken taken') (begun m s n e f) h in record {
+    → TakesAll script_rule 256 (λ _. longest_input) (m, n) last left left' taken taken' → Answers s left left' taken taken' last.1
+run-answers m s n last left left' taken taken' e f h = let t = subst (λ (q : State × ℕ). TakesAll script_rule 256 (λ _. longest_input) q last left left' taken taken') (begun m s n e f) h in record {
   script = t.input;
   read = t.read;
   within = t.within;
@@ -28,17 +28,17 @@ run-answers m s n last left left' taken taken' e f h = let t = subst (λ (q : St
 }
 
 pub cause-of : {F : Type 0} (stops : F → Type 0) (fault : InputFault F) (input : List ℕ) (source_failed sink_failed : Bool)
-    → InputCauseOf stops fault input source_failed sink_failed → CauseOf (run_fault_of_input fault) input source_failed sink_failed
+    → InputCauseOf stops (λ _. longest_input) fault input source_failed sink_failed → CauseOf (run_fault_of_input fault) input source_failed sink_failed
 cause-of stops ReadFault input x y c = c
-cause-of stops LongInput input x y c = c
+cause-of stops LongInput input x y c = (c.0.above, c.1, c.2)
 cause-of stops WriteFault input x y c = c
 cause-of stops InputMemory input x y c = c
 cause-of stops (Taker fault) input x y c = (c.0, c.1, c.2)
 
 pub run-stops : {F : Type 0} (stops : State × ℕ → Line → F → Type 0) (m s : State) (n : ℕ) (left left' taken taken' : Option (List ℕ)) (source_failed sink_failed : Bool) (fault : InputFault F) → m ≡ s → n ≡ 0
-    → InputStops script_rule 256 stops (m, n) left left' taken taken' source_failed sink_failed fault → Stops s left left' taken taken' source_failed sink_failed (run_fault_of_input fault)
+    → InputStops script_rule 256 (λ _. longest_input) stops (m, n) left left' taken taken' source_failed sink_failed fault → Stops s left left' taken taken' source_failed sink_failed (run_fault_of_input fault)
 run-stops stops m s n left left' taken taken' source_failed sink_failed fault e f h =
-    let t = subst (λ (q : State × ℕ). InputStops script_rule 256 stops q left left' taken taken' source_failed sink_failed fault) (begun m s n e f) h in record {
+    let t = subst (λ (q : State × ℕ). InputStops script_rule 256 (λ _. longest_input) stops q left left' taken taken' source_failed sink_failed fault) (begun m s n e f) h in record {
       script = t.input;
       read = t.read;
       wrote = subst (λ text. WritesFront taken taken' text) (replies-told s 0 t.input) t.wrote;

@@ -2,7 +2,7 @@
 ghost use Rattle.std.specs.Prelude.{◌≡◌};
 
 use crate::session::{Session, is_silent};
-use line_engine::{LineForm, LineTaker};
+use line_engine::{LONGEST_INPUT, LineForm, LineTaker};
 use market_core::Market;
 use std::alloc::{AllocError, Global};
 
@@ -40,6 +40,8 @@ impl QuietSession {
 
 impl LineTaker for QuietSession {
     ghost use Rattle.std.specs.Prelude.{ℕ, ⊤};
+    ghost use Rattle.std.proofs.Common.{le_refl};
+    ghost use Rattle.line_engine.specs.Input.{longest_input};
     ghost use Rattle.market_types.specs.State.{State};
     ghost use Rattle.market_prog.specs.Sessions.{quiet_rule, longest_line};
 
@@ -58,6 +60,14 @@ impl LineTaker for QuietSession {
     ghost stops = { λ _ _ _. ⊤ };
 
     ghost count = { λ s. s.session.unread };
+
+    ghost most_bytes = { λ _. longest_input };
+
+    ghost grows = { λ _ _. le_refl longest_input };
+
+    fn most_bytes(&self) -> u64 {
+        LONGEST_INPUT
+    }
 
     fn take_line(
         &mut self,

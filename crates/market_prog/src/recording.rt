@@ -7,7 +7,7 @@ ghost use Rattle.market_prog.specs.Recording.{IsUnrecorded, lengthened};
 
 use crate::session::{call_in, is_silent};
 use edit_history::{CallFault, Chronicle};
-use line_engine::{LineForm, LineTaker};
+use line_engine::{LONGEST_INPUT, LineForm, LineTaker};
 use market_types::{Cmd, SeatNo};
 use std::alloc::Global;
 
@@ -65,6 +65,8 @@ impl RecordingSession {
 
 impl LineTaker for RecordingSession {
     ghost use Rattle.std.specs.Prelude.{ℕ};
+    ghost use Rattle.std.proofs.Common.{le_refl};
+    ghost use Rattle.line_engine.specs.Input.{longest_input};
     ghost use Rattle.edit_history.specs.Chronicled.{Chronicled};
     ghost use Rattle.market_prog.specs.Sessions.{longest_line};
     ghost use Rattle.market_prog.specs.Recording.{recording_rule, StopsRecording};
@@ -84,6 +86,14 @@ impl LineTaker for RecordingSession {
     ghost stops = { StopsRecording };
 
     ghost count = { λ s. s.unread };
+
+    ghost most_bytes = { λ _. longest_input };
+
+    ghost grows = { λ _ _. le_refl longest_input };
+
+    fn most_bytes(&self) -> u64 {
+        LONGEST_INPUT
+    }
 
     fn take_line(
         &mut self,

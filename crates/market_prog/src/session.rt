@@ -4,7 +4,7 @@ ghost use Rattle.market_types.specs.Reading.{line_reading};
 ghost use Rattle.market_types.specs.Script.{answer_to, is_silent};
 ghost use Rattle.market_prog.specs.Sessions.{answer_line, is_too_long};
 
-use line_engine::{LineForm, LineTaker};
+use line_engine::{LONGEST_INPUT, LineForm, LineTaker};
 use market_core::Market;
 use market_types::{Cmd, Reply, SeatNo, push_reply, read_line};
 use std::alloc::{AllocError, Global};
@@ -111,6 +111,8 @@ impl Session {
 
 impl LineTaker for Session {
     ghost use Rattle.std.specs.Prelude.{ℕ, ⊤};
+    ghost use Rattle.std.proofs.Common.{le_refl};
+    ghost use Rattle.line_engine.specs.Input.{longest_input};
     ghost use Rattle.market_types.specs.State.{State};
     ghost use Rattle.market_prog.specs.Sessions.{script_rule, longest_line};
 
@@ -129,6 +131,14 @@ impl LineTaker for Session {
     ghost stops = { λ _ _ _. ⊤ };
 
     ghost count = { λ s. s.unread };
+
+    ghost most_bytes = { λ _. longest_input };
+
+    ghost grows = { λ _ _. le_refl longest_input };
+
+    fn most_bytes(&self) -> u64 {
+        LONGEST_INPUT
+    }
 
     fn take_line(
         &mut self,
