@@ -1,4 +1,5 @@
 mod Lines
+mod Limits
 mod Json
 mod Legal
 mod Told

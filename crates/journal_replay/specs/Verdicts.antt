@@ -88,18 +88,33 @@ verdict_of (Faulty verdict extent) = verdict
 abbrev pub verdict : List ℕ → Verdict
 verdict text = verdict_of (after journal_rule Unopened (lines_of longest_line text))
 
+-- the most bytes of a journal of this extent: those of any input, or as many as 64 bits count
+abbrev pub longest_journal : Extent → ℕ
+longest_journal Limited = longest_input
+longest_journal Endless = 9223372036854775808
+
+-- the same by what its lines so far told; without a header it is limited
+abbrev pub most_bytes : Progress → ℕ
+most_bytes Unopened = longest_input
+most_bytes (Replaying market entries extent) = longest_journal extent
+most_bytes (Faulty verdict extent) = longest_journal extent
+
+-- the most bytes that a text may have which is a journal, by its lines
+abbrev pub limit_of : List ℕ → ℕ
+limit_of text = most_bytes (after journal_rule Unopened (lines_of longest_line text))
+
 -- The text was read, and this is its verdict.
 pub record Finds (left left' : Option (List ℕ)) (found : Verdict) : Type 0 where
   pub text : List ℕ
   pub read : Consumes left left' text
-  pub within : length text ≤ longest_input
+  pub within : length text ≤ limit_of text
   pub is : found ≡ verdict text
 
 -- Some text was read, and it was not found what it is, for this reason.
 pub record StopsReading {F : Type 0} (left left' : Option (List ℕ)) (source_failed : Bool) (fault : InputFault F) : Type 0 where
   pub text : List ℕ
   pub read : Consumes left left' text
-  pub cause : CauseOf (λ _. ⊤) (λ _. longest_input) fault text source_failed false
+  pub cause : CauseOf (λ _. ⊤) limit_of fault text source_failed false
 
 -- how many lines of a legal journal were taken
 abbrev pub lines_taken : Progress → ℕ

@@ -1,8 +1,8 @@
 //! A journal, checked line by line.
-ghost use Rattle.std.specs.Prelude.{◌≡◌, ◌+◌, ◌<◌, ◌^◌, true, false, IfOk, IfErr, OnOk, option_map, option_and_then};
+ghost use Rattle.std.specs.Prelude.{◌≡◌, ◌+◌, ◌<◌, ◌≤◌, ◌^◌, true, false, IfOk, IfErr, OnOk, option_map, option_and_then};
 ghost use Rattle.std.specs.Io.KnownBytes.{IsAtEnd};
 ghost use Rattle.serde_json.specs.View.{view};
-ghost use Rattle.journal_replay.specs.Verdicts.{Finds, StopsReading, after_header, after_line, after_record, json_by, lines_taken, verdict, verdict_of};
+ghost use Rattle.journal_replay.specs.Verdicts.{Finds, StopsReading, after_header, after_line, after_record, json_by, lines_taken, most_bytes, verdict, verdict_of};
 ghost use Rattle.journal_replay.specs.Reading.{header_of};
 
 use crate::header::Extent;
@@ -101,6 +101,17 @@ impl Progress {
         }
     }
 
+    /// The most bytes that the journal may have.
+    fn most_bytes(&self) -> u64
+        ensures exact { result ≡ most_bytes self.now }
+        ensures countable { result ≤ 2 ^ 63 }
+    {
+        match self {
+            Progress::Unopened => LONGEST_INPUT,
+            Progress::Replaying(_, _, extent) | Progress::Faulty(_, extent) => extent.most_bytes(),
+        }
+    }
+
     /// What is found, if no line follows.
     fn into_verdict(self) -> Verdict
         ensures { result ≡ verdict_of self }
@@ -134,10 +145,9 @@ impl Checker {
 
 impl LineTaker for Checker {
     ghost use Rattle.std.specs.Prelude.{⊤};
-    ghost use Rattle.std.proofs.Common.{le_refl};
-    ghost use Rattle.line_engine.specs.Input.{longest_input};
+    ghost use Rattle.journal_replay.specs.Growth.{limit-grows};
     ghost use Rattle.journal_replay.specs.declared.checker.Progress.{Progress};
-    ghost use Rattle.journal_replay.specs.Verdicts.{journal_rule, lines_taken, longest_line};
+    ghost use Rattle.journal_replay.specs.Verdicts.{journal_rule, lines_taken, longest_line, most_bytes};
 
     type Fault = AllocError;
 
@@ -155,12 +165,12 @@ impl LineTaker for Checker {
 
     ghost count = { λ c. lines_taken c.progress };
 
-    ghost most_bytes = { λ _. longest_input };
+    ghost most_bytes = { most_bytes };
 
-    ghost grows = { λ _ _. le_refl longest_input };
+    ghost grows = { limit-grows };
 
     fn most_bytes(&self) -> u64 {
-        LONGEST_INPUT
+        self.progress.most_bytes()
     }
 
     fn take_line(
@@ -192,8 +202,8 @@ pub fn check(alloc: Global, text: &[u8]) -> Result<Verdict, AllocError>
 /// What is found of the journal that a source has left, as `check` finds it. It takes the memory of `check`, and of one piece
 /// of 65,536 bytes.
 ///
-/// Whichever fault comes first stops it: a read that fails is `Read`, a journal of more than 268,435,456 bytes `TooLong`,
-/// and running out of memory `Memory`, or `Taker` where a line was replayed.
+/// Whichever fault comes first stops it: a read that fails is `Read`, a journal of more than 268,435,456 bytes `TooLong`, where
+/// no header of version 3 begins it, and running out of memory `Memory`, or `Taker` where a line was replayed.
 pub fn check_source<R: Source>(
     alloc: Global,
     source: &mut R,

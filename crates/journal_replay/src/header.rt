@@ -1,13 +1,17 @@
 //! What the header of a journal tells.
-ghost use Rattle.std.specs.Prelude.{◌≡◌};
+ghost use Rattle.std.specs.Prelude.{◌≡◌, ◌≤◌, ◌^◌};
 ghost use Rattle.journal_replay.specs.Journal.{fits_second, header_for};
-ghost use Rattle.journal_replay.specs.Verdicts.{is_full};
+ghost use Rattle.journal_replay.specs.Verdicts.{is_full, longest_journal};
 
+use line_engine::LONGEST_INPUT;
 use market_core::Market;
 use market_types::LastNumber;
 
 /// The most entries of a journal that is limited.
 const MOST_ENTRIES: u64 = 1_048_576;
+
+/// The most bytes of a journal that is endless.
+const MOST_COUNTED: u64 = 9_223_372_036_854_775_808;
 
 /// How many entries a journal may have.
 #[derive(Clone, Copy, Debug, PartialEq, Eq)]
@@ -26,6 +30,17 @@ impl Extent {
         match self {
             Extent::Limited => entries >= MOST_ENTRIES,
             Extent::Endless => false,
+        }
+    }
+
+    /// The most bytes of a journal.
+    pub(crate) fn most_bytes(self) -> u64
+        ensures exact { result ≡ longest_journal self }
+        ensures countable { result ≤ 2 ^ 63 }
+    {
+        match self {
+            Extent::Limited => LONGEST_INPUT,
+            Extent::Endless => MOST_COUNTED,
         }
     }
 }
