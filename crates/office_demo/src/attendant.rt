@@ -1,6 +1,7 @@
 //! Who is at an office that lasts.
+use crate::fault::DemoFault;
 use crate::guest::Guest;
-use crate::writer::Writer;
+use crate::writer::{Stop, Writer};
 use market_lock::{Office, Pass, Placed};
 use office_crew::{Caller, Task};
 use std::alloc::Global;
@@ -14,6 +15,37 @@ pub enum Attendant<'a> {
     Guest(Guest<'a>),
     /// It writes down what the guests do.
     Writer(Writer<'a>),
+}
+
+impl Attendant<'_> {
+    /// The kilobytes that it saw at a quarter of the time.
+    pub fn quarter(&self) -> Option<u64> {
+        match self {
+            Attendant::Guest(guest) => guest.quarter,
+            Attendant::Writer(_) => None,
+        }
+    }
+
+    /// And at its end.
+    pub fn end(&self) -> Option<u64> {
+        match self {
+            Attendant::Guest(guest) => guest.end,
+            Attendant::Writer(_) => None,
+        }
+    }
+
+    /// Why it stopped before its time was over, if it did.
+    pub fn stop(&self) -> Option<DemoFault> {
+        let Attendant::Writer(writer) = self else {
+            return None;
+        };
+        match writer.stop {
+            Stop::Over => None,
+            Stop::Memory => Some(DemoFault::Memory),
+            Stop::Write => Some(DemoFault::Write),
+            Stop::Missed => Some(DemoFault::Missed),
+        }
+    }
 }
 
 impl Task for Attendant<'_> {

@@ -17,6 +17,9 @@ pub enum DemoFault {
     /// The office was not opened.
     #[error("no office")]
     Closed,
+    /// The office gave no part of its history, or one that does not go on where the last one ended.
+    #[error("a part is missing")]
+    Missed,
     /// The command line or standard error failed.
     #[error("{0}")]
     System(io::Error),

@@ -1,16 +1,21 @@
-//! Callers at work for so long, through an office that keeps no journal.
+//! Callers at work for so long, through an office that lasts.
 ghost use Rattle.std.specs.Prelude.{◌≡◌, ◌≤◌, length, vec_len, IfOk};
 ghost use Rattle.edit_history.specs.Chronicled.{market_of};
 ghost use Rattle.edit_history.specs.Places.{placed as seats_placed};
+ghost use Rattle.office_demo.specs.Choices.{most_callers, seats_of};
 
+use crate::attendant::Attendant;
 use crate::fault::DemoFault;
 use crate::guest::Guest;
 use crate::note::LEVELS;
 use crate::watch::Watch;
-use edit_history::Keeping;
+use crate::writer::{MOST_SEATS, Writer};
+use byte_devices::WriteSink;
+use edit_history::{Chronicle, Keeping};
+use journal_replay::{Extent, Header, write_header, write_part};
 use market_lock::Closed;
 use market_types::LastNumber;
-use office_crew::{Terms, meet};
+use office_crew::{Meeting, Terms, meet};
 use std::alloc::{AllocError, Global};
 use std::rt::HostRuntime;
 use std::sync::Wait;
@@ -20,16 +25,57 @@ use std::time::Duration;
 /// The greatest last number: arenas are opened as long as anybody waits.
 const LAST: u32 = 4_294_967_294;
 
-/// What the office is opened with, that keeps no entries.
-fn terms() -> Terms {
-    Terms {
-        base: 8,
-        hard: 64,
-        places: 1_048_576,
-        levels: LEVELS,
-        last: LastNumber::new(LAST).unwrap_or(LastNumber::USUAL),
-        keeping: Keeping::Nothing,
+/// What becomes of the entries.
+#[derive(Clone, Copy, Debug, PartialEq, Eq)]
+pub enum Record {
+    /// None is kept.
+    Nothing,
+    /// They are written to standard output as a journal, part by part.
+    Journal,
+}
+
+impl Record {
+    /// How many callers there can be. Who writes the journal has a seat too.
+    pub fn most_callers(self) -> u8
+        ensures { result ≡ most_callers self }
+    {
+        match self {
+            Record::Nothing => 64,
+            Record::Journal => 63,
+        }
     }
+
+    /// How the office keeps its entries.
+    fn keeping(self) -> Keeping {
+        match self {
+            Record::Nothing => Keeping::Nothing,
+            Record::Journal => Keeping::InParts,
+        }
+    }
+
+    /// What the office is opened with.
+    fn terms(self) -> Terms {
+        Terms {
+            base: BASE,
+            hard: HARD,
+            places: PLACES,
+            levels: LEVELS,
+            last: last_number(),
+            keeping: self.keeping(),
+        }
+    }
+}
+
+const BASE: u32 = 8;
+
+const HARD: u32 = 64;
+
+/// How many entries can wait to be written.
+const PLACES: u32 = 65_536;
+
+/// The last number of an arena, a stamp and a control.
+fn last_number() -> LastNumber {
+    LastNumber::new(LAST).unwrap_or(LastNumber::USUAL)
 }
 
 /// What is left when the time is over.
@@ -53,43 +99,99 @@ impl Lasted {
     }
 }
 
-/// A guest for each seat, no two of one seed.
-fn guests<'a>(
+/// A guest for each seat, no two of one seed, and who writes the journal, if there is to be one.
+fn attendants<'a>(
     system: &'a HostRuntime,
     alloc: Global,
     watch: &'a Watch<'a, HostRuntime>,
     callers: u8,
-) -> Result<Vec<Guest<'a>>, AllocError>
-    ensures { IfOk result (λ guests. vec_len guests ≡ callers) }
+    recorded: Record,
+) -> Result<Vec<Attendant<'a>>, AllocError>
+    requires few { callers ≤ 64 }
+    ensures each { IfOk result (λ attendants. vec_len attendants ≡ seats_of recorded callers) }
 {
-    let mut guests = Vec::with_capacity(alloc, usize::from(callers))?;
+    let mut attendants = Vec::with_capacity(alloc, usize::from(callers) + 1)?;
     for seed in 0..callers {
-        guests.push_reserved(Guest::new(system, watch, u64::from(seed)));
+        let guest = Guest::new(system, watch, u64::from(seed));
+        attendants.push_reserved(Attendant::Guest(guest));
     }
-    Ok(guests)
+    if recorded == Record::Journal {
+        attendants.push_reserved(Attendant::Writer(Writer::new(system, watch)));
+    }
+    Ok(attendants)
 }
 
-/// So many callers call until so much time has gone by, through an office that keeps no entries. `system` is what they look at the
-/// clock and the memory by.
+/// Writes the header of the journal. Who writes the rest has a seat too.
+fn begin_journal(system: &HostRuntime, alloc: Global, callers: u8) -> Result<(), DemoFault>
+    requires few { callers ≤ 63 }
+{
+    let header = Header {
+        base: BASE,
+        hard: HARD,
+        seats: callers + 1,
+        levels: LEVELS,
+        last: last_number(),
+        extent: Extent::Endless,
+    };
+    let mut output = WriteSink::new(system.stdout());
+    write_header(alloc, header, &mut output)?;
+    Ok(())
+}
+
+/// Writes what the writer has left of the journal, and tells why it stopped where its time was not over.
+fn end_journal(
+    system: &HostRuntime,
+    alloc: Global,
+    attendants: &[Attendant<'_>],
+    chronicle: &mut Chronicle,
+) -> Result<(), DemoFault>
+    ensures log { chronicle.new.log ≡ chronicle.old.log }
+    ensures start { chronicle.new.start ≡ chronicle.old.start }
+{
+    if let Some(stop) = attendants.iter().find_map(Attendant::stop) {
+        return Err(stop);
+    }
+    let Some(part) = chronicle.cut(Vec::with_capacity(alloc, MOST_SEATS)?) else {
+        return Err(DemoFault::Missed);
+    };
+    let mut output = WriteSink::new(system.stdout());
+    write_part(alloc, LEVELS, &part, &mut output)?;
+    Ok(())
+}
+
+/// So many callers call until so much time has gone by, through an office that lasts. `system` is what they look at the clock and
+/// the memory by, and where the journal is written.
 pub fn last<R: Threads + Wait + Sync>(
     rt: &R,
     system: &HostRuntime,
     alloc: Global,
     time: Duration,
     callers: u8,
+    recorded: Record,
 ) -> Result<Lasted, DemoFault>
-    requires { callers ≤ 64 }
+    requires few { callers ≤ most_callers recorded }
     ensures calls { IfOk result (λ lasted. lasted.closed.calls ≡ length lasted.closed.chronicle.log) }
     ensures workers { IfOk result (λ lasted. lasted.closed.workers ≡ seats_placed (market_of lasted.closed.chronicle)) }
 {
     let watch = Watch::new(system, time)?;
-    let guests = guests(system, alloc, &watch, callers)?;
-    let nobody = Vec::<Guest<'_>>::new(alloc);
-    let meeting = meet(rt, alloc, terms(), nobody, guests).map_err(|unmet| unmet.fault)?;
+    let attendants = attendants(system, alloc, &watch, callers, recorded)?;
+    if recorded == Record::Journal {
+        begin_journal(system, alloc, callers)?;
+    }
+    let nobody = Vec::<Attendant<'_>>::new(alloc);
+    let met = meet(rt, alloc, recorded.terms(), nobody, attendants);
+    let Meeting {
+        mut closed,
+        openers: _,
+        tasks,
+    } = met.map_err(|unmet| unmet.fault)?;
+    if recorded == Record::Journal {
+        end_journal(system, alloc, &tasks, &mut closed.chronicle)?;
+    }
     Ok(Lasted {
         time: watch.elapsed(),
-        quarter: meeting.tasks.iter().filter_map(|guest| guest.quarter).max(),
-        end: meeting.tasks.iter().filter_map(|guest| guest.end).max(),
-        closed: meeting.closed,
+        quarter: tasks.iter().filter_map(Attendant::quarter).max(),
+        end: tasks.iter().filter_map(Attendant::end).max(),
+        closed,
     })
 }

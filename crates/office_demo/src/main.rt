@@ -3,6 +3,7 @@
 
 ghost use Rattle.std.specs.Prelude.{◌≡◌};
 
+mod attendant;
 mod choice;
 mod dice;
 mod fault;
@@ -13,6 +14,7 @@ mod resident;
 mod visitor;
 mod watch;
 mod work;
+mod writer;
 
 use crate::choice::{Choice, USAGE};
 use crate::fault::DemoFault;
@@ -98,9 +100,15 @@ fn main(rt: HostRuntime) -> ExitCode {
             Ok(outcome) => show(&rt, &outcome),
             Err(fault) => Err(fault),
         },
-        Ok(Choice::Forever { callers, seconds }) => {
+        Ok(
+            Choice::Forever {
+                callers,
+                seconds,
+                recorded,
+            },
+        ) => {
             let time = Duration::from_secs(u64::from(seconds));
-            match last(&rt, &rt, rt.alloc(), time, callers) {
+            match last(&rt, &rt, rt.alloc(), time, callers, recorded) {
                 Ok(lasted) => tell_lasted(&rt, &lasted),
                 Err(fault) => Err(fault),
             }

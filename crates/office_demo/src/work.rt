@@ -58,7 +58,7 @@ fn count_agreeing(alloc: Global, closed: &Closed, visitors: &[Visitor]) -> Resul
     Ok(agreeing)
 }
 
-/// So many callers of an office of these terms call so many times each. Neither the journal nor what they noted is written.
+/// So many callers of an office of these terms, which keeps all entries, call so many times each. Neither the journal nor what they noted is written.
 pub fn work<R: Threads + Wait + Sync>(
     rt: &R,
     alloc: Global,
@@ -71,6 +71,10 @@ pub fn work<R: Threads + Wait + Sync>(
 {
     let visitors = visitors(alloc, callers, calls)?;
     let nobody = Vec::<Visitor>::new(alloc);
+    let terms = Terms {
+        keeping: Keeping::Everything,
+        ..terms
+    };
     let meeting = meet(rt, alloc, terms, nobody, visitors).map_err(|unmet| unmet.fault)?;
     let Meeting {
         closed,
