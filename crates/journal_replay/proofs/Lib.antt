@@ -3,5 +3,7 @@ mod Json
 mod Legal
 mod Told
 mod Entries
+mod Ascii
+mod Back
 mod Few
 mod Short
