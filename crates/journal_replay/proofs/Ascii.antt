@@ -1,5 +1,5 @@
 -- What is written of commands and replies is ASCII.
-use Rattle.std.specs.Prelude.{nat_lt, ◌==◌, ◌&&◌, ℤ, pos, negsuc}
+use Rattle.std.specs.Prelude.{nat_lt, ◌==◌, ℤ, pos, negsuc}
 use Rattle.std.specs.Fmt.{digits, digits_onto, digit_glyph, signed_decimal}
 use Rattle.std.specs.List.{join_with_byte}
 use Rattle.std.proofs.Common.{◌≡◌, ℕ, zero, suc, ◌/◌, ◌%◌, ◌++◌, Bool, true, false, cond, List, [], ◌∷◌, map, codes, decimal, refl, arith}

@@ -1,18 +1,12 @@
 -- An entry's line, token by token.
-use Rattle.std.specs.Prelude.{IsUtf8}
-use Rattle.std.proofs.Common.{◌≡◌, ◌<◌, ◌^◌, ℕ, List, [], ◌∷◌, codes, decimal, Option, Some, refl, sym, ap, ◌∙◌, arith, rules, append-nil, option_and_then}
+use Rattle.std.proofs.Common.{◌≡◌, ◌<◌, ◌^◌, ℕ, List, [], ◌∷◌, codes, decimal, Some, refl, rules}
 use Rattle.json.specs.Token.{Token, begin_object, end_object, key, string, number}
-use Rattle.json.specs.Lex.{tokens}
 use Rattle.json.specs.Print.{print}
 use Rattle.json.specs.Json as json
-use Rattle.json.proofs.Printed.Trees.{value-json_tokens}
-use Rattle.serde_json.specs.Data.{Data}
-use Rattle.serde_json.specs.Read.{read, of_json, max_depth}
+use Rattle.serde_json.specs.Read.{of_json}
 use Rattle.serde_json.proofs.Numbers.{number_of-decimal}
 use Rattle.serde_json.proofs.OnLiterals.{serde_json_on_literals}
 use Rattle.journal_replay.specs.Journal.{entry_data, fields_line}
-use Rattle.journal_replay.specs.Reading.{json_of}
-use Rattle.journal_replay.proofs.Json.{json-read}
 
 -- what is written for a command's text, a reply's text and a seat
 abbrev pub entry-tokens : List ℕ → List ℕ → ℕ → List Token

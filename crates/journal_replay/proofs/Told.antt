@@ -20,7 +20,7 @@ use Rattle.market_types.specs.State.{State, opening_to}
 use Rattle.market_types.specs.Texts.{cmd_text, reply_text}
 use Rattle.market_types.specs.Reading.{Fits, reading}
 use Rattle.edit_history.specs.Chronicled.{IsOpening, IsCallOf}
-use Rattle.journal_replay.specs.Journal.{is_limited, fits_second, header_for, second_data, third_data, header_data, entry_data, second_line, third_line, header_line, fields_line, entry_line, entry_lines, journal_in}
+use Rattle.journal_replay.specs.Journal.{is_limited, fits_second, header_for, second_data, third_data, entry_data, second_line, third_line, header_line, fields_line, entry_line, entry_lines, journal_in}
 use Rattle.journal_replay.specs.Reading.{json_of, from_one_to, opened_by, header_in, header_of, entry_in}
 use Rattle.journal_replay.specs.Verdicts.{most_entries}
 use Rattle.journal_replay.specs.Legality.{AreEntryLines, IsLegalJournal}

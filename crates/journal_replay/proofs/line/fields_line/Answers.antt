@@ -1,4 +1,4 @@
-use Rattle.std.proofs.Common.{◌≡◌, List, [], ◌∷◌, ◌++◌, decimal, codes, Some, ap, ◌∙◌}
+use Rattle.std.proofs.Common.{◌≡◌, List, [], ◌∷◌, ◌++◌, decimal, codes, ap, ◌∙◌}
 use Rattle.json.specs.Token.{Token, begin_object, end_object, key, string, number}
 use Rattle.json.specs.Print.{print}
 use Rattle.journal_replay.proofs.Entries.{printed, entry-tokens}
