@@ -124,7 +124,15 @@ def of_version_1(rng, line):
     return laid_out(rng, [(key, str(value)) for key, value in members.items()], 0.1)
 
 
-HEADER = [with_another_number, with_another_number, of_version_1]
+def of_version_3(rng, line):
+    members = json_of(line)
+    members["journal"] = rng.choice([3, 3, 3, 3, 2, 4])
+    if rng.random() < 0.9:
+        members["last"] = rng.choice([0, 1, 2, 3, 1048576, 1048576, 2**32 - 2, 2**32 - 1])
+    return laid_out(rng, [(key, str(value)) for key, value in members.items()], 0.1)
+
+
+HEADER = [with_another_number, with_another_number, of_version_1, of_version_3]
 
 
 # ---- changes of an entry

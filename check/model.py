@@ -336,7 +336,8 @@ def replies(called):
 
 def journal(market, called):
     """The journal of the calls from the opening of this market on, line by line."""
-    lines = [f'{{"base":{market.base},"hard":{market.hard},"journal":2,"levels":{market.levels},"seats":{len(market.seats)}}}']
+    told = '"journal":2' if market.last == USUAL_LAST else f'"journal":3,"last":{market.last}'
+    lines = [f'{{"base":{market.base},"hard":{market.hard},{told},"levels":{market.levels},"seats":{len(market.seats)}}}']
     for call in called:
         if call is not None:
             seat, text, reply = call
@@ -352,14 +353,16 @@ def whole(value, key, least, most):
 
 
 def opened(header):
-    """The market that a header opens."""
+    """The market that a header opens, and whether the journal may have any number of entries."""
     if type(header) is not dict:
         raise NoRecord
-    version = whole(header, "journal", 1, 2)
-    if set(header) != {"base", "hard", "journal", "seats"} | ({"levels"} if version == 2 else set()):
+    version = whole(header, "journal", 1, 3)
+    if set(header) != {"base", "hard", "journal", "seats"} | set(["levels", "last"][: version - 1]):
         raise NoRecord
-    levels = whole(header, "levels", 1, 8) if version == 2 else 3
-    return Market(whole(header, "base", 1, 65536), whole(header, "hard", 1, 65535), whole(header, "seats", 1, 64), levels)
+    levels = whole(header, "levels", 1, 8) if version > 1 else 3
+    last = whole(header, "last", 1, 2**32 - 2) if version > 2 else USUAL_LAST
+    market = Market(whole(header, "base", 1, 65536), whole(header, "hard", 1, 65535), whole(header, "seats", 1, 64), levels, last)
+    return market, version > 2
 
 
 def recorded(entry, market):
@@ -385,7 +388,7 @@ def verdict(text):
     """What is found of a journal, told by its first faulty line."""
     *lines, left = text.split(b"\n")
     try:
-        market = opened(value_of(lines[0]))
+        market, endless = opened(value_of(lines[0]))
     except (IndexError, NotJson, NoRecord):
         return "J1 bad header"
     for place, line in enumerate(lines[1:], 2):
@@ -394,7 +397,7 @@ def verdict(text):
         except NotJson:
             return f"J2 bad json line {place}"
         try:
-            if place - 2 >= MOST_ENTRIES:
+            if place - 2 >= MOST_ENTRIES and not endless:
                 raise NoRecord
             seat, name, arguments, reply = recorded(entry, market)
         except NoRecord:
