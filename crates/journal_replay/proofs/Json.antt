@@ -2,7 +2,7 @@
 use Rattle.std.specs.Prelude.{IsUtf8, String}
 use Rattle.std.specs.Str.{is_utf8}
 use Rattle.std.specs.declared.alloc.Global.{Global}
-use Rattle.std.proofs.Common.{◌≡◌, ℕ, Bool, true, false, cond, List, [], ◌∷◌, length, Some, None, refl, sym, ap, ◌∙◌, arith}
+use Rattle.std.proofs.Common.{◌≡◌, ℕ, Bool, true, false, cond, List, [], ◌∷◌, length, None, refl, arith}
 use Rattle.std.proofs.lemmas.Str.{IsUtf8-from_is_utf8, is_utf8-from_IsUtf8}
 use Rattle.serde_json.specs.Read.{read}
 use Rattle.serde_json.specs.View.{members_view}
@@ -10,8 +10,7 @@ use Rattle.serde_json.specs.declared.value.Value.{Value}
 use Rattle.market_types.specs.State.{State}
 use Rattle.edit_history.specs.Chronicled.{HasNumbersOf}
 use Rattle.journal_replay.specs.declared.header.Extent.{Extent}
-use Rattle.journal_replay.specs.declared.header.Header.{Header}
-use Rattle.journal_replay.specs.Journal.{header_for, header_data, header_line}
+use Rattle.journal_replay.specs.Journal.{header_for}
 use Rattle.journal_replay.specs.Reading.{json_of, count_members}
 
 pub json-read : (text : List ℕ) → IsUtf8 text → json_of text ≡ read text
@@ -34,8 +33,3 @@ count-members (e ∷ entries) = omega (arith, count-members entries)
 pub same-header : (extent : Extent) (start s : State) → HasNumbersOf start s → header_for extent s ≡ header_for extent start
 same-header extent start s same =
     λ i. record { base = same.base i; hard = same.hard i; seats = same.seats i; levels = same.levels i; last = same.last i; extent = extent }
-
--- a header's line that was written reads back
-pub header-back : (h k : Header) (text : List ℕ) → h ≡ k → text ≡ header_line h → IsUtf8 text → read text ≡ Some (header_data h) → json_of (header_line k) ≡ Some (header_data k)
-header-back h k text same is utf8 reads =
-    ap json_of (ap header_line (sym same) ∙ sym is) ∙ json-read text utf8 ∙ reads ∙ ap (λ (x : Header). Some (header_data x)) same

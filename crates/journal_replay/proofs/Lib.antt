@@ -4,5 +4,7 @@ mod Json
 mod Legal
 mod Told
 mod Entries
+mod Ascii
+mod Back
 mod Few
 mod Short

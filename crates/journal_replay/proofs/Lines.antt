@@ -4,8 +4,6 @@ use Rattle.std.proofs.Common.{◌≡◌, ℕ, zero, suc, ◌+◌, List, [], ◌�
 use Rattle.std.proofs.KnownBytes.{Appends-trans}
 use Rattle.std.proofs.lemmas.Grind.{flat_map-append}
 use Rattle.std.proofs.lemmas.Option.{same_Some}
-use Rattle.std.proofs.lemmas.List.Elements.{All-push}
-use Rattle.std.specs.List.{All}
 use Rattle.std.specs.Io.KnownBytes.{Appends}
 use Rattle.byte_devices.specs.Devices.{WritesFront}
 use Rattle.market_types.specs.declared.reply.Entry.{Entry}
@@ -25,12 +23,6 @@ take-one-more : (log : List Entry) (i : ℕ) (e : Entry) → slice_get log i ≡
 take-one-more [] i e found = cc
 take-one-more (x ∷ xs) zero e found = ap (λ y. y ∷ []) (same_Some x e found)
 take-one-more (x ∷ xs) (suc i) e found = ap (λ ys. x ∷ ys) (take-one-more xs i e found)
-
--- what holds of the first entries, and of the next
-pub all-more : (P : Entry → Type 0) (log : List Entry) (i : ℕ) (e : Entry) → slice_get log i ≡ Some e → All P (take i log) → P e → All P (take (i + 1) log)
-all-more P log i e found all here =
-    let more : take (i + 1) log ≡ take i log ++ e ∷ [] = ap (λ n. take n log) (let next : i + 1 ≡ suc i = omega arith in next) ∙ take-one-more log i e found in
-    subst (λ (l : List Entry). All P l) (sym more) (All-push P (take i log) e all here)
 
 -- what holds anyway holds at an error
 pub at-err : {T E : Type 0} (P : Type 0) (r : Result T E) → P → OnErr r P

@@ -20,7 +20,7 @@ use Rattle.market_types.specs.State.{State, opening_to}
 use Rattle.market_types.specs.Texts.{cmd_text, reply_text}
 use Rattle.market_types.specs.Reading.{Fits, reading}
 use Rattle.edit_history.specs.Chronicled.{IsOpening, IsCallOf}
-use Rattle.journal_replay.specs.Journal.{is_limited, fits_second, header_for, second_data, third_data, header_data, entry_data, second_line, third_line, header_line, fields_line, entry_line, entry_lines, journal_in}
+use Rattle.journal_replay.specs.Journal.{is_limited, fits_second, header_for, second_data, third_data, entry_data, second_line, third_line, header_line, fields_line, entry_line, entry_lines, journal_in}
 use Rattle.journal_replay.specs.Reading.{json_of, from_one_to, opened_by, header_in, header_of, entry_in}
 use Rattle.journal_replay.specs.Verdicts.{most_entries}
 use Rattle.journal_replay.specs.Legality.{AreEntryLines, IsLegalJournal}
@@ -28,12 +28,14 @@ use Rattle.market_types.specs.History.{IsLegal}
 use Rattle.journal_replay.specs.declared.header.Extent.{Extent}
 use Rattle.journal_replay.specs.declared.header.Extent.TheVariants.{Limited, Endless}
 use Rattle.journal_replay.specs.declared.header.Header.{Header}
-use Rattle.journal_replay.specs.Written.{IsShort, IsReadBack}
+use Rattle.journal_replay.specs.Written.{IsShort}
+use Rattle.journal_replay.proofs.Ascii.{ascii-cmd, ascii-reply}
+use Rattle.journal_replay.proofs.Back.{IsInRanges, entry-back, header-back}
 
 -- what an entry has to be to be read again
 record IsTold (seats levels : ℕ) (e : Entry) : Type 0 where
   pub call : IsCallOf seats e
-  pub read : IsReadBack levels e
+  pub read : json_of (entry_line levels e) ≡ Some (entry_data (cmd_text levels e.call.cmd) (reply_text e.reply) e.call.seat)
   pub short : IsShort levels e
 
 abbrev AllOf : ℕ → ℕ → List Entry → Type 0
@@ -121,14 +123,6 @@ free-fields cmd reply seat small =
     free-append (quoted reply) (codes ",\"seat\":" ++ (decimal seat ++ codes "}")) (free-quoted reply) (
     free-append (decimal seat) (codes "}") (free-decimal seat small) refl
     ))
-
--- a header whose numbers are in their ranges
-record IsInRanges (h : Header) : Type 0 where
-  pub base : (1 ≤ h.base) × (h.base ≤ 65536)
-  pub hard : (1 ≤ h.hard) × (h.hard ≤ 65535)
-  pub seats : (1 ≤ h.seats) × (h.seats ≤ 64)
-  pub levels : (1 ≤ h.levels) × (h.levels ≤ 8)
-  pub last : (1 ≤ h.last) × (h.last ≤ 4294967294)
 
 -- a number and what follows it
 free-number : (n : ℕ) (rest : List ℕ) → n < 2 ^ 64 → lf_free rest ≡ true → lf_free (decimal n ++ rest) ≡ true
@@ -234,12 +228,13 @@ lines-read levels seats (e ∷ log) spells all = (
   lines-read levels seats log spells all.1,
 )
 
-all-of : (seats levels : ℕ) (log : List Entry) → All (IsCallOf seats) log → All (IsReadBack levels) log → All (IsShort levels) log → AllOf seats levels log
-all-of seats levels [] calls reads shorts = tt
-all-of seats levels (e ∷ log) calls reads shorts = (
-  record { call = All-head (IsCallOf seats) e log calls; read = All-head (IsReadBack levels) e log reads; short = All-head (IsShort levels) e log shorts },
-  all-of seats levels log (All-tail (IsCallOf seats) e log calls) (All-tail (IsReadBack levels) e log reads) (All-tail (IsShort levels) e log shorts),
-)
+all-of : (seats levels : ℕ) (log : List Entry) → seats ≤ 64 → All (IsCallOf seats) log → All (IsShort levels) log → AllOf seats levels log
+all-of seats levels [] few calls shorts = tt
+all-of seats levels (e ∷ log) few calls shorts =
+    let call : IsCallOf seats e = All-head (IsCallOf seats) e log calls in
+    let seat : e.call.seat < 2 ^ 64 = omega (arith, call.0) in
+    let back = entry-back (cmd_text levels e.call.cmd) (reply_text e.reply) e.call.seat seat (ascii-cmd levels e.call.cmd) (ascii-reply e.reply) in
+    (record { call = call; read = back; short = All-head (IsShort levels) e log shorts }, all-of seats levels log few (All-tail (IsCallOf seats) e log calls) (All-tail (IsShort levels) e log shorts))
 
 second-short : (h : Header) → IsInRanges h → length (second_line h) ≤ 65536
 second-short h r =
@@ -265,15 +260,14 @@ either-line : (P : List ℕ → Type 0) (b : Bool) (xs ys : List ℕ) → P xs �
 either-line P true xs ys p q = p
 either-line P false xs ys p q = q
 
--- a journal that was written tells its history
-pub journal-told : (start : State) (extent : Extent) (log : List Entry) → IsOpening start → IsLegal start log → All (IsCallOf (length start.seats)) log → All (IsReadBack start.levels) log → All (IsShort start.levels) log
-    → json_of (header_line (header_for extent start)) ≡ Some (header_data (header_for extent start))
+-- the journal of a legal history tells it
+pub journal-told : (start : State) (extent : Extent) (log : List Entry) → IsOpening start → IsLegal start log → All (IsCallOf (length start.seats)) log → All (IsShort start.levels) log
     → ((cmd : Cmd) → Fits cmd → reading start.levels (cmd_text start.levels cmd) ≡ Some cmd) → (extent ≡ Limited → length log ≤ most_entries) → IsLegalJournal (journal_in extent start log) (length log)
-journal-told start extent log opened legal calls reads shorts header spells few =
+journal-told start extent log opened legal calls shorts spells few =
     let seats : ℕ = length start.seats in
     let h : Header = header_for extent start in
     let line : List ℕ = header_line h in
-    let all = all-of seats start.levels log calls reads shorts in
+    let all = all-of seats start.levels log opened.seats.1 calls shorts in
     let r : IsInRanges h = record { base = opened.base; hard = opened.hard; seats = opened.seats; levels = opened.levels; last = opened.last } in
     let free = either-line (λ xs. lf_free xs ≡ true) (fits_second h) (second_line h) (third_line h) (free-second h r) (free-third h r) in
     let short = either-line (λ xs. length xs ≤ 65536) (fits_second h) (second_line h) (third_line h) (second-short h r) (third-short h r) in
@@ -286,7 +280,7 @@ journal-told start extent log opened legal calls reads shorts header spells few 
         header = record { bytes = line; form = Whole };
         lines = map (entry_line_of start.levels) log;
         are = lines-first line (entry_lines start.levels log) free short ∙ ap (λ (ls : List Line). record { bytes = line; form = Whole } ∷ ls) (lines-entries start.levels seats log (omega (arith, opened.seats.1)) all);
-        opens = ap (option_and_then header_of) header ∙ header-opens (fits_second h) h refl r ∙ ap (λ (s : State). Some (record { market = s; extent = told })) (sym opened.same);
+        opens = ap (option_and_then header_of) (header-back h r) ∙ header-opens (fits_second h) h refl r ∙ ap (λ (s : State). Some (record { market = s; extent = told })) (sym opened.same);
         entries = lines-read start.levels seats log spells all;
       };
       legal = legal;

@@ -1,20 +1,18 @@
 //! Writing a journal.
 ghost use Rattle.std.specs.Prelude.{◌≡◌, ◌≤◌, ◌<◌, ◌++◌, Some, codes, length, slice_get, true, false, OnOk, OnErr, IfErr};
-ghost use Rattle.std.specs.List.{All};
 ghost use Rattle.std.specs.Io.KnownBytes.{Appends};
 ghost use Rattle.byte_devices.specs.Devices.{WritesFront};
 ghost use Rattle.byte_devices.specs.Output.{Fronts, IsOutFault};
 ghost use Rattle.journal_replay.specs.Journal.{entry_lines, header_line, journal_text};
-ghost use Rattle.journal_replay.specs.Written.{IsReadBack};
 ghost use Rattle.journal_replay.specs.Verdicts.{most_entries, verdict};
 
 use crate::header::{Extent, Header};
-use crate::law::{legal_journals_tell_legal_histories, written_lines_are_short};
+use crate::law::journals_of_legal_histories_are_legal;
 use crate::line::{Texts, entry_line, header_line};
 use crate::verdict::Verdict;
 use byte_devices::{OutFault, Sink, put_all};
 use edit_history::{Chronicle, Part};
-use market_types::{Entry, texts_spell_commands};
+use market_types::Entry;
 use std::alloc::{AllocError, Global};
 
 /// So many bytes that wait are handed over.
@@ -48,7 +46,6 @@ fn write_lines<W: Sink>(
 ) -> Result<(), OutFault>
     requires working { W.failed sink.old ≡ false }
     ensures all { OnOk result (Fronts (W.taken sink.old) (W.taken sink.new) waiting.new.items (waiting.old.items ++ entry_lines levels entries.now)) }
-    ensures reads_back { OnOk result (All (IsReadBack levels) entries.now) }
     ensures working { OnOk result (W.failed sink.new ≡ false) }
     ensures prefix { OnErr result (WritesFront (W.taken sink.old) (W.taken sink.new) (waiting.old.items ++ entry_lines levels entries.now)) }
     ensures cause { IfErr result (λ fault. IsOutFault fault (W.failed sink.new)) }
@@ -77,7 +74,6 @@ fn write_entries<W: Sink>(
     requires working { W.failed sink.old ≡ false }
     ensures all { OnOk result (Fronts (W.taken sink.old) (W.taken sink.new) waiting.new.items (waiting.old.items ++ entry_lines chronicle.now.start.levels chronicle.now.log)) }
     ensures few { OnOk result (length chronicle.now.log ≤ most_entries) }
-    ensures reads_back { OnOk result (All (IsReadBack chronicle.now.start.levels) chronicle.now.log) }
     ensures working { OnOk result (W.failed sink.new ≡ false) }
     ensures prefix { OnErr result (WritesFront (W.taken sink.old) (W.taken sink.new) (waiting.old.items ++ entry_lines chronicle.now.start.levels chronicle.now.log)) }
     ensures cause { IfErr result (λ fault. IsOutFault fault (W.failed sink.new)) }
@@ -141,9 +137,7 @@ pub fn write_journal<W: Sink>(
     ensures prefix { OnErr result (WritesFront (W.taken sink.old) (W.taken sink.new) (journal_text chronicle.now.start chronicle.now.log)) }
     ensures cause { IfErr result (λ fault. IsOutFault fault (W.failed sink.new)) }
 {
-    texts_spell_commands();
-    legal_journals_tell_legal_histories();
-    written_lines_are_short();
+    journals_of_legal_histories_are_legal();
     let mut waiting = Vec::new(alloc);
     let header = Header::of(chronicle.market(), Extent::Limited);
     let line = header_line(alloc, &header)?;

@@ -19,7 +19,8 @@ pub use checker::{check, check_source};
 pub use header::{Extent, Header};
 pub use journal::{write_header, write_journal, write_part};
 pub use law::{
-    header_and_parts_are_the_journal, legal_journals_tell_legal_histories, written_lines_are_short,
+    header_and_parts_are_the_journal, journals_of_legal_histories_are_legal,
+    legal_journals_tell_legal_histories, written_lines_are_short,
 };
 pub use verdict::{DueReply, Verdict};
 

@@ -1,10 +1,7 @@
 //! The lines of a journal, without their LF.
-ghost use Rattle.std.specs.Prelude.{◌≡◌, Some, IfOk, IsUtf8};
-ghost use Rattle.serde_json.specs.Read.{read};
+ghost use Rattle.std.specs.Prelude.{◌≡◌, IfOk, IsUtf8};
 ghost use Rattle.serde_json.specs.View.{view};
-ghost use Rattle.journal_replay.specs.Journal.{entry_data, entry_line, fields_line, header_data, header_line, second_data, second_line, third_data, third_line};
-ghost use Rattle.journal_replay.specs.Reading.{json_of};
-ghost use Rattle.journal_replay.specs.Written.{IsReadBack};
+ghost use Rattle.journal_replay.specs.Journal.{entry_line, fields_line, header_line, second_data, second_line, third_data, third_line};
 
 use crate::header::Header;
 use json::Writer;
@@ -15,9 +12,7 @@ use std::str;
 
 /// The line of a header. It is of version 3 only where version 2 doesn't tell all of it.
 pub(crate) fn header_line(alloc: Global, header: &Header) -> Result<Vec<u8>, AllocError>
-    ensures text { IfOk result (λ line. line.items ≡ header_line header.now) }
-    ensures utf8 { IfOk result (λ line. IsUtf8 line.items) }
-    ensures reads_back { IfOk result (λ line. read line.items ≡ Some (header_data header.now)) }
+    ensures { IfOk result (λ line. line.items ≡ header_line header.now) }
 {
     if header.fits_second() {
         second_line(alloc, header)
@@ -28,18 +23,14 @@ pub(crate) fn header_line(alloc: Global, header: &Header) -> Result<Vec<u8>, All
 
 /// The line of a header in version 2.
 fn second_line(alloc: Global, header: &Header) -> Result<Vec<u8>, AllocError>
-    ensures text { IfOk result (λ line. line.items ≡ second_line header.now) }
-    ensures utf8 { IfOk result (λ line. IsUtf8 line.items) }
-    ensures reads_back { IfOk result (λ line. read line.items ≡ Some (second_data header.now)) }
+    ensures { IfOk result (λ line. line.items ≡ second_line header.now) }
 {
     second_value(alloc, header)?.to_vec(alloc)
 }
 
 /// The line of a header in version 3.
 fn third_line(alloc: Global, header: &Header) -> Result<Vec<u8>, AllocError>
-    ensures text { IfOk result (λ line. line.items ≡ third_line header.now) }
-    ensures utf8 { IfOk result (λ line. IsUtf8 line.items) }
-    ensures reads_back { IfOk result (λ line. read line.items ≡ Some (third_data header.now)) }
+    ensures { IfOk result (λ line. line.items ≡ third_line header.now) }
 {
     third_value(alloc, header)?.to_vec(alloc)
 }
@@ -87,8 +78,7 @@ pub(crate) fn entry_line(
     levels: u32,
     entry: &Entry,
 ) -> Result<Vec<u8>, AllocError>
-    ensures text { IfOk result (λ line. line.items ≡ entry_line levels entry.now) }
-    ensures reads_back { IfOk result (λ line. IsReadBack levels entry.now) }
+    ensures { IfOk result (λ line. line.items ≡ entry_line levels entry.now) }
 {
     texts.cmd.clear();
     push_cmd(&mut texts.cmd, &entry.call.cmd, levels)?;
@@ -112,8 +102,7 @@ fn as_text(bytes: &[u8]) -> &str
 /// The line of these fields, in the memory of another line. It is written with the writer that `Value` itself writes with: to
 /// build an object for each line would take longer than all else.
 fn fields_line(other: Vec<u8>, cmd: &str, reply: &str, seat: u64) -> Result<Vec<u8>, AllocError>
-    ensures text { IfOk result (λ line. line.items ≡ fields_line cmd.now reply.now seat) }
-    ensures reads_back { IfOk result (λ line. json_of (fields_line cmd.now reply.now seat) ≡ Some (entry_data cmd.now reply.now seat)) }
+    ensures { IfOk result (λ line. line.items ≡ fields_line cmd.now reply.now seat) }
 {
     let mut other = other;
     other.clear();

@@ -5,8 +5,7 @@ use Rattle.journal_replay.specs.declared.header.Extent.TheVariants.{Limited}
 use Rattle.journal_replay.specs.Journal.{header_for}
 use Rattle.journal_replay.proofs.Lines.{at-err, header-is, all-written, some-written}
 use Rattle.market_types.specs.State.{State}
-use Rattle.journal_replay.proofs.Json.{same-header, header-back}
-use Rattle.journal_replay.proofs.Told.{journal-told}
+use Rattle.journal_replay.proofs.Json.{same-header}
 use Rattle.journal_replay.proofs.journal.write_journal.Goals as goal
 
 pub returns-in_err-write_entries-clause-prefix : goal.returns-in_err-write_entries-clause-prefix
@@ -14,7 +13,7 @@ returns-in_err-write_entries-clause-prefix g c =
     let start : State = c.args.chronicle.now.start in
     let same : c.of-header.result ≡ header_for Limited start = c.of-header.ensures ∙ same-header Limited start c.market.result.now c.market.ensures.numbers in
     let waits : c.push_line.new.waiting.items ≡ c.deref.result.now ++ codes "\n" = c.in_ok-push_line.ensures ∙ ap (λ xs. xs ++ (c.deref.result.now ++ codes "\n")) c.new-waiting.ensures.items in
-    let whole = header-is Limited start c.of-header.result c.args.chronicle.now.log c.deref.result.now c.push_line.new.waiting.items same (c.deref.ensures.value ∙ c.in_ok-line.ensures.text) waits in
+    let whole = header-is Limited start c.of-header.result c.args.chronicle.now.log c.deref.result.now c.push_line.new.waiting.items same (c.deref.ensures.value ∙ c.in_ok-line.ensures) waits in
     at-err _ c.from_residual-in_err-write_entries.result
     (subst (λ xs. WritesFront (g.W.Sink.taken c.args.sink.now) (g.W.Sink.taken c.write_entries.new.sink) xs) whole c.in_err-write_entries.ensures.prefix)
 
@@ -23,7 +22,7 @@ returns-in_err-put_all-clause-prefix g c =
     let start : State = c.args.chronicle.now.start in
     let same : c.of-header.result ≡ header_for Limited start = c.of-header.ensures ∙ same-header Limited start c.market.result.now c.market.ensures.numbers in
     let waits : c.push_line.new.waiting.items ≡ c.deref.result.now ++ codes "\n" = c.in_ok-push_line.ensures ∙ ap (λ xs. xs ++ (c.deref.result.now ++ codes "\n")) c.new-waiting.ensures.items in
-    let whole = header-is Limited start c.of-header.result c.args.chronicle.now.log c.deref.result.now c.push_line.new.waiting.items same (c.deref.ensures.value ∙ c.in_ok-line.ensures.text) waits in
+    let whole = header-is Limited start c.of-header.result c.args.chronicle.now.log c.deref.result.now c.push_line.new.waiting.items same (c.deref.ensures.value ∙ c.in_ok-line.ensures) waits in
     at-err _ c.from_residual-in_err-put_all.result
     (some-written _ _ _ _ _ _ whole c.in_ok-write_entries.ensures.all
     (subst (λ xs. WritesFront (g.W.Sink.taken c.write_entries.new.sink) (g.W.Sink.taken c.put_all.new.sink) xs) c.deref-2.ensures.value c.in_err-put_all.ensures.prefix))
@@ -33,16 +32,11 @@ returns-clause-all g c =
     let start : State = c.args.chronicle.now.start in
     let same : c.of-header.result ≡ header_for Limited start = c.of-header.ensures ∙ same-header Limited start c.market.result.now c.market.ensures.numbers in
     let waits : c.push_line.new.waiting.items ≡ c.deref.result.now ++ codes "\n" = c.in_ok-push_line.ensures ∙ ap (λ xs. xs ++ (c.deref.result.now ++ codes "\n")) c.new-waiting.ensures.items in
-    let whole = header-is Limited start c.of-header.result c.args.chronicle.now.log c.deref.result.now c.push_line.new.waiting.items same (c.deref.ensures.value ∙ c.in_ok-line.ensures.text) waits in
+    let whole = header-is Limited start c.of-header.result c.args.chronicle.now.log c.deref.result.now c.push_line.new.waiting.items same (c.deref.ensures.value ∙ c.in_ok-line.ensures) waits in
     all-written _ _ _ _ _ _ whole c.in_ok-write_entries.ensures.all
     (subst (λ xs. Appends (g.W.Sink.taken c.write_entries.new.sink) (g.W.Sink.taken c.put_all.new.sink) xs) c.deref-2.ensures.value c.in_ok-put_all.ensures.all)
 
 pub returns-clause-legal : goal.returns-clause-legal
 returns-clause-legal g c =
-    let start : State = c.args.chronicle.now.start in
-    let same : c.of-header.result ≡ header_for Limited start = c.of-header.ensures ∙ same-header Limited start c.market.result.now c.market.ensures.numbers in
-    let shorts = c.written_lines_are_short.ensures start c.args.chronicle.now.log c.market.ensures.opened c.market.ensures.legal in
-    let header = header-back c.of-header.result (header_for Limited start) c.in_ok-line.line.items same c.in_ok-line.ensures.text c.in_ok-line.ensures.utf8 c.in_ok-line.ensures.reads_back in
-    c.legal_journals_tell_legal_histories.ensures.legal _ _
-    (journal-told start Limited c.args.chronicle.now.log c.market.ensures.opened c.market.ensures.legal c.market.ensures.calls c.in_ok-write_entries.ensures.reads_back shorts header
-    (λ cmd fits. c.texts_spell_commands.ensures.reads_back start.levels cmd fits) (λ _. c.in_ok-write_entries.ensures.few))
+    c.journals_of_legal_histories_are_legal.ensures Limited c.args.chronicle.now.start c.args.chronicle.now.log c.market.ensures.opened c.market.ensures.legal c.market.ensures.calls
+    (λ _. c.in_ok-write_entries.ensures.few)

@@ -3,8 +3,7 @@ use Rattle.std.specs.Io.KnownBytes.{Appends}
 use Rattle.byte_devices.specs.Devices.{WritesFront}
 use Rattle.market_types.specs.declared.reply.Entry.{Entry}
 use Rattle.journal_replay.specs.Journal.{entry_line, entry_lines}
-use Rattle.journal_replay.specs.Written.{IsReadBack}
-use Rattle.journal_replay.proofs.Lines.{all-more, at-err, lines-more, fronts-more, fronts-written, front-of-whole, front-then, lines-split, moved-fronts}
+use Rattle.journal_replay.proofs.Lines.{at-err, lines-more, fronts-more, fronts-written, front-of-whole, front-then, lines-split, moved-fronts}
 use Rattle.journal_replay.proofs.journal.write_lines.Goals as goal
 use Rattle.journal_replay.proofs.journal.write_lines.Goals.{then-len-ge-PIECE+in_ok-put_all, else-len-ge-PIECE}
 
@@ -22,7 +21,7 @@ returns-in_err-put_all-clause-prefix g c =
     let log : List Entry = c.args.entries.now in
     let start : List ℕ = c.args.waiting.now.items in
     let e : Entry = c.entry_at.result.now in
-    let text : c.deref.result.now ≡ entry_line levels e = c.deref.ensures.value ∙ c.in_ok-line.ensures.text in
+    let text : c.deref.result.now ≡ entry_line levels e = c.deref.ensures.value ∙ c.in_ok-line.ensures in
     let more : c.push_line.new.waiting.items ≡ c.loop-index.waiting.items ++ (entry_line levels e ++ codes "\n") = c.in_ok-push_line.ensures ∙ ap (λ xs. c.loop-index.waiting.items ++ (xs ++ codes "\n")) text in
     let longer : start ++ entry_lines levels (take (c.loop-index.index + 1) log) ≡ (start ++ entry_lines levels (take c.loop-index.index log)) ++ (entry_line levels e ++ codes "\n") =
     ap (λ xs. start ++ xs) (lines-more levels c.loop-index.index log e c.entry_at.ensures.exact) ∙ sym (append_assoc start (entry_lines levels (take c.loop-index.index log)) (entry_line levels e ++ codes "\n")) in
@@ -36,13 +35,11 @@ loop-index-preserved g c =
     let log : List Entry = c.args.entries.now in
     let start : List ℕ = c.args.waiting.now.items in
     let e : Entry = c.entry_at.result.now in
-    let text : c.deref.result.now ≡ entry_line levels e = c.deref.ensures.value ∙ c.in_ok-line.ensures.text in
+    let text : c.deref.result.now ≡ entry_line levels e = c.deref.ensures.value ∙ c.in_ok-line.ensures in
     let more : c.push_line.new.waiting.items ≡ c.loop-index.waiting.items ++ (entry_line levels e ++ codes "\n") = c.in_ok-push_line.ensures ∙ ap (λ xs. c.loop-index.waiting.items ++ (xs ++ codes "\n")) text in
     let longer : start ++ entry_lines levels (take (c.loop-index.index + 1) log) ≡ (start ++ entry_lines levels (take c.loop-index.index log)) ++ (entry_line levels e ++ codes "\n") =
     ap (λ xs. start ++ xs) (lines-more levels c.loop-index.index log e c.entry_at.ensures.exact) ∙ sym (append_assoc start (entry_lines levels (take c.loop-index.index log)) (entry_line levels e ++ codes "\n")) in
     let grown = fronts-more _ _ _ _ _ _ _ c.loop-index.invariant.1 more longer in
-    let back : IsReadBack levels e = c.in_ok-line.ensures.reads_back in
-    let backs = all-more (IsReadBack levels) log c.loop-index.index e c.entry_at.ensures.exact c.loop-index.invariant.2 back in
     elim c.if-len-ge-PIECE.branch [
       | then-len-ge-PIECE+in_ok-put_all w ↦
           let all : Appends (g.W.Sink.taken c.loop-index.sink) (g.W.Sink.taken w.put_all.new.sink) c.push_line.new.waiting.items =
@@ -50,11 +47,9 @@ loop-index-preserved g c =
           let nothing : c.if-len-ge-PIECE.waiting.items ≡ [] = ap (λ v. v.items) w.waiting-is ∙ w.clear.ensures.items in (
             ap g.W.Sink.failed w.sink-is ∙ w.in_ok-put_all.ensures.working ∙ c.loop-index.invariant.0,
             moved-fronts _ _ _ _ _ _ (ap g.W.Sink.taken w.sink-is) nothing (fronts-written _ _ _ _ _ grown all),
-            backs,
           )
       | else-len-ge-PIECE w ↦ (
         ap g.W.Sink.failed w.sink-is ∙ c.loop-index.invariant.0,
         moved-fronts _ _ _ _ _ _ (ap g.W.Sink.taken w.sink-is) (ap (λ v. v.items) w.waiting-is) grown,
-        backs,
       )
     ]

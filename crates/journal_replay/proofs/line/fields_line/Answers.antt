@@ -1,9 +1,7 @@
-use Rattle.std.proofs.Common.{◌≡◌, List, [], ◌∷◌, ◌++◌, decimal, codes, Some, ap, ◌∙◌}
+use Rattle.std.proofs.Common.{◌≡◌, List, [], ◌∷◌, ◌++◌, decimal, codes, ap, ◌∙◌}
 use Rattle.json.specs.Token.{Token, begin_object, end_object, key, string, number}
 use Rattle.json.specs.Print.{print}
-use Rattle.journal_replay.specs.Journal.{entry_data, fields_line}
-use Rattle.journal_replay.specs.Reading.{json_of}
-use Rattle.journal_replay.proofs.Entries.{fields-back, entry-tokens}
+use Rattle.journal_replay.proofs.Entries.{printed, entry-tokens}
 use Rattle.journal_replay.proofs.line.fields_line.Goals as goal
 
 -- what is written so far, and one token more
@@ -27,14 +25,7 @@ module _ (c : goal.After-into_inner) where
       c.end_object.ensures.room.0 ∙ c.u64.ensures.room.0 ∙ c.key-3.ensures.room.0 ∙ c.string-2.ensures.room.0 ∙ c.key-2.ensures.room.0
       ∙ c.string.ensures.room.0 ∙ c.key.ensures.room.0 ∙ c.begin_object.ensures.room.0 ∙ c.new-line.ensures.before ∙ c.clear.ensures.items
 
-  told : (print c.end_object.new.self.tokens ≡ fields_line c.args.cmd.now c.args.reply.now c.args.seat)
-      × (json_of (fields_line c.args.cmd.now c.args.reply.now c.args.seat) ≡ Some (entry_data c.args.cmd.now c.args.reply.now c.args.seat))
-  told =
-      fields-back c.args.cmd.now c.args.reply.now c.args.seat c.end_object.new.self.tokens c.ranges.seat.fits written
-      c.into_inner.ensures.reads_back c.into_inner.ensures.utf8
-
-pub returns-clause-text : goal.returns-clause-text
-returns-clause-text c = c.into_inner.ensures.items ∙ ap (λ xs. xs ++ print c.end_object.new.self.tokens) (alone c) ∙ (told c).0
-
-pub returns-clause-reads_back : goal.returns-clause-reads_back
-returns-clause-reads_back c = (told c).1
+pub returns : goal.returns
+returns c =
+    c.into_inner.ensures.items ∙ ap (λ xs. xs ++ print c.end_object.new.self.tokens) (alone c) ∙ ap print (written c)
+    ∙ printed c.args.cmd.now c.args.reply.now c.args.seat
