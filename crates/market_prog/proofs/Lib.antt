@@ -1,3 +1,4 @@
+mod Telling
 mod Examples
 mod DriveExamples
 pub mod Rows
