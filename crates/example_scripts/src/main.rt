@@ -90,12 +90,13 @@ const EXPLAINED: [&str; 4] = [
 ];
 
 /// The journals that are legal. The verdict of each stands beside it, in `NAME.verdict`.
-const LEGAL: [&str; 7] = [
+const LEGAL: [&str; 8] = [
     "one_arena_shown",
     "joins_and_a_recall",
     "resized_with_a_placed_seat",
     "five_levels",
     "version_1",
+    "version_3",
     "a_short_command",
     "a_header_alone",
 ];
@@ -106,7 +107,7 @@ const FAULTY: [&str; 11] = [
     "an_unknown_command",
     "a_seat_too_many",
     "an_empty_line",
-    "version_3",
+    "version_3_without_its_keys",
     "a_line_is_missing",
     "levels_in_version_1",
     "no_levels_in_version_2",

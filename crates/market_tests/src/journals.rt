@@ -4,7 +4,7 @@ use crate::endless::{LineCount, Repeated};
 use crate::work::{Work, new_sink};
 use byte_devices::{Refusal, TestSource};
 use market_prog::{MarketOptions, RunFault, ScriptTask, run_journal, status_of_run};
-use market_types::OpenFault;
+use market_types::{LastNumber, OpenFault};
 use std::rt::HostRuntime;
 
 const THREE: &[u8] = b"0 open 8\n# three workers\n\n0 fly\n0 request 1 3\n0 show 1\n";
@@ -21,6 +21,15 @@ const NO_CALL: &[u8] = b"{\"base\":8,\"hard\":64,\"journal\":2,\"levels\":3,\"se
 const REFUSED: &[u8] = b"\
 {\"base\":8,\"hard\":64,\"journal\":2,\"levels\":3,\"seats\":4}
 {\"cmd\":\"close 7\",\"reply\":\"F05 no arena\",\"seat\":3}
+";
+
+/// The fourth control has no number.
+const LAST_IS_THREE: &[u8] = b"\
+{\"base\":8,\"hard\":64,\"journal\":3,\"last\":3,\"levels\":3,\"seats\":4}
+{\"cmd\":\"control 9\",\"reply\":\"control 1\",\"seat\":0}
+{\"cmd\":\"control 9\",\"reply\":\"control 2\",\"seat\":0}
+{\"cmd\":\"control 9\",\"reply\":\"control 3\",\"seat\":0}
+{\"cmd\":\"control 9\",\"reply\":\"F04 out of numbers\",\"seat\":0}
 ";
 
 const WRITTEN: Work = Work {
@@ -91,6 +100,22 @@ fn no_journal_is_written_of_a_market_that_cannot_be_opened(rt: HostRuntime) {
     let told = run_journal(rt.alloc(), options, &mut source, &mut sink);
     assert!(&rt; told == Err(RunFault::Open(OpenFault::BadBase)));
     assert!(&rt; sink.taken().is_empty());
+}
+
+#[test]
+fn a_journal_tells_another_last_number(rt: HostRuntime) {
+    let Some(last) = LastNumber::new(3) else {
+        panic!(&rt; "no last number");
+    };
+    let options = MarketOptions {
+        last,
+        ..MarketOptions::USUAL
+    };
+    let mut source = TestSource::new(b"0 control 9\n0 control 9\n0 control 9\n0 control 9\n");
+    let mut sink = new_sink(&rt, rt.alloc());
+    let told = run_journal(rt.alloc(), options, &mut source, &mut sink);
+    assert!(&rt; told == Ok(0));
+    assert!(&rt; sink.taken() == LAST_IS_THREE);
 }
 
 #[test]
