@@ -1,7 +1,7 @@
 //! Callers in threads of their own: each finds its own calls in the one history, which a market of one thread answers alike.
 ghost use Rattle.std.specs.Prelude.{◌≡◌, ◌≤◌};
 
-use crate::forever::last;
+use crate::forever::{Record, last};
 use crate::work::{Outcome, TERMS, work};
 use edit_history::Chronicle;
 use market_core::Market;
@@ -109,7 +109,7 @@ fn an_office_without_calls_is_closed(rt: HostRuntime) {
 #[test]
 fn callers_call_until_the_time_is_over(rt: HostRuntime) {
     let time = Duration::from_millis(200);
-    let Ok(lasted) = last(&rt, &rt, rt.alloc(), time, 4) else {
+    let Ok(lasted) = last(&rt, &rt, rt.alloc(), time, 4, Record::Nothing) else {
         panic!(&rt; "no office");
     };
     let closed = &lasted.closed;
