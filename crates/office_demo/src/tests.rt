@@ -33,13 +33,13 @@ fn answers(
 fn is_answered_alike(
     rt: &impl Abort,
     alloc: Global,
-    terms: Terms,
     chronicle: &Chronicle,
 ) -> Result<bool, AllocError>
     requires whole { chronicle.now.from ≡ 0 }
 {
-    let seats = chronicle.market().seats();
-    let Ok(mut market) = Market::new(alloc, terms.base, terms.hard, seats, terms.levels) else {
+    let asked = chronicle.market();
+    let (base, hard) = (asked.base(), asked.hard());
+    let Ok(mut market) = Market::new(alloc, base, hard, asked.seats(), asked.levels()) else {
         panic!(rt; "no market");
     };
     for index in 0..chronicle.len() {
@@ -67,7 +67,7 @@ fn meets<R: Threads + Wait + Sync + Abort>(
     assert!(rt; outcome.closed.calls == chronicle.len());
     assert!(rt; outcome.closed.workers == u64::from(chronicle.market().placed()));
     assert!(rt; outcome.agreeing == callers);
-    assert!(rt; is_answered_alike(rt, alloc, terms, chronicle) == Ok(true));
+    assert!(rt; is_answered_alike(rt, alloc, chronicle) == Ok(true));
     outcome
 }
 
