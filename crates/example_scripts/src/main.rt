@@ -175,6 +175,46 @@ fn try_journal(rt: &HostRuntime, name: &str, status: u8) -> Result<()> {
     )
 }
 
+/// Puts one line more behind the journal.
+fn push_line(journal: &mut Vec<u8>, line: &str) -> Result<()> {
+    journal.extend_from_slice(line.as_bytes())?;
+    journal.push(b'\n')?;
+    Ok(())
+}
+
+/// Whether this verdict is written of the journal.
+fn has_verdict(rt: &HostRuntime, journal: &[u8], verdict: &str) -> Result<bool> {
+    let alloc = rt.alloc();
+    let mut source = TestSource::new(journal);
+    let mut sink = TestSink::new(Vec::with_capacity(alloc, MOST_WRITTEN)?);
+    let _ = run_replay(alloc, &mut source, &mut sink);
+    let wanted = format!(in alloc; "{verdict}\n")?;
+    Ok(sink.taken() == wanted.as_bytes())
+}
+
+/// Replays the journals of a file, each of which has its verdict behind it, in a line that begins with `= `. A line that begins
+/// with `# ` says what the next ones are for. Tells how many have their verdict, and at which lines stand those of others.
+fn try_cases(rt: &HostRuntime, file: &str) -> Result<()> {
+    let alloc = rt.alloc();
+    let text = fs::read_to_string(rt, file)?;
+    let mut journal = Vec::new(alloc);
+    let mut count = 0_u64;
+    for (index, line) in text.split('\n').enumerate() {
+        if let Some(verdict) = line.strip_prefix("= ") {
+            if has_verdict(rt, &journal, verdict)? {
+                count = count.saturating_add(1);
+            } else {
+                println!(rt; "{file}, line {}: otherwise", index.saturating_add(1))?;
+            }
+            journal.clear();
+        } else if !line.starts_with("# ") {
+            push_line(&mut journal, line)?;
+        }
+    }
+    println!(rt; "{file}: {count} as written")?;
+    Ok(())
+}
+
 /// Drives the plan `NAME.plan` with so many workers, in threads of the handle, and tells whether what is written and the exit
 /// status are as they should be.
 fn try_plan<T: Threads + Wait + Sync>(
@@ -231,6 +271,7 @@ fn main(rt: HostRuntime) -> Result<()> {
     try_scripts(&rt, ScriptTask::Explain, &EXPLAINED)?;
     try_journals(&rt, &LEGAL, 0)?;
     try_journals(&rt, &FAULTY, 1)?;
+    try_cases(&rt, "journals.cases")?;
     for workers in [1, 2, 16] {
         try_plans(&rt, &rt, workers)?;
     }

@@ -5,7 +5,7 @@ use byte_devices::TestSink;
 use edit_history::{CallFault, Chronicle};
 use journal_replay::{OutFault, Verdict, check, write_journal};
 use market_types::{ArenaId, Cmd, Level, OpenFault, Reply, SeatNo};
-use std::alloc::{AllocError, Global};
+use std::alloc::Global;
 use std::process::Abort;
 use std::rt::HostRuntime;
 
@@ -37,12 +37,14 @@ fn answer(rt: &impl Abort, alloc: Global, chronicle: &mut Chronicle, cmd: &Cmd) 
     ensures { chronicle.new.from ≡ chronicle.old.from }
 {
     let before = (chronicle.len(), chronicle.places(), chronicle.free());
+    let last = chronicle.kept().last().map(|entry| entry.call);
     let placed = chronicle.market().placed();
     match chronicle.call(alloc, SeatNo::new(0), *cmd) {
         Ok(reply) => return reply,
         Err(fault) => assert!(rt; fault == CallFault::Memory),
     }
     assert!(rt; (chronicle.len(), chronicle.places(), chronicle.free()) == before);
+    assert!(rt; chronicle.kept().last().map(|entry| entry.call) == last);
     assert!(rt; chronicle.market().placed() == placed);
     let Ok(reply) = chronicle.call(alloc, SeatNo::new(0), *cmd) else {
         panic!(rt; "no memory");
@@ -73,8 +75,10 @@ fn recorded(rt: &impl Abort, alloc: Global) -> Chronicle
     assert!(rt; matches!(&told, Reply::Listed(lists) if lists.len() == 1));
     let told = answer(rt, alloc, &mut chronicle, &Cmd::Join);
     assert!(rt; matches!(&told, Reply::Placed(arena) if arena.get() == 1));
-    let told = answer(rt, alloc, &mut chronicle, &Cmd::Leave);
-    assert!(rt; matches!(&told, Reply::Left(arena) if arena.get() == 1));
+    // The place and the memory of a Leave are taken already.
+    let _ = chronicle.market();
+    let left = chronicle.call(alloc, SeatNo::new(0), Cmd::Leave);
+    assert!(rt; matches!(&left, Ok(Reply::Left(arena)) if arena.get() == 1));
     chronicle
 }
 
@@ -114,11 +118,11 @@ fn a_refused_growth_leaves_a_prefix_of_the_journal(rt: HostRuntime) {
 }
 
 #[test]
-fn a_refused_growth_leaves_a_journal_to_be_checked(rt: HostRuntime) -> Result<(), AllocError> {
-    let verdict = match check(rt.alloc(), JOURNAL) {
-        Ok(verdict) => verdict,
-        Err(_) => check(rt.alloc(), JOURNAL)?,
-    };
-    assert!(&rt; matches!(&verdict, Verdict::Legal(5)));
-    Ok(())
+fn a_refused_growth_leaves_a_journal_to_be_checked(rt: HostRuntime) {
+    if let Ok(verdict) = check(rt.alloc(), JOURNAL) {
+        assert!(&rt; matches!(&verdict, Verdict::Legal(5)));
+        return;
+    }
+    let again = check(rt.alloc(), JOURNAL);
+    assert!(&rt; matches!(&again, Ok(Verdict::Legal(5))));
 }

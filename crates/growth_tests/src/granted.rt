@@ -1,6 +1,6 @@
 //! As long as one of these fails, a growth of the other tests was refused: whatever such a test asks for is asked for here too,
 //! and never again.
-ghost use Rattle.std.specs.Prelude.{◌≡◌, false, IfOk};
+ghost use Rattle.std.specs.Prelude.{◌≡◌};
 
 use super::engines::{Engine, JOURNAL, replay};
 use byte_devices::TestSink;
@@ -9,33 +9,28 @@ use journal_replay::{check, write_journal};
 use level_list::LevelList;
 use market_types::{ArenaId, Cmd, Level, Reply, Row, SeatNo, cmd_text, reply_text};
 use recall_hire::Roster;
-use std::alloc::{AllocError, Global};
+use std::alloc::Global;
 use std::process::Abort;
 use std::rt::HostRuntime;
 
 /// Rows, seats and texts.
-fn write(alloc: Global) -> Result<(), AllocError> {
-    let mut rows = LevelList::new();
-    rows.push(
-        alloc,
-        Row {
-            stamp: 1,
-            arena: ArenaId::new(1),
-            request: 5,
-            mandated: false,
-        },
-    )?;
-    Roster::new(alloc, 64)?;
-    for _ in 0..9 {
-        cmd_text(alloc, &Cmd::Request(ArenaId::new(1_048_576), -1, -1), 3)?;
-        reply_text(alloc, &Reply::Requested(65_535))?;
-    }
-    Ok(())
-}
-
 #[test]
-fn what_is_written_is_granted(rt: HostRuntime) -> Result<(), AllocError> {
-    write(rt.alloc())
+fn what_is_written_is_granted(rt: HostRuntime) {
+    let alloc = rt.alloc();
+    let mut rows = LevelList::new();
+    let row = Row {
+        stamp: 1,
+        arena: ArenaId::new(1),
+        request: 5,
+        mandated: false,
+    };
+    assert!(&rt; rows.push(alloc, row).is_ok());
+    assert!(&rt; Roster::new(alloc, 64).is_ok());
+    let request = Cmd::Request(ArenaId::new(1_048_576), -1, -1);
+    for _ in 0..9 {
+        assert!(&rt; cmd_text(alloc, &request, 3).is_ok());
+        assert!(&rt; reply_text(alloc, &Reply::Requested(65_535)).is_ok());
+    }
 }
 
 /// A call of seat 0 is answered.
@@ -63,19 +58,14 @@ fn recorded(rt: &impl Abort, alloc: Global) -> Chronicle
     chronicle
 }
 
-fn new_sink(alloc: Global) -> Result<TestSink, AllocError>
-    ensures { IfOk result (λ sink. sink.failed ≡ false) }
-{
-    let memory = Vec::with_capacity(alloc, 4096)?;
-    Ok(TestSink::new(memory))
-}
-
 #[test]
-fn what_is_recorded_is_granted(rt: HostRuntime) -> Result<(), AllocError> {
+fn what_is_recorded_is_granted(rt: HostRuntime) {
     let chronicle = recorded(&rt, rt.alloc());
-    let mut sink = new_sink(rt.alloc())?;
+    let Ok(memory) = Vec::with_capacity(rt.alloc(), 4096) else {
+        panic!(&rt; "no memory");
+    };
+    let mut sink = TestSink::new(memory);
     assert!(&rt; write_journal(rt.alloc(), &chronicle, &mut sink) == Ok(()));
-    Ok(())
 }
 
 #[test]

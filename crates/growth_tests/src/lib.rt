@@ -9,6 +9,8 @@ mod engines;
 #[cfg(test)]
 mod granted;
 #[cfg(test)]
+mod markets;
+#[cfg(test)]
 mod offices;
 #[cfg(test)]
 mod plans;
@@ -16,3 +18,5 @@ mod plans;
 mod rows;
 #[cfg(test)]
 mod texts;
+#[cfg(test)]
+mod words;

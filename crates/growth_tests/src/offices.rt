@@ -2,7 +2,7 @@
 use edit_history::Keeping;
 use market_types::{ArenaId, Cmd, LastNumber, Level, OpenFault};
 use office_crew::{Meeting, Script, Terms, meet};
-use std::alloc::{AllocError, Global};
+use std::alloc::Global;
 use std::process::Abort;
 use std::rt::HostRuntime;
 use std::str;
@@ -103,13 +103,14 @@ fn a_refused_growth_leaves_the_pass_and_the_worker(rt: HostRuntime) {
 }
 
 /// Whatever the office asks for, once, and never again.
-fn is_granted<R: Threads + Wait + Sync + Abort>(
-    rt: &R,
-    alloc: Global,
-    cmds: &[Cmd],
-) -> Result<(), AllocError> {
-    let mut scripts = Vec::with_capacity(alloc, 1)?;
-    scripts.push(Script::new(alloc, cmds)?)?;
+fn is_granted<R: Threads + Wait + Sync + Abort>(rt: &R, alloc: Global, cmds: &[Cmd]) {
+    let Ok(mut scripts) = Vec::with_capacity(alloc, 1) else {
+        panic!(rt; "no memory");
+    };
+    let Ok(script) = Script::new(alloc, cmds) else {
+        panic!(rt; "no memory");
+    };
+    assert!(rt; scripts.push(script).is_ok());
     assert!(rt; scripts.len() == 1);
     let Ok(Meeting { tasks, .. }) = meet(rt, alloc, TERMS, Vec::<Script>::new(alloc), scripts)
     else {
@@ -120,10 +121,9 @@ fn is_granted<R: Threads + Wait + Sync + Abort>(
         panic!(rt; "no text");
     };
     assert!(rt; text.lines().all(|line| line != "C1 memory"));
-    Ok(())
 }
 
 #[test]
-fn what_an_office_asks_for_is_granted(rt: HostRuntime) -> Result<(), AllocError> {
-    is_granted(&rt, rt.alloc(), &visit())
+fn what_an_office_asks_for_is_granted(rt: HostRuntime) {
+    is_granted(&rt, rt.alloc(), &visit());
 }

@@ -1,9 +1,11 @@
-//! Rows, seats and lists of counts.
-ghost use Rattle.std.specs.Prelude.{◌≡◌, ◌<◌, ◌≤◌, ◌∷◌, length, false, IfOk, OnOk};
+//! Trees, lists of rows, seats and lists of counts.
+ghost use Rattle.std.specs.Prelude.{◌≡◌, ◌<◌, ◌≤◌, ◌∷◌, length, false};
 ghost use Rattle.std.specs.List.{All};
+ghost use Rattle.prefix_tree.specs.Rows.{IsAbsent, insert_row};
 
 use level_list::LevelList;
 use market_types::{ArenaId, Correction, Imbalance, Lists, Row, SeatNo};
+use prefix_tree::Tree;
 use recall_hire::{Roster, Sharing, list};
 use std::alloc::{AllocError, Global};
 use std::process::Abort;
@@ -21,59 +23,93 @@ fn row(stamp: u32) -> Row
     }
 }
 
-/// Pushes the row of a stamp, again where the first growth was refused: then the rows were as before.
-fn push(rt: &impl Abort, alloc: Global, rows: &mut LevelList, stamp: u32) -> Result<(), AllocError>
-    requires room { length rows.old < 1024 }
-    requires newest { All (λ older. older.stamp < stamp) rows.old }
-    ensures rows { OnOk result (rows.new ≡ record { stamp = stamp; arena = stamp; request = 5; mandated = false } ∷ rows.old) }
-{
-    let count = rows.len();
-    let demand = rows.demand();
-    let Err(_) = rows.push(alloc, row(stamp)) else {
-        return Ok(());
-    };
-    assert!(rt; rows.len() == count && rows.demand() == demand);
-    rows.push(alloc, row(stamp))?;
-    Ok(())
+/// The first four rows of a tree, and what all rows ask for.
+fn what_is_in(tree: &Tree) -> ([Option<Row>; 4], u64) {
+    let rows = [0, 1, 2, 3].map(|index| tree.walk(index).0);
+    (rows, tree.total())
 }
 
-/// Three arenas that ask for 5 workers each.
-fn three_arenas(rt: &impl Abort, alloc: Global) -> Result<LevelList, AllocError> {
-    let mut rows = LevelList::new();
-    push(rt, alloc, &mut rows, 1)?;
-    push(rt, alloc, &mut rows, 2)?;
-    push(rt, alloc, &mut rows, 3)?;
-    Ok(rows)
+/// Inserts the row of a stamp, again where the growth was refused: then the rows were as before.
+fn insert(rt: &impl Abort, alloc: Global, tree: &mut Tree, stamp: u32)
+    requires room { length tree.old < 1024 }
+    requires absent { IsAbsent stamp tree.old }
+    ensures rows { tree.new ≡ insert_row (record { stamp = stamp; arena = stamp; request = 5; mandated = false }) tree.old }
+{
+    let before = what_is_in(tree);
+    if tree.insert(alloc, row(stamp)).is_ok() {
+        return;
+    }
+    assert!(rt; what_is_in(tree) == before);
+    let Ok(_) = tree.insert(alloc, row(stamp)) else {
+        panic!(rt; "no memory");
+    };
 }
 
 #[test]
-fn a_refused_growth_leaves_the_rows(rt: HostRuntime) -> Result<(), AllocError> {
-    let rows = three_arenas(&rt, rt.alloc())?;
+fn a_refused_growth_leaves_the_tree(rt: HostRuntime) {
+    let mut tree = Tree::new();
+    insert(&rt, rt.alloc(), &mut tree, 2);
+    insert(&rt, rt.alloc(), &mut tree, 3);
+    insert(&rt, rt.alloc(), &mut tree, 1);
+    let due = [Some(row(3)), Some(row(2)), Some(row(1)), None];
+    assert!(&rt; what_is_in(&tree) == (due, 15));
+}
+
+/// Pushes the row of a stamp, again where the first growth was refused: then the rows were as before.
+fn push(rt: &impl Abort, alloc: Global, rows: &mut LevelList, stamp: u32)
+    requires room { length rows.old < 1024 }
+    requires newest { All (λ older. older.stamp < stamp) rows.old }
+    ensures rows { rows.new ≡ record { stamp = stamp; arena = stamp; request = 5; mandated = false } ∷ rows.old }
+{
+    let count = rows.len();
+    let demand = rows.demand();
+    if rows.push(alloc, row(stamp)).is_ok() {
+        return;
+    }
+    assert!(rt; rows.len() == count && rows.demand() == demand);
+    let Ok(_) = rows.push(alloc, row(stamp)) else {
+        panic!(rt; "no memory");
+    };
+}
+
+/// Three arenas that ask for 5 workers each.
+fn three_arenas(rt: &impl Abort, alloc: Global) -> LevelList {
+    let mut rows = LevelList::new();
+    push(rt, alloc, &mut rows, 1);
+    push(rt, alloc, &mut rows, 2);
+    push(rt, alloc, &mut rows, 3);
+    rows
+}
+
+#[test]
+fn a_refused_growth_leaves_the_rows(rt: HostRuntime) {
+    let rows = three_arenas(&rt, rt.alloc());
     assert!(&rt; rows.demand() == 15);
     for (index, arena) in [(0, 3), (1, 2), (2, 1)] {
         assert!(&rt; rows.walk(index).0 == Some(row(arena)));
     }
-    Ok(())
 }
 
 /// So many seats, none placed.
-fn seats(alloc: Global, count: u8) -> Result<Roster, AllocError>
+fn seats(rt: &impl Abort, alloc: Global, count: u8) -> Roster
     requires some { 1 ≤ count }
     requires few { count ≤ 64 }
-    ensures { IfOk result (λ roster. length roster ≡ count) }
+    ensures { length result ≡ count }
 {
-    match Roster::new(alloc, count) {
-        Ok(roster) => Ok(roster),
-        Err(_) => Roster::new(alloc, count),
+    if let Ok(roster) = Roster::new(alloc, count) {
+        return roster;
     }
+    let Ok(roster) = Roster::new(alloc, count) else {
+        panic!(rt; "no memory");
+    };
+    roster
 }
 
 #[test]
-fn a_refused_growth_leaves_a_roster_to_be_made(rt: HostRuntime) -> Result<(), AllocError> {
-    let roster = seats(rt.alloc(), 64)?;
+fn a_refused_growth_leaves_a_roster_to_be_made(rt: HostRuntime) {
+    let roster = seats(&rt, rt.alloc(), 64);
     assert!(&rt; roster.seats() == 64);
     assert!(&rt; roster.placed() == 0);
-    Ok(())
 }
 
 /// Places a seat that the roster has, and that is not placed.
@@ -114,15 +150,20 @@ fn counted(arena: u32, correction: Correction, count: u32) -> Imbalance {
 }
 
 #[test]
-fn a_refused_growth_leaves_arenas_to_be_listed(rt: HostRuntime) -> Result<(), AllocError> {
-    let rows = three_arenas(&rt, rt.alloc())?;
-    let mut roster = seats(rt.alloc(), 6)?;
+fn a_refused_growth_leaves_arenas_to_be_listed(rt: HostRuntime) {
+    let rows = three_arenas(&rt, rt.alloc());
+    let mut roster = seats(&rt, rt.alloc(), 6);
     for seat in 0..6 {
         place(&mut roster, seat, ArenaId::new(3));
     }
     let lists = match listed(&rows, &roster, rt.alloc()) {
         Ok(lists) => lists,
-        Err(_) => listed(&rows, &roster, rt.alloc())?,
+        Err(_) => {
+            let Ok(lists) = listed(&rows, &roster, rt.alloc()) else {
+                panic!(&rt; "no memory");
+            };
+            lists
+        }
     };
     let due = [
         counted(3, Correction::Recall, 1),
@@ -130,5 +171,4 @@ fn a_refused_growth_leaves_arenas_to_be_listed(rt: HostRuntime) -> Result<(), Al
         counted(1, Correction::Hire, 5),
     ];
     assert!(&rt; lists.arenas.as_slice() == due.as_slice());
-    Ok(())
 }

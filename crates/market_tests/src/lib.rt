@@ -23,4 +23,8 @@ mod scripts;
 #[cfg(test)]
 mod texts;
 #[cfg(test)]
+mod uneven;
+#[cfg(test)]
+mod words;
+#[cfg(test)]
 mod work;

@@ -1,11 +1,11 @@
 //! The market at its limits.
-ghost use Rattle.std.specs.Prelude.{◌≡◌, ◌<◌, length, IsTrue, IfOk};
+ghost use Rattle.std.specs.Prelude.{◌<◌, IfOk};
 ghost use Rattle.std.specs.List.{All};
 ghost use Rattle.market_types.specs.declared.command.Call.{Call};
 
 use market_core::{Market, apply_all};
 use market_types::{
-    ArenaId, Call, Cmd, ControlId, Correction, Fault, Level, OpenFault, Reply, SeatNo,
+    ArenaId, Call, Cmd, ControlId, Correction, Fault, Level, OpenFault, Reply, SeatNo, reply_text,
 };
 use std::alloc::{AllocError, Global};
 use std::process::Abort;
@@ -200,6 +200,13 @@ fn a_thousand_arenas_are_listed(rt: HostRuntime) {
     }
     let lists = answer(&rt, rt.alloc(), &mut market, Cmd::Lists);
     assert!(&rt; all_need(&lists, Correction::Hire, 1024));
+    let Ok(text) = reply_text(rt.alloc(), &lists) else {
+        panic!(&rt; "no memory");
+    };
+    // The 1,024 numbers have 2,989 digits, and each but the last has a comma.
+    assert!(&rt; text.len() == 14 + 2_989 + 2 * 1_024 + 1_023);
+    assert!(&rt; text.as_str().starts_with("recall - hire 1024:1,1023:1,"));
+    assert!(&rt; text.as_str().ends_with(",2:1,1:1"));
     for joining in 0..64_u8 {
         assert!(&rt; joining < market.seats());
         let seat = SeatNo::new(joining);
@@ -295,14 +302,17 @@ fn limit_calls(alloc: Global, count: usize) -> Result<Vec<Call>, AllocError>
 }
 
 #[test]
-fn a_long_list_of_commands_is_answered(rt: HostRuntime) -> Result<(), AllocError> {
+fn a_long_list_of_commands_is_answered(rt: HostRuntime) {
     let Ok(mut market) = Market::new(rt.alloc(), 8, 64, 4, 3) else {
         panic!(&rt; "no market");
     };
-    let calls = limit_calls(rt.alloc(), 1_048_576)?;
-    let replies = apply_all(rt.alloc(), &mut market, &calls)?;
+    let Ok(calls) = limit_calls(rt.alloc(), 1_048_576) else {
+        panic!(&rt; "no memory");
+    };
+    let Ok(replies) = apply_all(rt.alloc(), &mut market, &calls) else {
+        panic!(&rt; "no memory");
+    };
     assert!(&rt; replies.len() == 1_048_576);
     let last = replies.last();
     assert!(&rt; matches!(last, Some(Reply::Limits(limits)) if limits.limit == 7));
-    Ok(())
 }

@@ -1,5 +1,6 @@
 //! Scripts and their replies, beside those of `example_scripts`.
-use byte_devices::{TestSink, TestSource};
+use crate::work::new_sink;
+use byte_devices::TestSource;
 use market_prog::{MarketOptions, run_script};
 use market_types::LastNumber;
 use std::alloc::Global;
@@ -15,11 +16,8 @@ fn answers_of(
     replies: &[u8],
     unread: u64,
 ) {
-    let Ok(memory) = Vec::with_capacity(alloc, 4096) else {
-        panic!(rt; "no memory");
-    };
     let mut source = TestSource::new(script);
-    let mut sink = TestSink::new(memory);
+    let mut sink = new_sink(rt, alloc);
     let told = run_script(alloc, options, &mut source, &mut sink);
     assert!(rt; sink.taken() == replies);
     assert!(rt; told == Ok(unread));
@@ -129,6 +127,12 @@ fn lines_that_spell_nothing_are_unread(rt: HostRuntime) {
 fn a_line_of_more_than_256_bytes_is_unread(rt: HostRuntime) {
     let mut long = [b'0'; 257];
     answers(&rt, rt.alloc(), &long, b"unread\n", 1);
+    for size in [1, 100, 256] {
+        let mut source = TestSource::new(&long).in_pieces_of(size);
+        let mut sink = new_sink(&rt, rt.alloc());
+        let told = run_script(rt.alloc(), MarketOptions::USUAL, &mut source, &mut sink);
+        assert!(&rt; told == Ok(1) && sink.taken() == b"unread\n".as_slice());
+    }
     long[0] = b'#';
     answers(&rt, rt.alloc(), &long, b"", 0);
 }

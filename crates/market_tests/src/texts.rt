@@ -4,7 +4,9 @@ use market_types::{
     ArenaId, ArenaView, Correction, Fault, Imbalance, LimitView, Lists, OpenFault, Reply, cmd_text,
     open_fault_text, push_reply, read_cmd, read_line, reply_text,
 };
-use std::test::Fail;
+use std::alloc::Global;
+use std::process::Abort;
+use std::rt::HostRuntime;
 
 /// The canonical text of each command.
 const TEXTS: [&str; 13] = [
@@ -24,25 +26,40 @@ const TEXTS: [&str; 13] = [
 ];
 
 #[test]
-fn commands_are_read_and_written(rt: HostRuntime) -> Result<(), Fail> {
+fn commands_are_read_and_written(rt: HostRuntime) {
     for text in TEXTS {
-        let cmd = read_cmd(text.as_bytes(), 3).ok_or("unread")?;
-        let written = cmd_text(rt.alloc(), &cmd, 3)?;
-        assert_eq!(rt; written.as_str(), text);
+        let Some(cmd) = read_cmd(text.as_bytes(), 3) else {
+            panic!(&rt; "unread");
+        };
+        let Ok(written) = cmd_text(rt.alloc(), &cmd, 3) else {
+            panic!(&rt; "no memory");
+        };
+        assert!(&rt; written.as_str() == text);
     }
-    Ok(())
 }
 
 #[test]
-fn a_line_names_its_seat(rt: HostRuntime) -> Result<(), Fail> {
-    let (seat, _cmd) = read_line(b"3 limit", 4, 3).ok_or("unread")?;
-    assert_eq!(rt; seat.get(), 3);
-    assert!(rt; read_line(b"4 limit", 4, 3).is_none());
-    Ok(())
+fn a_line_names_its_seat(rt: HostRuntime) {
+    let Some((seat, _cmd)) = read_line(b"3 limit", 4, 3) else {
+        panic!(&rt; "unread");
+    };
+    assert!(&rt; seat.get() == 3);
+    assert!(&rt; read_line(b"4 limit", 4, 3).is_none());
+}
+
+/// The reply has that text.
+fn is_written(rt: &impl Abort, alloc: Global, reply: &Reply, due: &str) {
+    let Ok(text) = reply_text(alloc, reply) else {
+        panic!(rt; "no memory");
+    };
+    assert!(rt; text.as_str() == due);
+    let mut out = Vec::new(alloc);
+    assert!(rt; push_reply(&mut out, reply).is_ok());
+    assert!(rt; out.as_slice() == due.as_bytes());
 }
 
 #[test]
-fn replies_are_written(rt: HostRuntime) -> Result<(), Fail> {
+fn views_are_written(rt: HostRuntime) {
     let view = ArenaView {
         arena: ArenaId::new(1),
         request: 3,
@@ -52,40 +69,43 @@ fn replies_are_written(rt: HostRuntime) -> Result<(), Fail> {
         recall: 0,
         hire: 3,
     };
-    let mut out = Vec::new(rt.alloc());
-    push_reply(&mut out, &Reply::Shown(view))?;
-    let due = b"arena 1 request 3 allot 3 top yes active 0 recall 0 hire 3";
-    assert_eq!(rt; out.as_slice(), due.as_slice());
-
-    let mut lists = Lists {
-        arenas: Vec::new(rt.alloc()),
-    };
-    for (arena, count) in [(3, 1), (1, 2)] {
-        lists.push(Imbalance {
-            arena: ArenaId::new(arena),
-            correction: Correction::Recall,
-            count,
-        })?;
-    }
-    let listed = reply_text(rt.alloc(), &Reply::Listed(lists))?;
-    assert_eq!(rt; listed.as_str(), "recall 3:1,1:2 hire -");
-
+    let due = "arena 1 request 3 allot 3 top yes active 0 recall 0 hire 3";
+    is_written(&rt, rt.alloc(), &Reply::Shown(view), due);
     let limits = LimitView {
         value: 8,
         limit: 7,
         effective: 7,
     };
-    let limits = reply_text(rt.alloc(), &Reply::Limits(limits))?;
-    assert_eq!(rt; limits.as_str(), "value 8 limit 7 effective 7");
-
-    let busy = reply_text(rt.alloc(), &Reply::Refused(Fault::Busy(1)))?;
-    assert_eq!(rt; busy.as_str(), "F06 busy 1");
-    assert_eq!(rt; open_fault_text(OpenFault::BadLevels), "O5 bad levels");
-    Ok(())
+    let due = "value 8 limit 7 effective 7";
+    is_written(&rt, rt.alloc(), &Reply::Limits(limits), due);
 }
 
 #[test]
-fn faults_of_a_run_have_texts(rt: HostRuntime) -> Result<(), Fail> {
+fn lists_are_written(rt: HostRuntime) {
+    let mut lists = Lists {
+        arenas: Vec::new(rt.alloc()),
+    };
+    for (arena, count) in [(3, 1), (1, 2)] {
+        let imbalance = Imbalance {
+            arena: ArenaId::new(arena),
+            correction: Correction::Recall,
+            count,
+        };
+        assert!(&rt; lists.push(imbalance).is_ok());
+    }
+    let due = "recall 3:1,1:2 hire -";
+    is_written(&rt, rt.alloc(), &Reply::Listed(lists), due);
+}
+
+#[test]
+fn faults_are_written(rt: HostRuntime) {
+    let busy = Reply::Refused(Fault::Busy(1));
+    is_written(&rt, rt.alloc(), &busy, "F06 busy 1");
+    assert!(&rt; open_fault_text(OpenFault::BadLevels) == "O5 bad levels");
+}
+
+#[test]
+fn faults_of_a_run_have_texts(rt: HostRuntime) {
     for (fault, text) in [
         (RunFault::Open(OpenFault::BadSeats), "O3 bad seats"),
         (RunFault::Read, "read fault"),
@@ -94,8 +114,9 @@ fn faults_of_a_run_have_texts(rt: HostRuntime) -> Result<(), Fail> {
         (RunFault::Memory, "memory"),
         (RunFault::HistoryFull, "history full"),
     ] {
-        let told = format!(in rt.alloc(); "{fault}")?;
-        assert_eq!(rt; told.as_str(), text);
+        let Ok(told) = format!(in rt.alloc(); "{fault}") else {
+            panic!(&rt; "no memory");
+        };
+        assert!(&rt; told.as_str() == text);
     }
-    Ok(())
 }

@@ -1,0 +1,50 @@
+//! The words of a command line.
+use clap::error::ErrorKind;
+use market_prog::{Choice, MarketOptions, ScriptTask, read_words};
+use std::rt::HostRuntime;
+
+#[test]
+fn a_refused_growth_leaves_words_to_be_read(rt: HostRuntime) {
+    let words = ["market", "run", "--seats", "9"];
+    let choice = match read_words(rt.alloc(), &words) {
+        Ok(choice) => choice,
+        Err(error) => {
+            assert!(&rt; error.kind() == ErrorKind::OutOfMemory);
+            let Ok(choice) = read_words(rt.alloc(), &words) else {
+                panic!(&rt; "no memory");
+            };
+            choice
+        }
+    };
+    let nine_seats = MarketOptions {
+        seats: 9,
+        ..MarketOptions::USUAL
+    };
+    assert!(&rt; choice == Choice::Script(ScriptTask::Answer, nine_seats));
+}
+
+#[test]
+fn a_refused_growth_is_told_and_no_mistake(rt: HostRuntime) {
+    let words = ["market", "fly"];
+    let Err(error) = read_words(rt.alloc(), &words) else {
+        panic!(&rt; "taken");
+    };
+    if error.kind() == ErrorKind::OutOfMemory {
+        let Err(error) = read_words(rt.alloc(), &words) else {
+            panic!(&rt; "taken");
+        };
+        assert!(&rt; error.kind() == ErrorKind::InvalidSubcommand);
+        return;
+    }
+    assert!(&rt; error.kind() == ErrorKind::InvalidSubcommand);
+}
+
+/// As long as this fails, a growth was refused.
+#[test]
+fn what_words_ask_for_is_granted(rt: HostRuntime) {
+    assert!(&rt; read_words(rt.alloc(), &["market", "run", "--seats", "9"]).is_ok());
+    let Err(error) = read_words(rt.alloc(), &["market", "fly"]) else {
+        panic!(&rt; "taken");
+    };
+    assert!(&rt; error.kind() == ErrorKind::InvalidSubcommand);
+}

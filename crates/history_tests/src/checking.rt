@@ -1,0 +1,137 @@
+//! Journals that are checked: cut off, in pieces, with long lines and failing reads. Others stand in the data of `example_scripts`.
+use crate::journals::finds;
+use byte_devices::TestSource;
+use journal_replay::{Verdict, check_source};
+use line_engine::InputFault;
+use std::alloc::Global;
+use std::process::Abort;
+use std::rt::HostRuntime;
+
+const HEADER: &str = "{\"base\":8,\"hard\":64,\"journal\":1,\"seats\":4}";
+
+const OPEN: &str = "{\"cmd\":\"open 8 1 normal\",\"reply\":\"arena 1\",\"seat\":0}";
+
+const REQUEST: &str = "{\"cmd\":\"request 1 3 0\",\"reply\":\"request 3\",\"seat\":0}";
+
+const SHOW: &str =
+    "{\"cmd\":\"show 1\",\"reply\":\"arena 1 request 3 allot 3 top yes active 0 recall 0 hire 3\",\"seat\":0}";
+
+/// The lines, each with an LF.
+fn text_of(rt: &impl Abort, alloc: Global, lines: &[&str]) -> Vec<u8> {
+    let mut text = Vec::new(alloc);
+    for line in lines {
+        push(rt, &mut text, line.as_bytes());
+        push(rt, &mut text, b"\n");
+    }
+    text
+}
+
+/// Puts more bytes behind the text.
+fn push(rt: &impl Abort, text: &mut Vec<u8>, more: &[u8]) {
+    assert!(rt; text.extend_from_slice(more).is_ok());
+}
+
+/// What is found of the first bytes of the journal.
+fn found_of_front(bytes: usize) -> &'static str {
+    match bytes {
+        0..=42 => "J1 bad header",
+        43 => "legal 0",
+        44..=95 => "J2 bad json line 2",
+        96 => "legal 1",
+        97..=148 => "J2 bad json line 3",
+        149 => "legal 2",
+        150..=243 => "J2 bad json line 4",
+        _ => "legal 3",
+    }
+}
+
+#[test]
+fn a_front_of_a_journal_is_legal_where_a_line_ends(rt: HostRuntime) {
+    let text = text_of(&rt, rt.alloc(), &[HEADER, OPEN, REQUEST, SHOW]);
+    assert!(&rt; text.len() == 244);
+    for bytes in 0..=text.len() {
+        finds(&rt, rt.alloc(), &text[..bytes], found_of_front(bytes));
+    }
+}
+
+/// The header, and a line of so many bytes: an entry before spaces.
+fn with_spaces(rt: &impl Abort, alloc: Global, bytes: usize) -> Vec<u8> {
+    let mut text = text_of(rt, alloc, &[HEADER, OPEN]);
+    let _ = text.pop();
+    for _ in OPEN.len()..bytes {
+        push(rt, &mut text, b" ");
+    }
+    push(rt, &mut text, b"\n");
+    text
+}
+
+#[test]
+fn a_line_has_65_536_bytes_at_most(rt: HostRuntime) {
+    let text = with_spaces(&rt, rt.alloc(), 65_536);
+    finds(&rt, rt.alloc(), &text, "legal 1");
+    let text = with_spaces(&rt, rt.alloc(), 65_537);
+    finds(&rt, rt.alloc(), &text, "J2 bad json line 2");
+}
+
+/// The header, and a line of so many arrays, one in the other.
+fn with_arrays(rt: &impl Abort, alloc: Global, depth: usize) -> Vec<u8> {
+    let mut text = text_of(rt, alloc, &[HEADER]);
+    for _ in 0..depth {
+        push(rt, &mut text, b"[");
+    }
+    for _ in 0..depth {
+        push(rt, &mut text, b"]");
+    }
+    push(rt, &mut text, b"\n");
+    text
+}
+
+#[test]
+fn a_line_is_utf8_and_nests_little(rt: HostRuntime) {
+    let mut text = text_of(&rt, rt.alloc(), &[HEADER]);
+    push(
+        &rt,
+        &mut text,
+        b"{\"cmd\":\"\xff\",\"reply\":\"ok\",\"seat\":0}\n",
+    );
+    finds(&rt, rt.alloc(), &text, "J2 bad json line 2");
+    let mut text = text_of(&rt, rt.alloc(), &[HEADER, OPEN]);
+    for _ in 0..200 {
+        push(&rt, &mut text, b"[");
+    }
+    push(&rt, &mut text, b"\n");
+    finds(&rt, rt.alloc(), &text, "J2 bad json line 3");
+    let text = with_arrays(&rt, rt.alloc(), 127);
+    finds(&rt, rt.alloc(), &text, "J3 bad record line 2");
+    let text = with_arrays(&rt, rt.alloc(), 128);
+    finds(&rt, rt.alloc(), &text, "J2 bad json line 2");
+}
+
+#[test]
+fn a_journal_comes_in_pieces(rt: HostRuntime) {
+    let text = text_of(&rt, rt.alloc(), &[HEADER, OPEN, REQUEST, SHOW]);
+    let broken = text_of(&rt, rt.alloc(), &[HEADER, OPEN, "{", SHOW]);
+    for size in [1, 7, 43, 1000] {
+        let mut source = TestSource::new(&text).in_pieces_of(size);
+        let found = check_source(rt.alloc(), &mut source);
+        assert!(&rt; matches!(&found, Ok(Verdict::Legal(3))));
+        let mut source = TestSource::new(&broken).in_pieces_of(size);
+        let found = check_source(rt.alloc(), &mut source);
+        assert!(&rt; matches!(&found, Ok(Verdict::BadJson(3))));
+    }
+}
+
+#[test]
+fn a_failing_source_is_a_fault(rt: HostRuntime) {
+    let text = text_of(&rt, rt.alloc(), &[HEADER, OPEN, REQUEST, SHOW]);
+    for reads in 0..4 {
+        let mut source = TestSource::new(&text)
+            .in_pieces_of(100)
+            .failing_after(reads);
+        let found = check_source(rt.alloc(), &mut source);
+        assert!(&rt; matches!(&found, Err(InputFault::Read)));
+    }
+    let mut source = TestSource::new(&text).in_pieces_of(100).failing_after(4);
+    let found = check_source(rt.alloc(), &mut source);
+    assert!(&rt; matches!(&found, Ok(Verdict::Legal(3))));
+}

@@ -1,0 +1,407 @@
+//! What one caller is answered and counted for, and a history that fills up.
+ghost use Rattle.std.specs.Prelude.{◌≡◌};
+ghost use Rattle.market_types.specs.History.{place_in};
+ghost use Rattle.market_desk.specs.Workers.{workers_at};
+
+use edit_history::{CallFault, Chronicle, Keeping, Terms};
+use market_desk::Desk;
+use market_types::{ArenaId, Cmd, LastNumber, Level, OpenFault, Reply, SeatNo};
+use std::alloc::Global;
+use std::marker::Brand;
+use std::process::Abort;
+use std::rt::HostRuntime;
+use std::sync::ledger::{Blank, Ledger};
+use worker_ledger::{Book, Share, Totals};
+
+/// A base of 8, a hard limit of 64, one seat, three levels, the usual last number, and so many places.
+fn terms(places: u32, keeping: Keeping) -> Terms {
+    Terms {
+        base: 8,
+        hard: 64,
+        seats: 1,
+        places,
+        levels: 3,
+        last: LastNumber::USUAL,
+        keeping,
+    }
+}
+
+/// What seat 0 is answered.
+fn answer<C: Ledger, W: Ledger>(
+    desk: &mut Desk<C, W>,
+    share: &mut Share<C, W>,
+    alloc: Global,
+    cmd: &Cmd,
+) -> Result<Reply, CallFault>
+    requires worker { share.old.workers ≡ workers_at (place_in 0 desk.old.log) }
+    ensures worker { share.new.workers ≡ workers_at (place_in 0 desk.new.log) }
+{
+    let _ = desk.chronicle().market();
+    desk.serve(alloc, share, SeatNo::new(0), *cmd)
+}
+
+/// How many calls are recorded, how many places are free, and how many calls the share counts.
+fn standing<C: Ledger, W: Ledger>(desk: &Desk<C, W>, share: &Share<C, W>) -> (u64, u32, u64) {
+    let chronicle = desk.chronicle();
+    (chronicle.len(), chronicle.free(), share.calls())
+}
+
+/// The call is refused for want of places, and neither recorded nor counted.
+fn lacks_places<C: Ledger, W: Ledger>(
+    rt: &impl Abort,
+    desk: &mut Desk<C, W>,
+    share: &mut Share<C, W>,
+    alloc: Global,
+    cmd: &Cmd,
+)
+    requires worker { share.old.workers ≡ workers_at (place_in 0 desk.old.log) }
+    ensures worker { share.new.workers ≡ workers_at (place_in 0 desk.new.log) }
+{
+    let before = standing(desk, share);
+    let refused = answer(desk, share, alloc, cmd);
+    assert!(rt; matches!(&refused, Err(CallFault::HistoryFull)));
+    assert!(rt; standing(desk, share) == before);
+}
+
+/// An arena that asks for one worker is opened.
+fn open_one<C: Ledger, W: Ledger>(
+    rt: &impl Abort,
+    desk: &mut Desk<C, W>,
+    share: &mut Share<C, W>,
+    alloc: Global,
+)
+    requires worker { share.old.workers ≡ workers_at (place_in 0 desk.old.log) }
+    ensures worker { share.new.workers ≡ workers_at (place_in 0 desk.new.log) }
+{
+    let told = answer(desk, share, alloc, &Cmd::Open(8, 1, Level::from_index(1)));
+    assert!(rt; matches!(&told, Ok(Reply::Opened(arena)) if arena.get() == 1));
+    let told = answer(desk, share, alloc, &Cmd::Request(ArenaId::new(1), 1, 0));
+    assert!(rt; matches!(&told, Ok(Reply::Requested(1))));
+}
+
+/// An arena that asks for one worker is opened, and seat 0 joins it.
+fn join<C: Ledger, W: Ledger>(
+    rt: &impl Abort,
+    desk: &mut Desk<C, W>,
+    share: &mut Share<C, W>,
+    alloc: Global,
+)
+    requires worker { share.old.workers ≡ workers_at (place_in 0 desk.old.log) }
+    ensures worker { share.new.workers ≡ workers_at (place_in 0 desk.new.log) }
+{
+    open_one(rt, desk, share, alloc);
+    let told = answer(desk, share, alloc, &Cmd::Join);
+    assert!(rt; matches!(&told, Ok(Reply::Placed(arena)) if arena.get() == 1));
+    assert!(rt; share.calls() == 3);
+}
+
+/// A desk of one seat and four places, whose caller joins, is told that the history is full, and leaves unless it stays: what
+/// its history and its book have at the end.
+fn full_history<C: Ledger, W: Ledger>(
+    rt: &impl Abort,
+    alloc: Global,
+    calls: Blank,
+    workers: Blank,
+    stays: bool,
+) -> (u64, Totals)
+    requires calls { calls.name ≡ C.name }
+    requires calls_parts { (calls.parts ≡ C.parts) × (C.parts ≡ 1) }
+    requires workers { workers.name ≡ W.name }
+    requires workers_parts { (workers.parts ≡ W.parts) × (W.parts ≡ 1) }
+{
+    let Ok(chronicle) = Chronicle::new(alloc, 8, 64, 1, 4, 3) else {
+        panic!(rt; "no chronicle");
+    };
+    let Ok((book, mut shares)) = Book::<C, W>::new(alloc, 1, calls, workers) else {
+        panic!(rt; "no book");
+    };
+    let mut desk = Desk::new(chronicle, book);
+    let share = &mut shares.as_mut_slice()[0];
+    join(rt, &mut desk, share, alloc);
+    lacks_places(rt, &mut desk, share, alloc, &Cmd::Show(ArenaId::new(1)));
+    lacks_places(rt, &mut desk, share, alloc, &Cmd::Stay);
+    if !stays {
+        let left = answer(&mut desk, share, alloc, &Cmd::Leave);
+        assert!(rt; matches!(&left, Ok(Reply::Left(arena)) if arena.get() == 1));
+        lacks_places(rt, &mut desk, share, alloc, &Cmd::Limit);
+    }
+    let (chronicle, book) = desk.into_parts();
+    (chronicle.len(), book.gather(shares))
+}
+
+#[test]
+fn a_placed_worker_leaves_a_full_history(rt: HostRuntime) {
+    let counted = full_history::<Brand, Brand>(
+        &rt,
+        rt.alloc(),
+        Blank::new(1),
+        Blank::new(1),
+        false,
+    );
+    let totals = Totals {
+        calls: 4,
+        workers: 0,
+    };
+    assert!(&rt; counted == (4, totals));
+}
+
+#[test]
+fn a_worker_that_stays_is_counted(rt: HostRuntime) {
+    let counted = full_history::<Brand, Brand>(&rt, rt.alloc(), Blank::new(1), Blank::new(1), true);
+    let totals = Totals {
+        calls: 3,
+        workers: 1,
+    };
+    assert!(&rt; counted == (3, totals));
+}
+
+/// A desk of one seat and three places, the last of them free: a Join takes two. What its history and its book have at the end.
+fn one_place_left<C: Ledger, W: Ledger>(
+    rt: &impl Abort,
+    alloc: Global,
+    calls: Blank,
+    workers: Blank,
+) -> (u64, Totals)
+    requires calls { calls.name ≡ C.name }
+    requires calls_parts { (calls.parts ≡ C.parts) × (C.parts ≡ 1) }
+    requires workers { workers.name ≡ W.name }
+    requires workers_parts { (workers.parts ≡ W.parts) × (W.parts ≡ 1) }
+{
+    let Ok(chronicle) = Chronicle::new(alloc, 8, 64, 1, 3, 3) else {
+        panic!(rt; "no chronicle");
+    };
+    let Ok((book, mut shares)) = Book::<C, W>::new(alloc, 1, calls, workers) else {
+        panic!(rt; "no book");
+    };
+    let mut desk = Desk::new(chronicle, book);
+    let share = &mut shares.as_mut_slice()[0];
+    open_one(rt, &mut desk, share, alloc);
+    lacks_places(rt, &mut desk, share, alloc, &Cmd::Join);
+    let told = answer(&mut desk, share, alloc, &Cmd::Show(ArenaId::new(1)));
+    assert!(rt; matches!(&told, Ok(Reply::Shown(view)) if view.allot == 1 && view.hire == 1));
+    let (chronicle, book) = desk.into_parts();
+    (chronicle.len(), book.gather(shares))
+}
+
+#[test]
+fn a_join_at_a_desk_needs_two_places(rt: HostRuntime) {
+    let counted = one_place_left::<Brand, Brand>(&rt, rt.alloc(), Blank::new(1), Blank::new(1));
+    let totals = Totals {
+        calls: 3,
+        workers: 0,
+    };
+    assert!(&rt; counted == (3, totals));
+}
+
+/// A desk of one seat and four places that is kept in parts, or not: its caller joins, the entries are cut out, and it leaves.
+/// How many entries were cut out, and what the book has at the end.
+fn cut_and_left<C: Ledger, W: Ledger>(
+    rt: &impl Abort,
+    alloc: Global,
+    calls: Blank,
+    workers: Blank,
+    in_parts: bool,
+) -> (Option<usize>, Totals)
+    requires calls { calls.name ≡ C.name }
+    requires calls_parts { (calls.parts ≡ C.parts) × (C.parts ≡ 1) }
+    requires workers { workers.name ≡ W.name }
+    requires workers_parts { (workers.parts ≡ W.parts) × (W.parts ≡ 1) }
+{
+    let keeping = if in_parts {
+        Keeping::InParts
+    } else {
+        Keeping::Everything
+    };
+    let Ok(chronicle) = Chronicle::on_terms(alloc, terms(4, keeping)) else {
+        panic!(rt; "no chronicle");
+    };
+    let Ok((book, mut shares)) = Book::<C, W>::new(alloc, 1, calls, workers) else {
+        panic!(rt; "no book");
+    };
+    let Ok(spare) = Vec::with_capacity(alloc, 1) else {
+        panic!(rt; "no spare");
+    };
+    let mut desk = Desk::new(chronicle, book);
+    let share = &mut shares.as_mut_slice()[0];
+    join(rt, &mut desk, share, alloc);
+    let part = desk.cut(spare);
+    let left = answer(&mut desk, share, alloc, &Cmd::Leave);
+    assert!(rt; matches!(&left, Ok(Reply::Left(arena)) if arena.get() == 1));
+    assert!(rt; desk.chronicle().len() == 4);
+    let (_chronicle, book) = desk.into_parts();
+    let entries = match &part {
+        Some(part) => Some(part.entries.len()),
+        None => None,
+    };
+    (entries, book.gather(shares))
+}
+
+#[test]
+fn a_desk_that_is_kept_in_parts_is_cut(rt: HostRuntime) {
+    let totals = Totals {
+        calls: 4,
+        workers: 0,
+    };
+    let counted = cut_and_left::<Brand, Brand>(&rt, rt.alloc(), Blank::new(1), Blank::new(1), true);
+    assert!(&rt; counted == (Some(3), totals));
+}
+
+#[test]
+fn another_desk_is_not_cut(rt: HostRuntime) {
+    let totals = Totals {
+        calls: 4,
+        workers: 0,
+    };
+    let counted = cut_and_left::<Brand, Brand>(
+        &rt,
+        rt.alloc(),
+        Blank::new(1),
+        Blank::new(1),
+        false,
+    );
+    assert!(&rt; counted == (None, totals));
+}
+
+/// What seat 0 is answered, asked for again where there was no memory: then nothing had changed, and nothing was counted.
+fn answer_at_last<C: Ledger, W: Ledger>(
+    rt: &impl Abort,
+    desk: &mut Desk<C, W>,
+    share: &mut Share<C, W>,
+    alloc: Global,
+    cmd: &Cmd,
+    granted: bool,
+) -> Reply
+    requires worker { share.old.workers ≡ workers_at (place_in 0 desk.old.log) }
+    ensures worker { share.new.workers ≡ workers_at (place_in 0 desk.new.log) }
+{
+    let before = standing(desk, share);
+    match answer(desk, share, alloc, cmd) {
+        Ok(reply) => return reply,
+        Err(fault) => assert!(rt; fault == CallFault::Memory && !granted),
+    }
+    assert!(rt; standing(desk, share) == before);
+    let Ok(reply) = answer(desk, share, alloc, cmd) else {
+        panic!(rt; "no memory");
+    };
+    reply
+}
+
+/// An arena and a control are opened, lists are told, and a worker comes and goes: what was counted, unless there was no
+/// memory for the desk itself. Where every growth is granted, no call is refused.
+fn grown<C: Ledger, W: Ledger>(
+    rt: &impl Abort,
+    alloc: Global,
+    calls: Blank,
+    workers: Blank,
+    granted: bool,
+) -> Option<Totals>
+    requires calls { calls.name ≡ C.name }
+    requires calls_parts { (calls.parts ≡ C.parts) × (C.parts ≡ 1) }
+    requires workers { workers.name ≡ W.name }
+    requires workers_parts { (workers.parts ≡ W.parts) × (W.parts ≡ 1) }
+{
+    let chronicle = match Chronicle::new(alloc, 8, 64, 1, 100, 3) {
+        Ok(chronicle) => chronicle,
+        Err(fault) => {
+            assert!(rt; fault == OpenFault::Memory);
+            return None;
+        }
+    };
+    let Ok((book, mut shares)) = Book::<C, W>::new(alloc, 1, calls, workers) else {
+        return None;
+    };
+    let mut desk = Desk::new(chronicle, book);
+    let share = &mut shares.as_mut_slice()[0];
+    let open = Cmd::Open(8, 1, Level::from_index(1));
+    let told = answer_at_last(rt, &mut desk, share, alloc, &open, granted);
+    assert!(rt; matches!(&told, Reply::Opened(arena) if arena.get() == 1));
+    let told = answer_at_last(rt, &mut desk, share, alloc, &Cmd::Control(5), granted);
+    assert!(rt; matches!(&told, Reply::Controlled(control) if control.get() == 1));
+    let request = Cmd::Request(ArenaId::new(1), 3, 0);
+    let told = answer_at_last(rt, &mut desk, share, alloc, &request, granted);
+    assert!(rt; matches!(&told, Reply::Requested(3)));
+    let told = answer_at_last(rt, &mut desk, share, alloc, &Cmd::Lists, granted);
+    assert!(rt; matches!(&told, Reply::Listed(lists) if lists.len() == 1));
+    let told = answer_at_last(rt, &mut desk, share, alloc, &Cmd::Join, granted);
+    assert!(rt; matches!(&told, Reply::Placed(arena) if arena.get() == 1));
+    let told = answer(&mut desk, share, alloc, &Cmd::Leave);
+    assert!(rt; matches!(&told, Ok(Reply::Left(arena)) if arena.get() == 1));
+    let (_chronicle, book) = desk.into_parts();
+    Some(book.gather(shares))
+}
+
+#[test]
+fn a_refused_growth_leaves_the_desk(rt: HostRuntime) {
+    let counted = grown::<Brand, Brand>(&rt, rt.alloc(), Blank::new(1), Blank::new(1), false);
+    if let Some(totals) = counted {
+        assert!(&rt; totals.calls == 6);
+        assert!(&rt; totals.workers == 0);
+    }
+}
+
+#[test]
+fn a_granted_growth_is_counted(rt: HostRuntime) {
+    let counted = grown::<Brand, Brand>(&rt, rt.alloc(), Blank::new(1), Blank::new(1), true);
+    let totals = Totals {
+        calls: 6,
+        workers: 0,
+    };
+    assert!(&rt; counted == Some(totals));
+}
+
+/// Seat 0 joins and leaves so many times. It is never told that the history is full.
+fn visits<C: Ledger, W: Ledger>(
+    rt: &impl Abort,
+    desk: &mut Desk<C, W>,
+    share: &mut Share<C, W>,
+    alloc: Global,
+    times: u32,
+)
+    requires worker { share.old.workers ≡ workers_at (place_in 0 desk.old.log) }
+{
+    for _ in 0..times {
+        let joined = answer(desk, share, alloc, &Cmd::Join);
+        assert!(rt; matches!(&joined, Ok(Reply::Placed(arena)) if arena.get() == 1));
+        let left = answer(desk, share, alloc, &Cmd::Leave);
+        assert!(rt; matches!(&left, Ok(Reply::Left(arena)) if arena.get() == 1));
+        assert!(rt; desk.chronicle().free() == 3);
+    }
+}
+
+/// An unrecorded desk of one seat, whose caller joins and leaves so many times: how many calls it counts, and how many the
+/// book has.
+fn unrecorded<C: Ledger, W: Ledger>(
+    rt: &impl Abort,
+    alloc: Global,
+    calls: Blank,
+    workers: Blank,
+    times: u32,
+) -> (u64, Totals)
+    requires calls { calls.name ≡ C.name }
+    requires calls_parts { (calls.parts ≡ C.parts) × (C.parts ≡ 1) }
+    requires workers { workers.name ≡ W.name }
+    requires workers_parts { (workers.parts ≡ W.parts) × (W.parts ≡ 1) }
+{
+    let Ok(chronicle) = Chronicle::on_terms(alloc, terms(3, Keeping::Nothing)) else {
+        panic!(rt; "no chronicle");
+    };
+    let Ok((book, mut shares)) = Book::<C, W>::new(alloc, 1, calls, workers) else {
+        panic!(rt; "no book");
+    };
+    let mut desk = Desk::new(chronicle, book);
+    let share = &mut shares.as_mut_slice()[0];
+    open_one(rt, &mut desk, share, alloc);
+    visits(rt, &mut desk, share, alloc, times);
+    let (chronicle, book) = desk.into_parts();
+    (chronicle.len(), book.gather(shares))
+}
+
+#[test]
+fn an_unrecorded_desk_counts_each_call_and_is_never_full(rt: HostRuntime) {
+    let counted = unrecorded::<Brand, Brand>(&rt, rt.alloc(), Blank::new(1), Blank::new(1), 10_000);
+    let totals = Totals {
+        calls: 20_002,
+        workers: 0,
+    };
+    assert!(&rt; counted == (20_002, totals));
+}

@@ -1,0 +1,22 @@
+//! Tests of the market, its history, its journal and its explanation, and of how lines are cut: what no clause says, with values
+//! worked out by hand.
+#![tactic(auto)]
+
+#[cfg(test)]
+mod checking;
+#[cfg(test)]
+mod chronicles;
+#[cfg(test)]
+mod commands;
+#[cfg(test)]
+mod desks;
+#[cfg(test)]
+mod histories;
+#[cfg(test)]
+mod journals;
+#[cfg(test)]
+mod ledgers;
+#[cfg(test)]
+mod lines;
+#[cfg(test)]
+mod tables;

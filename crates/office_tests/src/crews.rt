@@ -1,0 +1,234 @@
+//! Callers that follow scripts.
+ghost use Rattle.std.specs.Prelude.{◌≡◌, length, vec_len};
+
+use edit_history::{Chronicle, Keeping};
+use market_types::{ArenaId, Cmd, LastNumber, Level, SeatNo, push_reply};
+use office_crew::{Meeting, Script, Terms, ask, meet};
+use std::alloc::Global;
+use std::process::Abort;
+use std::rt::HostRuntime;
+use std::sync::Wait;
+use std::thread::Threads;
+
+const TERMS: Terms = Terms {
+    base: 8,
+    hard: 64,
+    places: 100,
+    levels: 3,
+    last: LastNumber::USUAL,
+    keeping: Keeping::Everything,
+};
+
+/// A worker comes, is shown, stays and leaves.
+fn visit() -> [Cmd; 6] {
+    let arena = ArenaId::new(1);
+    [
+        Cmd::Open(8, 1, Level::from_index(1)),
+        Cmd::Request(arena, 1, 0),
+        Cmd::Join,
+        Cmd::Show(arena),
+        Cmd::Stay,
+        Cmd::Leave,
+    ]
+}
+
+/// A script for each list of commands.
+fn scripts_of<'a>(rt: &impl Abort, alloc: Global, lists: &[&'a [Cmd]]) -> Vec<Script<'a>> {
+    let mut scripts = Vec::new(alloc);
+    for cmds in lists {
+        let Ok(script) = Script::new(alloc, *cmds) else {
+            panic!(rt; "no memory");
+        };
+        assert!(rt; scripts.push(script).is_ok());
+    }
+    scripts
+}
+
+/// No openers.
+fn nobody<'a>(alloc: Global) -> Vec<Script<'a>>
+    ensures { vec_len result ≡ 0 }
+{
+    Vec::new(alloc)
+}
+
+/// The script's caller is told so, alone in an office of these terms, and the office counts so many calls and workers.
+fn is_told<R: Threads + Wait + Sync + Abort>(
+    rt: &R,
+    alloc: Global,
+    terms: Terms,
+    cmds: &[Cmd],
+    due: &[u8],
+    totals: (u64, u64),
+) {
+    let scripts = scripts_of(rt, alloc, &[cmds]);
+    assert!(rt; scripts.len() == 1);
+    let Ok(meeting) = meet(rt, alloc, terms, nobody(alloc), scripts) else {
+        panic!(rt; "no office");
+    };
+    assert!(rt; meeting.tasks.iter().all(|script| script.told() == due));
+    assert!(rt; (meeting.closed.calls, meeting.closed.workers) == totals);
+    assert!(rt; meeting.closed.chronicle.len() == totals.0);
+}
+
+#[test]
+fn a_worker_visits_an_arena(rt: HostRuntime) {
+    let due =
+        b"arena 1\nrequest 1\nplaced 1\narena 1 request 1 allot 1 top yes active 1 recall 0 hire 0\nstays 1\nleft 1\n";
+    is_told(&rt, rt.alloc(), TERMS, &visit(), due, (6, 0));
+}
+
+#[test]
+fn a_worker_is_still_there_when_the_office_closes(rt: HostRuntime) {
+    let due =
+        b"arena 1\nrequest 1\nplaced 1\narena 1 request 1 allot 1 top yes active 1 recall 0 hire 0\nstays 1\n";
+    is_told(&rt, rt.alloc(), TERMS, &visit()[..5], due, (5, 1));
+}
+
+#[test]
+fn the_last_place_is_for_the_leave(rt: HostRuntime) {
+    let terms = Terms { places: 4, ..TERMS };
+    let due = b"arena 1\nrequest 1\nplaced 1\nC2 history full\nC2 history full\nleft 1\n";
+    is_told(&rt, rt.alloc(), terms, &visit(), due, (4, 0));
+}
+
+#[test]
+fn a_join_takes_two_places(rt: HostRuntime) {
+    let terms = Terms { places: 3, ..TERMS };
+    let due =
+        b"arena 1\nrequest 1\nC2 history full\narena 1 request 1 allot 1 top yes active 0 recall 0 hire 1\nnot asked\nnot asked\n";
+    is_told(&rt, rt.alloc(), terms, &visit(), due, (3, 0));
+}
+
+#[test]
+fn a_recalled_worker_is_a_pass_again(rt: HostRuntime) {
+    let arena = ArenaId::new(1);
+    let cmds = [
+        Cmd::Open(8, 1, Level::from_index(1)),
+        Cmd::Request(arena, 1, 0),
+        Cmd::Join,
+        Cmd::Join,
+        Cmd::Request(arena, -1, 0),
+        Cmd::Stay,
+        Cmd::Leave,
+        Cmd::Join,
+    ];
+    let due = b"arena 1\nrequest 1\nplaced 1\nnot asked\nrequest 0\nrecalled 1\nnot asked\nidle\n";
+    is_told(&rt, rt.alloc(), TERMS, &cmds, due, (6, 0));
+}
+
+/// The first caller gives two commands in its thread; when it has met, the second gives the last.
+fn is_seen_next<R: Threads + Wait + Sync + Abort>(rt: &R, alloc: Global, cmds: &[Cmd])
+    requires { length cmds.now ≡ 3 }
+{
+    let openers = scripts_of(rt, alloc, &[&cmds[..2]]);
+    let tasks = scripts_of(rt, alloc, &[&cmds[2..]]);
+    assert!(rt; openers.len() == 1 && tasks.len() == 1);
+    let Ok(meeting) = meet(rt, alloc, TERMS, openers, tasks) else {
+        panic!(rt; "no office");
+    };
+    let Meeting {
+        closed,
+        openers,
+        tasks,
+    } = meeting;
+    let seen = b"arena 1 request 3 allot 3 top yes active 0 recall 0 hire 3\n";
+    assert!(rt; openers.iter().all(|script| script.told() == b"arena 1\nrequest 3\n".as_slice()));
+    assert!(rt; tasks.iter().all(|script| script.told() == seen.as_slice()));
+    assert!(rt; (openers.len(), tasks.len()) == (1, 1));
+    assert!(rt; (closed.calls, closed.workers, closed.chronicle.len()) == (3, 0, 3));
+}
+
+#[test]
+fn the_next_thread_sees_what_the_last_one_did(rt: HostRuntime) {
+    let arena = ArenaId::new(1);
+    let cmds = [
+        Cmd::Open(8, 1, Level::from_index(1)),
+        Cmd::Request(arena, 3, 0),
+        Cmd::Show(arena),
+    ];
+    is_seen_next(&rt, rt.alloc(), &cmds);
+}
+
+/// Two callers ask for the limit so many times each, at the same time.
+fn are_told_the_limit<R: Threads + Wait + Sync + Abort>(rt: &R, alloc: Global, cmds: &[Cmd]) {
+    let terms = Terms {
+        places: 2_000,
+        ..TERMS
+    };
+    let scripts = scripts_of(rt, alloc, &[cmds, cmds]);
+    assert!(rt; scripts.len() == 2);
+    let Ok(meeting) = meet(rt, alloc, terms, nobody(alloc), scripts) else {
+        panic!(rt; "no office");
+    };
+    let Meeting {
+        closed,
+        openers: _,
+        tasks,
+    } = meeting;
+    let line = b"value 8 limit 7 effective 7\n";
+    for script in tasks.iter() {
+        assert!(rt; script.told().len() == 1_000 * line.len());
+        assert!(rt;
+            script
+                .told()
+                .chunks(line.len())
+                .all(|told| told == line.as_slice())
+        );
+    }
+    assert!(rt; (closed.calls, closed.workers, closed.chronicle.len()) == (2_000, 0, 2_000));
+}
+
+#[test]
+fn two_threads_ask_a_thousand_times_each(rt: HostRuntime) {
+    are_told_the_limit(&rt, rt.alloc(), &[Cmd::Limit; 1_000]);
+}
+
+/// What the entries of a seat tell, in their order.
+fn told_in(rt: &impl Abort, alloc: Global, chronicle: &Chronicle, seat: SeatNo) -> Vec<u8> {
+    let mut told = Vec::new(alloc);
+    for entry in chronicle.kept() {
+        if entry.call.seat == seat {
+            assert!(rt; push_reply(&mut told, &entry.reply).is_ok());
+            assert!(rt; told.push(b'\n').is_ok());
+        }
+    }
+    told
+}
+
+/// The first caller gives two commands in its thread; when it has met, one visits while another comes to work.
+fn one_visits_and_one_stays<R: Threads + Wait + Sync + Abort>(rt: &R, alloc: Global, cmds: &[Cmd])
+    requires { length cmds.now ≡ 6 }
+{
+    let openers = scripts_of(rt, alloc, &[&cmds[..2]]);
+    let tasks = scripts_of(rt, alloc, &[&cmds[2..5], &cmds[5..]]);
+    assert!(rt; openers.len() == 1 && tasks.len() == 2);
+    let Ok(meeting) = meet(rt, alloc, TERMS, openers, tasks) else {
+        panic!(rt; "no office");
+    };
+    let Meeting {
+        closed,
+        openers: _,
+        tasks,
+    } = meeting;
+    assert!(rt; tasks.len() == 2);
+    assert!(rt; tasks[0].told() == b"placed 1\nstays 1\nleft 1\n".as_slice());
+    assert!(rt; tasks[1].told() == b"placed 1\n".as_slice());
+    assert!(rt; (closed.calls, closed.workers, closed.chronicle.len()) == (6, 1, 6));
+    let told = told_in(rt, alloc, &closed.chronicle, SeatNo::new(1));
+    assert!(rt; told.as_slice() == b"placed 1\nstays 1\nleft 1\n".as_slice());
+    let view = closed.chronicle.market().view(ArenaId::new(1));
+    assert!(rt; matches!(view, Some(arena) if arena.active == 1));
+}
+
+#[test]
+fn a_worker_visits_while_another_comes(rt: HostRuntime) {
+    let cmds = [
+        Cmd::Open(8, 1, Level::from_index(1)),
+        Cmd::Request(ArenaId::new(1), 2, 0),
+        Cmd::Join,
+        Cmd::Stay,
+        Cmd::Leave,
+        Cmd::Join,
+    ];
+    one_visits_and_one_stays(&rt, rt.alloc(), &cmds);
+}

@@ -1,0 +1,118 @@
+//! What tasks are worth, and answers that are gathered.
+
+use drive_plan::{Done, GatherFault, Job, PlannedJob, Task, gather_done};
+use market_types::ArenaId;
+use std::alloc::Global;
+use std::process::Abort;
+use std::rt::HostRuntime;
+
+/// The jobs of a plan of two arenas.
+pub(crate) fn planned() -> [PlannedJob; 3] {
+    [
+        PlannedJob {
+            arena: ArenaId::new(1),
+            task: Task::Sum(10),
+        },
+        PlannedJob {
+            arena: ArenaId::new(1),
+            task: Task::Digits(9081),
+        },
+        PlannedJob {
+            arena: ArenaId::new(2),
+            task: Task::Sum(100),
+        },
+    ]
+}
+
+/// The answers to these jobs, each of which a worker takes by its number and its task.
+fn answers(rt: &impl Abort, alloc: Global, taken: &[Job]) -> Vec<Done> {
+    let mut done = Vec::new(alloc);
+    for job in taken {
+        let pushed = done.push(job.run());
+        assert!(rt; pushed.is_ok());
+    }
+    done
+}
+
+/// The plan's job of this number, as a worker takes it.
+fn taken(number: u32) -> Job {
+    let task = match number {
+        1 => Task::Sum(10),
+        2 => Task::Digits(9081),
+        _ => Task::Sum(100),
+    };
+    Job { number, task }
+}
+
+/// The answers are refused so.
+fn refused(rt: &impl Abort, alloc: Global, jobs: &[Job], fault: GatherFault) {
+    let gathered = gather_done(&planned(), answers(rt, alloc, jobs));
+    let Err(found) = gathered else {
+        panic!(rt; "the answers are an outcome");
+    };
+    assert!(rt; found == fault);
+}
+
+#[test]
+fn a_task_has_its_value(rt: HostRuntime) {
+    assert!(&rt; Task::Sum(0).run() == 0);
+    assert!(&rt; Task::Sum(1).run() == 1);
+    assert!(&rt; Task::Sum(10).run() == 55);
+    assert!(&rt; Task::Sum(100).run() == 5050);
+    assert!(&rt; Task::Sum(1_000_000).run() == 500_000_500_000);
+    assert!(&rt; Task::Digits(0).run() == 0);
+    assert!(&rt; Task::Digits(9).run() == 9);
+    assert!(&rt; Task::Digits(10).run() == 1);
+    assert!(&rt; Task::Digits(9081).run() == 18);
+    assert!(&rt; Task::Digits(u64::MAX).run() == 87);
+}
+
+#[test]
+fn answers_come_out_in_order_of_number(rt: HostRuntime) {
+    let done = answers(&rt, rt.alloc(), &[taken(3), taken(1), taken(2)]);
+    let Ok(gathered) = gather_done(&planned(), done) else {
+        panic!(&rt; "the answers are no outcome");
+    };
+    for (done, due) in gathered.iter().zip([(1, 55), (2, 18), (3, 5050)]) {
+        assert!(&rt; done.number == due.0);
+        assert!(&rt; done.value == due.1);
+    }
+    assert!(&rt; gathered.len() == 3);
+}
+
+#[test]
+fn a_plan_without_jobs_has_no_answers(rt: HostRuntime) {
+    let Ok(gathered) = gather_done(&[], Vec::new(rt.alloc())) else {
+        panic!(&rt; "no answers are no outcome");
+    };
+    assert!(&rt; gathered.is_empty());
+}
+
+#[test]
+fn a_job_answered_twice_is_doubled(rt: HostRuntime) {
+    let twice = [taken(2), taken(1), taken(3), taken(2)];
+    refused(&rt, rt.alloc(), &twice, GatherFault::Doubled(2));
+    let both = [taken(3), taken(2), taken(3), taken(2)];
+    refused(&rt, rt.alloc(), &both, GatherFault::Doubled(2));
+    let lacking = [taken(3), taken(3)];
+    refused(&rt, rt.alloc(), &lacking, GatherFault::Doubled(3));
+}
+
+#[test]
+fn an_answer_to_no_job_of_the_plan_is_doubled(rt: HostRuntime) {
+    let task = Task::Sum(10);
+    for number in [0, 2, 4] {
+        let strange = Job { number, task };
+        let jobs = [taken(1), strange];
+        refused(&rt, rt.alloc(), &jobs, GatherFault::Doubled(number));
+    }
+}
+
+#[test]
+fn a_job_without_an_answer_is_missing(rt: HostRuntime) {
+    refused(&rt, rt.alloc(), &[], GatherFault::Missing(1));
+    let first = [taken(2), taken(1)];
+    refused(&rt, rt.alloc(), &first, GatherFault::Missing(3));
+    let middle = [taken(3), taken(1)];
+    refused(&rt, rt.alloc(), &middle, GatherFault::Missing(2));
+}

@@ -1,0 +1,301 @@
+//! Plans that workers drive, each in a thread of its own.
+ghost use Rattle.std.specs.Prelude.{◌<◌, ◌≤◌};
+
+use drive_plan::{Done, Job, Plan, Task, read_plan};
+use edit_history::CallFault;
+use market_drive::{DriveFault, drive, gather_done};
+use market_types::ArenaId;
+use std::alloc::{AllocError, Global};
+use std::process::Abort;
+use std::rt::HostRuntime;
+use std::sync::Wait;
+use std::sync::atomic::{AtomicU64, Ordering};
+use std::thread::Threads;
+use worker_main::{Ended, Gate, OpenGate};
+
+const PLAN: &[u8] = b"\
+market 8 64
+arena 8 1 normal 2 0
+arena 8 1 low 1 0
+job 1 sum 10
+job 1 digits 9081
+job 2 sum 100
+";
+
+/// One arena with two jobs, in need of two workers.
+const TWO_JOBS: &[u8] = b"\
+market 8 64
+arena 8 1 normal 2 0
+job 1 sum 10
+job 1 digits 9081
+";
+
+/// Holds job 1 until job 2 is done.
+#[derive(Drop)]
+struct SecondFirst {
+    done: AtomicU64,
+}
+
+impl Gate for SecondFirst {
+    fn before(&self, number: u32) -> bool {
+        number != 1 || self.done.load(Ordering::SeqCst) == 1
+    }
+
+    fn after(&self, number: u32) {
+        if number == 2 {
+            self.done.store(1, Ordering::SeqCst);
+        }
+    }
+}
+
+/// Lets every job through but one.
+#[derive(Drop)]
+struct AllBut(u32);
+
+impl Gate for AllBut {
+    fn before(&self, number: u32) -> bool {
+        number != self.0
+    }
+
+    fn after(&self, number: u32) {
+        let _ = number;
+    }
+}
+
+/// The answers of so many workers to the plan are these.
+fn is_answered<R: Threads + Wait + Sync + Abort>(
+    rt: &R,
+    alloc: Global,
+    text: &[u8],
+    workers: usize,
+    due: &[(u32, u64)],
+)
+    requires { (0 < workers) × (workers ≤ 16) }
+{
+    let Ok(done) = drive(rt, alloc, text, workers, &OpenGate) else {
+        panic!(rt; "no answers");
+    };
+    assert!(rt; done.len() == due.len());
+    for (done, due) in done.iter().zip(due.iter()) {
+        assert!(rt; (done.number, done.value) == *due);
+    }
+}
+
+/// So many workers give no answers to the plan, for this reason.
+fn is_refused<G: Gate + Sync, R: Threads + Wait + Sync + Abort>(
+    rt: &R,
+    alloc: Global,
+    text: &[u8],
+    workers: usize,
+    gate: &G,
+    due: DriveFault,
+)
+    requires { (0 < workers) × (workers ≤ 16) }
+{
+    let Err(fault) = drive(rt, alloc, text, workers, gate) else {
+        panic!(rt; "answers");
+    };
+    assert!(rt; fault == due);
+}
+
+#[test]
+fn each_number_of_workers_gives_the_same_answers(rt: HostRuntime) {
+    let due = [(1, 55), (2, 18), (3, 5050)];
+    is_answered(&rt, rt.alloc(), PLAN, 1, &due);
+    is_answered(&rt, rt.alloc(), PLAN, 2, &due);
+    is_answered(&rt, rt.alloc(), PLAN, 16, &due);
+}
+
+/// This refuses a worker that holds the lock through its job, one thread that runs all jobs, and an end that is always told as want of
+/// memory or as unfinished.
+#[test]
+fn two_jobs_meet(rt: HostRuntime) {
+    let gate = SecondFirst {
+        done: AtomicU64::new(0),
+    };
+    let Ok(done) = drive(&rt, rt.alloc(), TWO_JOBS, 2, &gate) else {
+        panic!(&rt; "the jobs did not meet");
+    };
+    assert!(&rt; done.len() == 2);
+    assert!(&rt; (done[0].number, done[0].value, done[1].number, done[1].value) == (1, 55, 2, 18));
+}
+
+#[test]
+fn a_gate_that_stays_shut_leaves_the_plan_unfinished(rt: HostRuntime) {
+    is_refused(
+        &rt,
+        rt.alloc(),
+        TWO_JOBS,
+        2,
+        &AllBut(1),
+        DriveFault::Unfinished,
+    );
+}
+
+#[test]
+fn no_plan_is_driven_that_does_not_fit(rt: HostRuntime) {
+    is_refused(&rt, rt.alloc(), b"", 1, &OpenGate, DriveFault::BadPlan(1));
+    let text = b"\
+market 8 64
+arena 8 1 normal 2 0
+arena 8 1 low 1 0
+job 1 sum 10
+job 1 digits 9081
+job 3 sum 100
+";
+    is_refused(&rt, rt.alloc(), text, 4, &OpenGate, DriveFault::BadPlan(6));
+}
+
+#[test]
+fn an_arena_that_gets_no_worker_is_told_before_any_job(rt: HostRuntime) {
+    let text = b"\
+market 8 64
+arena 2 2 normal 5 0
+job 1 sum 10
+";
+    let due = DriveFault::Unservable(ArenaId::new(1));
+    is_refused(&rt, rt.alloc(), text, 4, &AllBut(1), due);
+}
+
+#[test]
+fn a_plan_without_jobs_has_no_answers(rt: HostRuntime) {
+    let text = b"\
+market 8 64
+arena 8 1 normal 2 0
+arena 8 1 low 1 0
+";
+    is_answered(&rt, rt.alloc(), text, 4, &[]);
+}
+
+/// A plan of 64 arenas on three levels that are each in need of two workers, with 1,024 jobs each, one after the other.
+fn long_plan(alloc: Global) -> Result<Vec<u8>, AllocError> {
+    let mut text = Vec::new(alloc);
+    text.extend_from_slice(b"market 8 64\n")?;
+    for arena in 0..64u32 {
+        let line = match arena % 3 {
+            0 => b"arena 8 1 high 2 0\n".as_slice(),
+            1 => b"arena 8 1 normal 2 0\n".as_slice(),
+            _ => b"arena 8 1 low 2 0\n".as_slice(),
+        };
+        text.extend_from_slice(line)?;
+    }
+    for job in 0..65_536u32 {
+        let line = format!(in alloc; "job {} digits {job}\n", job % 64 + 1)?;
+        text.extend_from_slice(line.as_bytes())?;
+    }
+    Ok(text)
+}
+
+#[test]
+fn sixteen_workers_answer_65_536_jobs_as_one_does(rt: HostRuntime) {
+    let Ok(text) = long_plan(rt.alloc()) else {
+        panic!(&rt; "no memory");
+    };
+    let Ok(one) = drive(&rt, rt.alloc(), &text, 1, &OpenGate) else {
+        panic!(&rt; "one worker has no answers");
+    };
+    let Ok(sixteen) = drive(&rt, rt.alloc(), &text, 16, &OpenGate) else {
+        panic!(&rt; "sixteen workers have no answers");
+    };
+    assert!(&rt; one.len() == 65_536 && sixteen.len() == 65_536);
+    for (one, other) in one.iter().zip(sixteen.iter()) {
+        assert!(&rt; (one.number, one.value) == (other.number, other.value));
+    }
+    assert!(&rt; (one[9_081].number, one[9_081].value) == (9_082, 18));
+}
+
+/// The plan of the text.
+fn plan_of<R: Abort>(rt: &R, alloc: Global) -> Plan {
+    let Ok(plan) = read_plan(alloc, PLAN) else {
+        panic!(rt; "no plan");
+    };
+    plan
+}
+
+/// The answers to these jobs of the plan, by their numbers.
+fn answers<R: Abort>(rt: &R, alloc: Global, numbers: &[u32]) -> Vec<Done> {
+    let mut done = Vec::new(alloc);
+    for number in numbers {
+        let task = match *number {
+            1 => Task::Sum(10),
+            2 => Task::Digits(9_081),
+            _ => Task::Sum(100),
+        };
+        let job = Job {
+            number: *number,
+            task,
+        };
+        let pushed = done.push(job.run());
+        assert!(rt; pushed.is_ok());
+    }
+    done
+}
+
+/// Answers to these jobs, by workers that ended so, come to this fault.
+fn comes_to<R: Abort>(rt: &R, alloc: Global, numbers: &[u32], ended: &[Ended], due: DriveFault) {
+    let plan = plan_of(rt, alloc);
+    let Err(fault) = gather_done(&plan, answers(rt, alloc, numbers), ended) else {
+        panic!(rt; "an outcome");
+    };
+    assert!(rt; fault == due);
+}
+
+/// The worker took job 2, and the gate stayed shut.
+fn shut() -> Ended {
+    Ended::GateShut(Job {
+        number: 2,
+        task: Task::Digits(9_081),
+    })
+}
+
+#[test]
+fn answers_of_idle_workers_are_put_in_order(rt: HostRuntime) {
+    let plan = plan_of(&rt, rt.alloc());
+    let done = answers(&rt, rt.alloc(), &[3, 1, 2]);
+    let Ok(gathered) = gather_done(&plan, done, &[Ended::Idle, Ended::Idle]) else {
+        panic!(&rt; "no outcome");
+    };
+    for (done, due) in gathered.iter().zip([(1, 55), (2, 18), (3, 5050)]) {
+        assert!(&rt; done.number == due.0);
+        assert!(&rt; done.value == due.1);
+    }
+    assert!(&rt; gathered.len() == 3);
+}
+
+#[test]
+fn want_of_memory_is_told_first(rt: HostRuntime) {
+    let alloc = rt.alloc();
+    let own = [shut(), Ended::Memory];
+    comes_to(&rt, alloc, &[1, 2, 3], &own, DriveFault::Memory);
+    let of_a_call = [
+        Ended::Call(CallFault::HistoryFull),
+        Ended::Call(CallFault::Memory),
+    ];
+    comes_to(&rt, alloc, &[1, 2], &of_a_call, DriveFault::Memory);
+}
+
+#[test]
+fn workers_that_broke_off_are_told_before_answers(rt: HostRuntime) {
+    let alloc = rt.alloc();
+    let at_a_gate = [Ended::Idle, shut()];
+    comes_to(&rt, alloc, &[1, 2, 3], &at_a_gate, DriveFault::Unfinished);
+    let at_no_station = [Ended::NoStation(ArenaId::new(3))];
+    comes_to(
+        &rt,
+        alloc,
+        &[1, 2, 2],
+        &at_no_station,
+        DriveFault::Unfinished,
+    );
+    let at_the_end = [Ended::Call(CallFault::HistoryFull), Ended::Idle];
+    comes_to(&rt, alloc, &[1], &at_the_end, DriveFault::Unfinished);
+}
+
+#[test]
+fn doubled_answers_are_told_before_missing_ones(rt: HostRuntime) {
+    let alloc = rt.alloc();
+    let idle = [Ended::Idle];
+    comes_to(&rt, alloc, &[1, 2, 2, 3], &idle, DriveFault::Doubled(2));
+    comes_to(&rt, alloc, &[2, 2], &idle, DriveFault::Doubled(2));
+    comes_to(&rt, alloc, &[1, 2], &idle, DriveFault::Missing(3));
+}
