@@ -14,6 +14,3 @@ mod level;
 pub use carry::{carry_share, share};
 pub use law::{bound_is_given_out, no_carry_to_keep};
 pub use level::{assign, mandatory_pick, top_level};
-
-#[cfg(test)]
-mod tests;

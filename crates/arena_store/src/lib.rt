@@ -17,6 +17,3 @@ pub use change::Change;
 pub use level_list::Stretch;
 pub use store::Arenas;
 pub use stored_arena::StoredArena;
-
-#[cfg(test)]
-mod tests;

@@ -1,5 +1,5 @@
 //! The controls that live.
-ghost use Rattle.std.specs.Prelude.{◌≡◌, ◌↔◌, ◌≤◌, [], not, IsTrue, IsOk, OnOk, OnErr, IfOk, IfErr};
+ghost use Rattle.std.specs.Prelude.{◌≡◌, ◌↔◌, ◌≤◌, [], IsTrue, IsOk, OnOk, OnErr, IfOk, IfErr};
 ghost use Rattle.market_types.specs.State.{State};
 ghost use Rattle.market_types.specs.Allotment.{active_value};
 ghost use Rattle.market_types.specs.Step.{control_step, uncontrol_step};

@@ -6,6 +6,3 @@ mod control;
 mod control_set;
 
 pub use control_set::ControlSet;
-
-#[cfg(test)]
-mod tests;

@@ -72,7 +72,8 @@ abbrev pub FitsMarket : ℕ → ℕ → ℕ → Type 0
 FitsMarket base hard levels =
     (1 ≤ base) × (base ≤ 65536) × (1 ≤ hard) × (hard ≤ 65535) × (1 ≤ levels) × (levels ≤ 8)
 
--- a line's numbers are in their ranges, in a market of so many levels, after so many arenas
+-- a line's numbers are in their ranges, in a market of so many levels, after so many arenas (no public clause has this word, nor
+-- the next, which every plan's type keeps)
 abbrev pub FitsLine : ℕ → ℕ → PlanLine → Type 0
 FitsLine levels arenas (Market base hard l) = FitsMarket base hard l
 FitsLine levels arenas (Arena arena) = FitsArena levels arena

@@ -1,5 +1,5 @@
 //! Answers in order of number, each job's once.
-ghost use Rattle.std.specs.Prelude.{◌≡◌, ◌≤◌, IfErr, IfNone, IfOk, IfSome, length};
+ghost use Rattle.std.specs.Prelude.{◌≤◌, IfErr, IfNone, IfOk, IfSome, length};
 ghost use Rattle.std.specs.List.Sorted.{IsPermutation};
 ghost use Rattle.drive_plan.specs.Outcome.{IsDoubled, IsMissing, IsOutcome};
 ghost use Rattle.drive_plan.specs.Gathering.{IsGatherFault, IsInOrder, Rises};

@@ -15,6 +15,3 @@ pub use gather::{GatherFault, gather_done};
 pub use plan::{Plan, PlannedArena};
 pub use reader::{PlanFault, read_plan};
 pub use task::{Done, Job, PlannedJob, Task};
-
-#[cfg(test)]
-mod tests;

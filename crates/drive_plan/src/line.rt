@@ -10,8 +10,8 @@ use crate::plan::PlannedArena;
 use crate::task::{PlannedJob, Task};
 use market_types::{ArenaId, Level, cut_field, read_level, read_number};
 
-/// The most of a number of workers, jobs or slots.
-const MOST: u32 = 65_535;
+/// The most of a number of workers: a hard limit, slots, and what an arena asks for.
+const MOST_WORKERS: u32 = 65_535;
 
 /// The greatest argument of a sum.
 const MOST_ADDED: u32 = 1_000_000;
@@ -109,7 +109,7 @@ fn read_market(more: Option<&[u8]>) -> Option<PlanLine>
     let (field, more) = cut_field(more?);
     let base = read_in(field, 1, 65_536)?;
     let (field, more) = cut_field(more?);
-    let hard = read_in(field, 1, MOST)?;
+    let hard = read_in(field, 1, MOST_WORKERS)?;
     let Some(more) = more else {
         return Some(PlanLine::Market(base, hard, 3));
     };
@@ -123,15 +123,15 @@ fn read_arena(more: Option<&[u8]>, levels: u32) -> Option<PlanLine>
     ensures fits { (arenas : ℕ) → IfSome result (FitsLine levels arenas) }
 {
     let (field, more) = cut_field(more?);
-    let slots = read_in(field, 1, MOST)?;
+    let slots = read_in(field, 1, MOST_WORKERS)?;
     let (field, more) = cut_field(more?);
     let reserved = read_in(field, 0, slots)?;
     let (field, more) = cut_field(more?);
     let level = read_level_in(field, levels)?;
     let (field, more) = cut_field(more?);
-    let wanted = read_in(field, 0, MOST)?;
+    let wanted = read_in(field, 0, MOST_WORKERS)?;
     let (field, more) = cut_field(more?);
-    let mandatory = read_in(field, 0, MOST)?;
+    let mandatory = read_in(field, 0, MOST_WORKERS)?;
     let arena = PlannedArena {
         slots,
         reserved,

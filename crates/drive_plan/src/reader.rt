@@ -1,5 +1,5 @@
 //! A plan, read line by line.
-ghost use Rattle.std.specs.Prelude.{◌≡◌, ◌+◌, ◌<◌, ◌^◌, IfOk};
+ghost use Rattle.std.specs.Prelude.{◌≡◌, ◌+◌, ◌<◌, IfOk};
 ghost use Rattle.std.specs.List.{count_by};
 ghost use Rattle.line_engine.specs.Lines.{is_lf};
 ghost use Rattle.drive_plan.specs.Format.{MemoryAside, after_line, after_text, begun, gone_on, is_passed_over, plan_of, stopped, told};

@@ -1,11 +1,11 @@
 //! The market and its history.
-ghost use Rattle.std.specs.Prelude.{◌≡◌, ◌+◌, ◌<◌, ◌≤◌, ◌++◌, [], ◌∷◌, Some, length, slice_get, vec_capacity, IfOk, OnOk, OnErr, IfErr, IsErrOf, IsOk, IfSome, IfNone, OnSome, IsSome};
+ghost use Rattle.std.specs.Prelude.{◌≡◌, ◌+◌, ◌<◌, ◌≤◌, ◌++◌, [], ◌∷◌, Some, length, slice_get, vec_capacity, IfOk, OnErr, IfErr, IsErrOf, IsOk, IfSome, IfNone, OnSome, IsSome};
 ghost use Rattle.std.specs.List.{All};
 ghost use Rattle.market_types.specs.Reading.{Fits};
 ghost use Rattle.market_types.specs.Step.{step, place_of};
 ghost use Rattle.market_types.specs.History.{IsLegal};
 ghost use Rattle.market_types.specs.Opening.{MemoryAside};
-ghost use Rattle.edit_history.specs.Chronicled.{entry, market_of, opened_by, opened_chronicle, opened_in_parts, opened_unrecorded, most_forgotten, HasNumbersOf, IsCallOf, IsOpening};
+ghost use Rattle.edit_history.specs.Chronicled.{entry, market_of, opened_by, opened_chronicle, most_forgotten, HasNumbersOf, IsCallOf, IsOpening};
 ghost use Rattle.edit_history.specs.Parts.{EndsWith};
 ghost use Rattle.edit_history.specs.Places.{placed, takes, taken, LacksPlaces};
 ghost use Rattle.edit_history.specs.declared.fault.CallFault.TheVariants.{HistoryFull, Memory};
@@ -109,52 +109,6 @@ impl Chronicle {
             levels,
             last: LastNumber::USUAL,
             keeping: Keeping::Everything,
-        };
-        Chronicle::on_terms(alloc, terms)
-    }
-
-    /// The same for a history whose entries are to be kept until they are cut out: whoever calls has it `cut` in time.
-    pub fn new_in_parts(
-        alloc: Global,
-        base: u32,
-        hard: u32,
-        seats: u8,
-        places: u32,
-        levels: u32,
-    ) -> Result<Self, OpenFault>
-        ensures exact { MemoryAside (opened_in_parts base hard seats places levels) result }
-    {
-        let terms = Terms {
-            base,
-            hard,
-            seats,
-            places,
-            levels,
-            last: LastNumber::USUAL,
-            keeping: Keeping::InParts,
-        };
-        Chronicle::on_terms(alloc, terms)
-    }
-
-    /// The same for a history whose entries are not to be kept: whoever calls has it `forget` them after each call. It has the
-    /// places that its calls need at a time, which are two more than its seats.
-    pub fn new_unrecorded(
-        alloc: Global,
-        base: u32,
-        hard: u32,
-        seats: u8,
-        levels: u32,
-    ) -> Result<Self, OpenFault>
-        ensures exact { MemoryAside (opened_unrecorded base hard seats levels) result }
-    {
-        let terms = Terms {
-            base,
-            hard,
-            seats,
-            places: u32::from(seats) + 2,
-            levels,
-            last: LastNumber::USUAL,
-            keeping: Keeping::Nothing,
         };
         Chronicle::on_terms(alloc, terms)
     }

@@ -27,6 +27,3 @@ pub use law::{
 };
 pub use part::Part;
 pub use terms::Terms;
-
-#[cfg(test)]
-mod tests;

@@ -4,7 +4,7 @@ use Rattle.std.specs.Fmt.{digits}
 use Rattle.market_types.specs.declared.command.Cmd.{Cmd}
 use Rattle.market_types.specs.declared.command.Cmd.TheVariants.{Open, Request, Control as ControlBy}
 use Rattle.market_types.specs.declared.command.Call.{Call}
-use Rattle.market_types.specs.State.{State, opening}
+use Rattle.market_types.specs.State.{opening}
 use Rattle.market_types.specs.History.{state_after}
 use Rattle.explainer.specs.Explanation.{explanation_text}
 

@@ -1,5 +1,5 @@
 //! Labels with texts in columns.
-ghost use Rattle.std.specs.Prelude.{◌≡◌, ◌++◌, ◌≤◌, OnOk, decimal, codes};
+ghost use Rattle.std.specs.Prelude.{◌≡◌, ◌++◌, OnOk, decimal};
 ghost use Rattle.explainer.specs.Columns.{left_in, number_text, right_in, spaces};
 
 use itoa::Buffer;

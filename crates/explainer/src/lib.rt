@@ -9,6 +9,3 @@ mod explanation;
 mod line;
 
 pub use explanation::explain;
-
-#[cfg(test)]
-mod tests;

@@ -1,5 +1,5 @@
 //! The lines of an explanation, each with its LF.
-ghost use Rattle.std.specs.Prelude.{◌≡◌, ◌++◌, OnOk, codes, decimal};
+ghost use Rattle.std.specs.Prelude.{◌≡◌, ◌++◌, OnOk, codes};
 ghost use Rattle.market_types.specs.Texts.{yes_no};
 ghost use Rattle.explainer.specs.Columns.{arena_line, level_line, market_line, seats_columns, share_columns};
 

@@ -1,4 +1,4 @@
-//! The passes of a new queue are made.
+//! The passes of a new queue are made. A number of which contracts alone speak is named in a body by `let _`.
 ghost use Rattle.std.specs.Prelude.{◌≡◌, ◌<◌, ◌≤◌, ◌+◌, ◌^◌, [], map, vec_len, vec_capacity};
 ghost use Rattle.std.specs.List.{range_with_len};
 ghost use Rattle.crossbeam_queue.specs.Passes.{view, IsPassOf};

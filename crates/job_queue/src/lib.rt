@@ -20,6 +20,3 @@ mod view;
 pub use pass::{Feeder, Taker};
 pub use queue::JobQueue;
 pub use view::Fed;
-
-#[cfg(test)]
-mod tests;

@@ -23,6 +23,3 @@ pub use law::{
     legal_journals_tell_legal_histories, written_lines_are_short,
 };
 pub use verdict::{DueReply, Verdict};
-
-#[cfg(test)]
-mod tests;

@@ -4,13 +4,10 @@
 //! at the front. A row that is taken out is a [`Taken`], which can be put back, here or in another level's list, without
 //! memory. Only `push` takes memory.
 //!
-//! Each call but `new`, `len` and `demand` says how many nodes of the tree it entered, as `Tree` counts them.
+//! Each call but `new`, `len`, `demand` and `whole` says how many nodes of the tree it entered, as `Tree` counts them.
 #![tactic(auto)]
 
 mod list;
 
 pub use list::LevelList;
 pub use prefix_tree::{Parts, Stretch, Taken};
-
-#[cfg(test)]
-mod tests;

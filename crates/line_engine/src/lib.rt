@@ -22,6 +22,3 @@ pub use form::LineForm;
 pub use law::silence;
 pub use taker::{LONGEST_INPUT, LineTaker};
 pub use text::{Nowhere, take_text};
-
-#[cfg(test)]
-mod tests;

@@ -1,5 +1,5 @@
 //! An input's lines, out of its pieces.
-ghost use Rattle.std.specs.Prelude.{◌≡◌, ℕ, ◌+◌, ◌<◌, ◌≤◌, ◌^◌, List, [], ◌∷◌, ◌++◌, length, take, vec_len, OnOk, OnErr, IfOk, IfErr, IfSome, IfNone, true, false};
+ghost use Rattle.std.specs.Prelude.{◌≡◌, ◌+◌, ◌<◌, ◌≤◌, ◌^◌, [], ◌∷◌, ◌++◌, length, take, vec_len, OnOk, OnErr, IfErr, IfSome, IfNone, true, false};
 ghost use Rattle.std.specs.Io.KnownBytes.{Appends};
 ghost use Rattle.byte_devices.specs.Devices.{WritesFront};
 ghost use Rattle.line_engine.specs.Lines.{NoLf, handed, whole_lines, last_line};

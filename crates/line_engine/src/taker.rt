@@ -1,5 +1,5 @@
 //! What takes the lines of an input.
-ghost use Rattle.std.specs.Prelude.{◌≡◌, ℕ, ◌+◌, ◌<◌, ◌≤◌, ◌^◌, List, ◌++◌, length, OnOk, IfErr};
+ghost use Rattle.std.specs.Prelude.{◌≡◌, ℕ, ◌+◌, ◌<◌, ◌≤◌, ◌^◌, ◌++◌, length, OnOk, IfErr};
 ghost use Rattle.line_engine.specs.Lines.{Line, NoLf};
 ghost use Rattle.line_engine.specs.Rule.{LineRule};
 

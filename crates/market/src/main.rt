@@ -16,6 +16,7 @@ use market_prog::{
     status_of_replay, status_of_run,
 };
 use std::fmt::Display;
+use std::io::IsTerminal;
 use std::process::ExitCode;
 use std::sync::Wait;
 use std::thread::Threads;
@@ -65,6 +66,11 @@ fn replay(rt: &HostRuntime) -> u8 {
     finish(rt, outcome, status)
 }
 
+/// Whether progress is told: where standard error is a terminal, and where it is asked for.
+fn tells_progress(rt: &HostRuntime, options: DriveOptions) -> bool {
+    options.progress || rt.stderr().is_terminal()
+}
+
 /// Drives the plan on standard input, with workers in threads of this handle.
 fn drive_plan<T: Threads + Wait + Sync>(
     rt: &HostRuntime,
@@ -76,7 +82,7 @@ fn drive_plan<T: Threads + Wait + Sync>(
     let workers = options.workers as usize;
     let mut input = ReadSource::new(rt.stdin());
     let mut output = WriteSink::new(rt.stdout());
-    if options.progress {
+    if tells_progress(rt, options) {
         // Without a clock nothing is told.
         if let Ok(gate) = ProgressGate::new(rt) {
             return run_drive_through(threads, rt.alloc(), workers, &gate, &mut input, &mut output);

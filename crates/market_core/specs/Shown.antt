@@ -1,3 +1,4 @@
+-- How a market's fields are seen as its state, and its invariant. No public clause has these words.
 use Rattle.std.specs.Prelude.{◌≡◌, Bool, true, false, None}
 use Rattle.market_types.specs.State.{State}
 use Rattle.market_types.specs.Allotment.{need}

@@ -1,3 +1,4 @@
+-- What holds of every market's numbers. The market's invariant keeps it, and no public clause has these words.
 use Rattle.std.specs.Prelude.{◌≤◌, ◌<◌, length}
 use Rattle.std.specs.List.{All}
 use Rattle.market_types.specs.State.{Arena, State}

@@ -14,6 +14,3 @@ mod opening;
 pub use calls::apply_all;
 pub use law::{a_call_moves_its_own_seat, placed_worker_is_allotted};
 pub use market::Market;
-
-#[cfg(test)]
-mod tests;

@@ -32,7 +32,7 @@ pub struct Market {
     next_arena: u32,
     next_stamp: u32,
     /// No arena needed a worker when a Join last looked, and nothing has changed since.
-    pub(crate) nobody_needed: bool,
+    nobody_needed: bool,
 }
 
 impl Model for Market {

@@ -15,7 +15,7 @@ abbrev pub workers_at : Option ℕ → ℕ
 workers_at None = 0
 workers_at (Some arena) = 1
 
--- how many workers a caller has after a reply, if it had so many (own)
+-- how many workers a caller has after a reply, if it had so many (own; no public clause has this word, nor the next)
 abbrev pub workers_after : ℕ → Reply → ℕ
 workers_after workers (Placed arena) = 1
 workers_after workers (Recalled arena) = 0

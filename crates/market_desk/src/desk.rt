@@ -150,6 +150,7 @@ fn facts_of(chronicle: &Chronicle)
     ensures unplaced { chronicle.now.log ≡ [] → placed (market_of chronicle.now) ≡ 0 }
 {
     own_entries_place_a_seat();
+    // What a chronicle's readers promise is true of it.
     let _ = chronicle.market();
     let _ = chronicle.len();
 }

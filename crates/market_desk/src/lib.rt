@@ -11,6 +11,3 @@
 mod desk;
 
 pub use desk::Desk;
-
-#[cfg(test)]
-mod tests;

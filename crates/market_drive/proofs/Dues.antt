@@ -1,5 +1,5 @@
 -- When a fault of driving a plan is due.
-use Rattle.std.proofs.Common.{◌≡◌, ◌⊎◌, inl, inr, ℕ, List, Result, Ok, Err, sym, subst}
+use Rattle.std.proofs.Common.{◌≡◌, inl, inr, ℕ, List, Result, Ok, Err, sym, subst}
 use Rattle.drive_plan.specs.Plans.{Planned}
 use Rattle.drive_plan.specs.Format.{MemoryAside}
 use Rattle.drive_plan.specs.declared.reader.PlanFault.{PlanFault}

@@ -1,5 +1,5 @@
 -- Lists that end with one element more; takers of the stations' queues.
-use Rattle.std.proofs.Common.{◌≡◌, ◌≢◌, ◌≤◌, ◌<◌, ℕ, ◌+◌, refl, ap, sym, ◌∙◌, subst, arith, List, [], ◌∷◌, ◌++◌, length, map, All}
+use Rattle.std.proofs.Common.{◌≡◌, ◌≤◌, ◌<◌, ◌+◌, refl, ap, sym, ◌∙◌, subst, arith, List, [], ◌∷◌, ◌++◌, length, map, All}
 use Rattle.std.specs.List.{AllZip}
 use Rattle.job_queue.specs.Seen.{QueueId, OfTaker}
 use Rattle.drive_plan.specs.declared.task.Job.{Job}

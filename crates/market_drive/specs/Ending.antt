@@ -8,7 +8,7 @@ use Rattle.edit_history.specs.declared.fault.CallFault.TheVariants as fault
 use Rattle.worker_main.specs.declared.report.Ended.{Ended}
 use Rattle.worker_main.specs.declared.report.Ended.TheVariants as ended
 use Rattle.market_drive.specs.declared.fault.DriveFault.{DriveFault}
-use Rattle.market_drive.specs.declared.fault.DriveFault.TheVariants.{BadPlan, Unservable, Unfinished, Doubled, Missing, Memory}
+use Rattle.market_drive.specs.declared.fault.DriveFault.TheVariants.{Unfinished, Doubled, Missing, Memory}
 
 -- for want of memory: its own, or that of a call
 abbrev pub is_for_memory : Ended → Bool

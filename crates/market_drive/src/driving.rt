@@ -1,10 +1,7 @@
 //! A plan is driven.
 ghost use Rattle.std.specs.Prelude.{◌≡◌, ◌<◌, ◌≤◌, Ok, IfOk, IfErr};
-ghost use Rattle.std.specs.List.{All};
 ghost use Rattle.drive_plan.specs.Format.{plan_of};
 ghost use Rattle.drive_plan.specs.Outcome.{IsOutcome};
-ghost use Rattle.market_drive.specs.Racks.{IsFor};
-ghost use Rattle.market_drive.specs.Lines.{queues_at};
 ghost use Rattle.market_drive.specs.Driving.{IsDriven, IsDue, IsLate};
 
 use crate::fault::DriveFault;

@@ -21,6 +21,3 @@ mod worker;
 pub use driving::drive;
 pub use fault::DriveFault;
 pub use gathering::gather_done;
-
-#[cfg(test)]
-mod tests;

@@ -1,7 +1,7 @@
 //! The queues of a plan.
 ghost use Rattle.std.specs.Prelude.{◌≡◌, ◌+◌, ◌<◌, ◌≤◌, ◌++◌, ◌∷◌, [], length, IfOk, AllPairs};
 ghost use Rattle.std.specs.List.{All};
-ghost use Rattle.market_drive.specs.Racks.{AreAway, IsFor, IsRoomy};
+ghost use Rattle.market_drive.specs.Racks.{AreAway, IsFor};
 ghost use Rattle.market_drive.specs.Lines.{queues_at};
 ghost use Rattle.worker_main.specs.Stations.{HaveOwnArenas};
 
@@ -24,7 +24,7 @@ pub(crate) struct Lines {
 }
 
 impl Model for Lines {
-    ghost use Rattle.std.specs.Prelude.{◌≡◌, ◌≤◌, vec_len, vec_capacity};
+    ghost use Rattle.std.specs.Prelude.{◌≡◌, ◌≤◌, vec_capacity};
     ghost use Rattle.market_drive.specs.Lines.{OfLines, AreLines};
 
     ghost Value = { OfLines };

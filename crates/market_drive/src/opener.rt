@@ -1,7 +1,4 @@
 //! Who opens a plan's market.
-ghost use Rattle.std.specs.Prelude.{◌≡◌};
-ghost use Rattle.market_lock.specs.Seen.{IsSamePass};
-ghost use Rattle.office_crew.specs.Callers.{who_is};
 
 use edit_history::CallFault;
 use market_lock::{Office, Pass, Placed};

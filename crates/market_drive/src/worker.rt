@@ -1,7 +1,6 @@
 //! A worker of a plan, in a place that a thread can borrow.
 ghost use Rattle.std.specs.Prelude.{◌≡◌, AllPairs};
 ghost use Rattle.market_lock.specs.Seen.{IsSamePass};
-ghost use Rattle.office_crew.specs.Callers.{who_is};
 ghost use Rattle.market_drive.specs.Racks.{IsFor};
 ghost use Rattle.market_drive.specs.Lines.{queues_at};
 ghost use Rattle.worker_main.specs.Stations.{HaveOwnArenas};

@@ -1,4 +1,4 @@
--- The rule of the lock (own). Word 0 is 0 while the desk is at home, and 1 while one seat has it.
+-- The rule of the lock (own). Word 0 is 0 while the desk is at home, and 1 while one seat has it. No public clause has these words.
 use Rattle.std.specs.Prelude.{◌≡◌, ◌≢◌, ℕ, ◌+◌, ◌<◌, ◌≤◌, List, [], ◌∷◌, length, slice_index}
 use mathlib.Core.Option.{Option, none, some}
 use mathlib.Core.List.{IsPrefix}

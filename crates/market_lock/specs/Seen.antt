@@ -78,7 +78,7 @@ pass_of t k = record { table = t; terms = k.terms; seat = k.seat; seen = k.seen;
 abbrev pub office_of : TableId → Terms → OfOffice
 office_of t terms = record { table = t; terms = terms }
 
--- what a caller's ticket keeps: its entries are all that its legal history has of its seat, its share has counted them, and counts a worker where they leave the
+-- what a caller's ticket keeps (no public clause has this word): its entries are all that its legal history has of its seat, its share has counted them, and counts a worker where they leave the
 -- seat placed
 pub record IsTicket (k : Known) (number : ℕ) (share : Counted) : Type 0 where
   pub number_is : k.seat ≡ number

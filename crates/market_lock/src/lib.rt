@@ -26,6 +26,3 @@ mod view;
 
 pub use office::{Closed, Office};
 pub use pass::{Joined, Pass, Placed, Stayed};
-
-#[cfg(test)]
-mod tests;

@@ -1,5 +1,5 @@
 //! An office's table is made, and its passes are dealt.
-ghost use Rattle.std.specs.Prelude.{◌≡◌, ◌+◌, ◌<◌, [], ◌∷◌, IfOk, vec_len};
+ghost use Rattle.std.specs.Prelude.{◌≡◌, ◌+◌, ◌<◌, [], IfOk, vec_len};
 ghost use Rattle.std.specs.List.{All};
 ghost use Rattle.worker_ledger.specs.Counted.{Counted, nothing};
 ghost use Rattle.market_lock.specs.declared.view.View.TheVariants.{Opener};

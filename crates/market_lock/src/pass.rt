@@ -1,5 +1,5 @@
 //! A caller's pass, and a worker that is placed.
-ghost use Rattle.std.specs.Prelude.{◌≡◌, Some, None};
+ghost use Rattle.std.specs.Prelude.{◌≡◌, Some, None, length};
 ghost use Rattle.market_types.specs.History.{IsLegal, place_in};
 ghost use Rattle.market_lock.specs.Views.{opening_of};
 
@@ -54,6 +54,13 @@ impl<C: Ledger, W: Ledger> Pass<C, W> {
     {
         self.ticket.number()
     }
+
+    /// How many of its calls were answered: its share of what the office counts. It takes no memory and doesn't wait.
+    pub fn calls(&self) -> u64
+        ensures exact { result ≡ length self.now.mine }
+    {
+        self.ticket.calls()
+    }
 }
 
 impl<C: Ledger, W: Ledger> Placed<C, W> {
@@ -65,11 +72,19 @@ impl<C: Ledger, W: Ledger> Placed<C, W> {
         self.ticket.number()
     }
 
+    /// How many of its calls were answered: its share of what the office counts. It takes no memory and doesn't wait.
+    pub fn calls(&self) -> u64
+        ensures exact { result ≡ length self.now.who.mine }
+    {
+        self.ticket.calls()
+    }
+
     /// Its arena, at which the history that it saw places it.
     pub fn arena(&self) -> ArenaId
         ensures exact { result ≡ self.now.arena }
         ensures placed { place_in self.now.who.seat self.now.who.seen ≡ Some self.now.arena }
     {
+        // That its own entries place it here is what its ticket promises.
         let _ = self.ticket.number();
         self.arena
     }

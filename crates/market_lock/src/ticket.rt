@@ -1,7 +1,7 @@
 //! What a pass and a placed worker have in common, and one call of it.
-ghost use Rattle.std.specs.Prelude.{◌≡◌, ◌+◌, ◌<◌, ◌≤◌, length, false, vec_capacity, IfOk, IfErr, IsOk, OnErr, IfSome, OnSome, IsSome};
+ghost use Rattle.std.specs.Prelude.{◌≡◌, ◌<◌, ◌≤◌, length, false, vec_capacity, IfOk, IfErr, IsOk, IfSome, OnSome, IsSome};
 ghost use Rattle.market_types.specs.Commands.{moves_seat};
-ghost use Rattle.market_types.specs.History.{IsLegal, of_seat, place_after, place_in};
+ghost use Rattle.market_types.specs.History.{IsLegal, of_seat, place_after};
 ghost use Rattle.market_core.specs.Moves.{Answers};
 ghost use Rattle.edit_history.specs.Chronicled.{most_forgotten};
 ghost use Rattle.edit_history.specs.Parts.{EndsWith};
@@ -187,5 +187,12 @@ impl<C: Ledger, W: Ledger> Ticket<C, W> {
         ensures legal { IsLegal (opening_of self.now.terms) self.now.seen }
     {
         self.number
+    }
+
+    /// How many calls its share has counted.
+    pub fn calls(&self) -> u64
+        ensures exact { result ≡ length self.now.mine }
+    {
+        self.share.calls()
     }
 }

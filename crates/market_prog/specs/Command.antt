@@ -1,4 +1,4 @@
--- What a command of clap's is, to the reading of words.
+-- What a command of clap's is, to the reading of words. No public clause has these words.
 use Rattle.std.specs.Prelude.{◌≡◌, false}
 use Rattle.clap.specs.Words.{App, app_of}
 use Rattle.clap.specs.declared.builder.command.Command.{Command}

@@ -1,4 +1,4 @@
--- Why a run stops, where a market was not opened, or its lines were not taken.
+-- Why a run stops, where a market was not opened, or its lines were not taken. No public clause has these words.
 use Rattle.std.specs.Prelude.{◌≡◌}
 use Rattle.market_types.specs.declared.reply.OpenFault.{OpenFault}
 use Rattle.market_types.specs.declared.reply.OpenFault.TheVariants.{BadBase, BadHard, BadSeats, BadPlaces, BadLevels, Memory as NoMemory}

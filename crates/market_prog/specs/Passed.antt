@@ -1,4 +1,4 @@
--- What holds of matches that clap has passed.
+-- What holds of matches that clap has passed. No public clause has these words.
 use Rattle.std.specs.Prelude.{◌≡◌, ◌⊎◌, ℕ, List, Some, codes, pos}
 use Rattle.clap.specs.Words.{IsSignedIn, Row, Text, first_of}
 

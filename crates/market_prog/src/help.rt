@@ -83,7 +83,7 @@ Example:
   value 8 limit 7 effective 7 demand 3 workers 3
   level high   demand        0 assigned     0 left     3
   level normal demand        3 assigned     3 left     0
-  arena       1 request     3 carry        0 product          9 allot     3 rest        0 top yes active     0 recall     0 hire     3
+  arena       1 request     3 carry        0 product          9 allot     3 rest        0 top yes ..
   level low    demand        0 assigned     0 left     0
 
 Exit status:
@@ -103,7 +103,7 @@ ended, standard output gets one line: that it is legal, or its first fault. The 
   J1 bad header                   line 1 is missing or no header
   J2 bad json line N              line N is not JSON, has more than 65,536 bytes or no line end
   J3 bad record line N            line N is JSON, but no command with its seat and its reply, or
-                                  1,048,576 commands are before it
+                                  1,048,576 commands are before it in a journal of version 1 or 2
   J4 wrong reply line N due TEXT  the reply in line N is not TEXT, which is due there
 
 Example:
@@ -120,8 +120,8 @@ Exit status:
 pub(crate) const OF_DRIVE: &str = "\
 Standard input holds a plan: a market, its arenas and controls, and jobs for the arenas. Workers run
 the jobs, each in a thread of its own; the market says which arena each of them works for. When all
-jobs are done, standard output gets a line `job N VALUE` for each, in order; it is the same for every
-number of workers. The lines of a plan:
+jobs are done, standard output gets a line `job N VALUE` for each, in order; it is the same for
+every number of workers. The lines of a plan:
 
   market BASE HARD [LEVELS]                    first; LEVELS is 3 unless it is given
   arena SLOTS RESERVED LEVEL WANTED MANDATORY  1 to 64 of these, numbered from 1

@@ -6,10 +6,8 @@ ghost use Rattle.market_prog.specs.Drive.{StopsReading};
 
 use crate::fault::RunFault;
 use byte_devices::Source;
+use line_engine::LONGEST_INPUT;
 use std::alloc::{AllocError, Global};
-
-/// The most bytes that an input may have.
-const LONGEST_INPUT: usize = 268_435_456;
 
 /// The most bytes that one read gives.
 const PIECE: usize = 65_536;
@@ -45,7 +43,7 @@ fn read_piece<R: Source>(
     let Ok(count) = source.read(buffer) else {
         return Err(RunFault::Read);
     };
-    if count > LONGEST_INPUT - input.len() {
+    if count as u64 > LONGEST_INPUT - input.len() as u64 {
         return Err(RunFault::TooLong);
     }
     let Ok(()) = input.extend_from_slice(&buffer[..count]) else {

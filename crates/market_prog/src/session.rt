@@ -1,5 +1,5 @@
 //! A market that a script speaks to.
-ghost use Rattle.std.specs.Prelude.{◌≡◌, ℕ, ◌+◌, ◌<◌, ◌≤◌, ◌^◌, ◌++◌, length, None, if◌then◌else◌, IfOk, IfSome, OnOk};
+ghost use Rattle.std.specs.Prelude.{◌≡◌, ℕ, ◌+◌, ◌<◌, ◌^◌, ◌++◌, length, None, if◌then◌else◌, IfOk, IfSome, OnOk};
 ghost use Rattle.market_types.specs.Reading.{line_reading};
 ghost use Rattle.market_types.specs.Script.{answer_to, is_silent};
 ghost use Rattle.market_prog.specs.Sessions.{answer_line, is_too_long};

@@ -1,5 +1,5 @@
 //! The words of the command line.
-ghost use Rattle.std.specs.Prelude.{◌≡◌, ◌≤◌, ◌<◌, ◌^◌, IfOk, codes, false, map};
+ghost use Rattle.std.specs.Prelude.{◌≡◌, ◌≤◌, ◌<◌, IfOk, codes, false, map};
 ghost use Rattle.clap.specs.Words.{FailsBy, app_of, fault_of, found_of, rows_of, rule_of};
 ghost use Rattle.market_prog.specs.Words.{Chooses, IsChoiceOf, IsDriveOf, IsNumberOf, IsMarketOf, asks, drive_app, flag_rule, market_app, number_rule, replay_app, run_app, script_app};
 ghost use Rattle.market_prog.specs.Command.{IsCommandOf};
@@ -41,7 +41,7 @@ pub enum ScriptTask {
 pub struct DriveOptions {
     /// How many workers run its jobs, 1 to 16.
     pub workers: u32,
-    /// `--progress`: how many jobs are done is told while they run.
+    /// `--progress`: how many jobs are done is told while they run, also where standard error is no terminal.
     pub progress: bool,
 }
 
@@ -194,7 +194,7 @@ fn drive_command<'a>(alloc: Global) -> Result<Command<'a>, AllocError>
         .arg(flag_arg(
             alloc,
             "progress",
-            "Tells on standard error, a few times a second, how many jobs are done",
+            "Tells on standard error how many jobs are done, also where that is no terminal",
         ))
 }
 
@@ -297,6 +297,3 @@ pub fn read_words<'a>(alloc: Global, words: &'a [&'a str]) -> Result<Choice, Err
     };
     Ok(choice_of(name, found))
 }
-
-#[cfg(test)]
-mod tests;

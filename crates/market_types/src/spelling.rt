@@ -1,5 +1,5 @@
 //! Laws of reading: a value is read exactly from what spells it.
-ghost use Rattle.std.specs.Prelude.{◌≡◌, ◌<◌, Contains, List, Some, true, ℕ};
+ghost use Rattle.std.specs.Prelude.{◌≡◌, ◌<◌, Contains, List, Some, ℕ};
 ghost use Rattle.market_types.specs.Reading.{Fits, line_reading, line_spellings, reading, spellings};
 ghost use Rattle.market_types.specs.Texts.{cmd_text};
 

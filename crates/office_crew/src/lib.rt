@@ -16,8 +16,3 @@ pub use asking::{Asked, ask};
 pub use caller::{Caller, Task};
 pub use meeting::{Meeting, Terms, Unmet, meet};
 pub use script::Script;
-
-#[cfg(test)]
-mod endless_tests;
-#[cfg(test)]
-mod tests;

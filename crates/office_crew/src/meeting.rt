@@ -6,7 +6,7 @@ ghost use Rattle.market_lock.specs.Seen.{OfPass, OfPlaced};
 ghost use Rattle.market_lock.specs.Views.{opening_of, chronicle_cut};
 ghost use Rattle.edit_history.specs.Chronicled.{market_of, opened_by};
 ghost use Rattle.edit_history.specs.Places.{placed as seats_placed};
-ghost use Rattle.office_crew.specs.Callers.{who_is, terms_of};
+ghost use Rattle.office_crew.specs.Callers.{terms_of};
 
 use crate::caller::{Caller, Task};
 use crate::member::{Member, Order, Room, work_all};

@@ -1,5 +1,5 @@
 //! The words of the command line.
-ghost use Rattle.std.specs.Prelude.{◌≤◌, IfOk};
+ghost use Rattle.std.specs.Prelude.{IfOk};
 ghost use Rattle.office_demo.specs.Choices.{IsPossible};
 
 use crate::fault::DemoFault;

@@ -23,7 +23,7 @@ use std::thread::Threads;
 use std::time::Duration;
 
 /// The greatest last number: arenas are opened as long as anybody waits.
-const LAST: u32 = 4_294_967_294;
+const GREATEST_LAST: u32 = 4_294_967_294;
 
 /// What becomes of the entries.
 #[derive(Clone, Copy, Debug, PartialEq, Eq)]
@@ -75,7 +75,7 @@ const PLACES: u32 = 65_536;
 
 /// The last number of an arena, a stamp and a control.
 fn last_number() -> LastNumber {
-    LastNumber::new(LAST).unwrap_or(LastNumber::USUAL)
+    LastNumber::new(GREATEST_LAST).unwrap_or(LastNumber::USUAL)
 }
 
 /// What is left when the time is over.

@@ -1,14 +1,16 @@
 //! How long it takes.
 use std::io;
 use std::rt::Clock;
+use std::sync::atomic::{AtomicBool, Ordering};
 use std::time::{Duration, Instant};
 
-/// A clock that runs for so long. Where it cannot be read, all of its time has gone by.
+/// A clock that runs for so long, or until somebody stops it. Where it cannot be read, all of its time has gone by.
 #[derive(Drop)]
 pub struct Watch<'a, H> {
     clock: &'a H,
     start: Instant,
     length: Duration,
+    stopped: AtomicBool,
 }
 
 impl<'a, H: Clock> Watch<'a, H> {
@@ -18,6 +20,7 @@ impl<'a, H: Clock> Watch<'a, H> {
             clock,
             start: Instant::now(clock)?,
             length,
+            stopped: AtomicBool::new(false),
         })
     }
 
@@ -31,8 +34,13 @@ impl<'a, H: Clock> Watch<'a, H> {
         self.elapsed() >= self.length / 4
     }
 
-    /// Whether all of the time has gone by.
+    /// Whether all of the time has gone by, or somebody has stopped the clock.
     pub fn is_over(&self) -> bool {
-        self.elapsed() >= self.length
+        self.stopped.load(Ordering::SeqCst) || self.elapsed() >= self.length
+    }
+
+    /// Nobody who looks goes on.
+    pub fn stop(&self) {
+        self.stopped.store(true, Ordering::SeqCst);
     }
 }

@@ -1,7 +1,6 @@
 //! A caller that writes down what others do, while they do it.
-ghost use Rattle.std.specs.Prelude.{◌≡◌, IfOk};
+ghost use Rattle.std.specs.Prelude.{◌≡◌};
 ghost use Rattle.market_lock.specs.Seen.{IsSamePass};
-ghost use Rattle.office_crew.specs.Callers.{who_is};
 
 use crate::note::LEVELS;
 use crate::watch::Watch;
@@ -120,6 +119,8 @@ impl Task for Writer<'_> {
         let mut scribe = Scribe::new(pass);
         if let Err(stop) = self.write_parts(rt, alloc, office, &mut scribe) {
             self.stop = stop;
+            // The office fills up now: nobody has anything to call for.
+            self.watch.stop();
         }
         Caller::Free(scribe.into_pass())
     }

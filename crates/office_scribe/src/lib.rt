@@ -10,6 +10,3 @@ mod scribe;
 
 pub use missed::Missed;
 pub use scribe::Scribe;
-
-#[cfg(test)]
-mod tests;

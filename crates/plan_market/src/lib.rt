@@ -9,6 +9,3 @@ mod servable;
 
 pub use commands::plan_commands;
 pub use servable::unservable;
-
-#[cfg(test)]
-mod tests;

@@ -1,4 +1,5 @@
--- What a side of a node is seen as, its rows and its height, and what holds of a node.
+-- What a side of a node is seen as, its rows and its height, and what holds of a node. These words serve the tree's invariant and
+-- the contracts of its parts, and public clauses have none of them.
 use Rattle.std.specs.Prelude.{◌≡◌, ℕ, zero, suc, ◌+◌, ◌<◌, ◌≤◌, ◌^◌, max, Bool, if◌then◌else◌, count_by, List, [], ◌∷◌, ◌++◌, length, Option, Some, None, Box}
 use Rattle.std.specs.declared.alloc.Global.{Global}
 use Rattle.market_types.specs.declared.row.Row.{Row}

@@ -22,7 +22,7 @@
 //! leaves to its left, 0: two sums, read on a path of three nodes. The heights of a node's two sides differ by one at
 //! most, so no path is longer than twice the binary digits of the number of rows.
 //!
-//! Each call but `new`, `len` and `total` says how many nodes of its search path it entered, the new or replaced node
+//! Each call but `new`, `len`, `total` and `whole` says how many nodes of its search path it entered, the new or replaced node
 //! included; nodes that only a rotation touches are not counted. Proved of this number are its bounds: no more than twice
 //! the digits, and one at least where there are rows. That it is exact is seen by reading: a search path goes from a side
 //! to its node by `Side::enter`, which counts it, or where it changes the side by `Side::take_apart`, `set` or `update`,
@@ -42,6 +42,3 @@ mod tree;
 pub use stretch::{Parts, Stretch};
 pub use taken::Taken;
 pub use tree::Tree;
-
-#[cfg(test)]
-mod tests;

@@ -8,6 +8,3 @@ mod ends;
 mod exchanging;
 
 pub use exchanging::{Exchanged, exchange};
-
-#[cfg(test)]
-mod tests;

@@ -1,4 +1,4 @@
--- How many seats are placed at each arena.
+-- How many seats are placed at each arena. These words serve the roster's parts, and no public clause has them.
 use Rattle.std.specs.Prelude.{◌≡◌, ℕ, ◌≤◌, Bool, ◌==◌, if◌then◌else◌, List, map, length, Option, is_some, slice_get, All}
 use Rattle.std.specs.List.{sum_by, count_by}
 use Rattle.market_types.specs.Allotment.{is_just}

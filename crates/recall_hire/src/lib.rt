@@ -17,6 +17,3 @@ pub use roster::Roster;
 pub use rows::{Staffing, hire, recall};
 pub use sharing::Sharing;
 pub use walk::first_in_need;
-
-#[cfg(test)]
-mod tests;

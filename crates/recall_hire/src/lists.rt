@@ -150,7 +150,7 @@ impl Listing<'_> {
         let arena = row.arena;
         let active = self.roster.active(arena);
         *unmet -= active;
-        let (allotted, after) = self.allot(row, active, carry);
+        let (allotted, after) = self.allotment(row, active, carry);
         let staffing = Staffing {
             arena,
             allotted,
@@ -163,7 +163,7 @@ impl Listing<'_> {
     /// How many workers an arena is allotted, and the carry past it. It divides only in a level that gets fewer than it asks
     /// for.
     #[inline(always)]
-    fn allot(&self, row: &Row, active: u32, carry: u64) -> (u32, u64)
+    fn allotment(&self, row: &Row, active: u32, carry: u64) -> (u32, u64)
         requires shared { CanShareAll self.now.sharing carry row.now.request }
         ensures share { result.0 ≡ row_share self.now.sharing carry row.now }
         ensures carry { result.1 ≡ row_carry self.now.sharing carry row.now }

@@ -1,6 +1,6 @@
 //! A walk through the arenas of a level that gets all that it asks for: each is allotted what it asks for, and nothing is
 //! carried.
-ghost use Rattle.std.specs.Prelude.{◌≡◌, ℕ, ◌+◌, ◌^◌, ◌<◌, length};
+ghost use Rattle.std.specs.Prelude.{ℕ, ◌+◌, ◌^◌, ◌<◌, length};
 ghost use Rattle.level_list.specs.Rows.{requests};
 ghost use Rattle.recall_hire.specs.Shared.{IsSearch};
 

@@ -51,7 +51,7 @@ impl SlotTable {
         ensures seats { result.seats ≡ seats_in (arena % 1024) self.now }
         ensures hint { result.hint ≡ hint_in (arena % 1024) self.now }
     {
-        self.slots[place_of(arena)]
+        self.slots[index_of(arena)]
     }
 
     /// One seat more at an arena.
@@ -59,7 +59,7 @@ impl SlotTable {
         requires room { seats_in (arena % 1024) self.old < 255 }
         ensures seats { (i : ℕ) → seats_in i self.new ≡ seats_in i self.old + one_if (arena % 1024 == i) }
     {
-        self.slots[place_of(arena)].seats += 1;
+        self.slots[index_of(arena)].seats += 1;
     }
 
     /// One seat less at an arena.
@@ -67,7 +67,7 @@ impl SlotTable {
         requires some { 0 < seats_in (arena % 1024) self.old }
         ensures seats { (i : ℕ) → seats_in i self.old ≡ seats_in i self.new + one_if (arena % 1024 == i) }
     {
-        self.slots[place_of(arena)].seats -= 1;
+        self.slots[index_of(arena)].seats -= 1;
     }
 
     /// Notes where an arena's crowd stands.
@@ -75,13 +75,13 @@ impl SlotTable {
         ensures seats { (i : ℕ) → seats_in i self.new ≡ seats_in i self.old }
         ensures noted { hint_in (arena % 1024) self.new ≡ hint }
     {
-        self.slots[place_of(arena)].hint = hint;
+        self.slots[index_of(arena)].hint = hint;
     }
 }
 
-/// The place of an arena's slot.
+/// The index of an arena's slot.
 #[inline(always)]
-fn place_of(arena: ArenaId) -> usize
+fn index_of(arena: ArenaId) -> usize
     ensures exact { result ≡ arena % 1024 }
     ensures below { result < 1024 }
 {

@@ -46,7 +46,7 @@ pub fn first_in_need(
         demand,
     };
     let mut carry = 0;
-    let found = walk.in_need(rows.again(), &mut carry, &mut visits);
+    let found = walk.first_needing(rows.again(), &mut carry, &mut visits);
     (found, visits)
 }
 
@@ -61,9 +61,9 @@ struct Walk<'a> {
 impl Walk<'_> {
     /// The first arena of a stretch that is allotted more workers than it has. Where there is none, the carry has gone past
     /// all of them. Enters a node only where an arena at or below it is allotted a worker.
-    #[cycle(in_need)]
+    #[cycle(first_needing)]
     #[inline(always)]
-    fn in_need(&self, rows: Stretch<'_>, carry: &mut u64, visits: &mut u32) -> Option<ArenaId>
+    fn first_needing(&self, rows: Stretch<'_>, carry: &mut u64, visits: &mut u32) -> Option<ArenaId>
         requires shared { CanShare self.now.workers self.now.demand carry.old }
         requires part { requests rows.0 ≤ self.now.demand }
         requires few { visits.old + length rows.0 < 2 ^ 31 }
@@ -76,7 +76,7 @@ impl Walk<'_> {
     }
 
     /// The same for a stretch where some arena is allotted a worker.
-    #[cycle(in_need)]
+    #[cycle(first_needing)]
     fn among(&self, rows: Stretch<'_>, carry: &mut u64, visits: &mut u32) -> Option<ArenaId>
         requires shared { CanShare self.now.workers self.now.demand carry.old }
         requires part { requests rows.0 ≤ self.now.demand }
@@ -87,7 +87,7 @@ impl Walk<'_> {
         let mut rest = rows;
         loop {
             let parts = rest.enter(visits)?;
-            if let Some(arena) = self.in_need(parts.newer, carry, visits) {
+            if let Some(arena) = self.first_needing(parts.newer, carry, visits) {
                 return Some(arena);
             }
             if self.lacks(parts.row, carry) {

@@ -1,5 +1,5 @@
 //! Calls through an office.
-ghost use Rattle.std.specs.Prelude.{◌≡◌, ◌≤◌, ◌<◌, vec_len, IfOk};
+ghost use Rattle.std.specs.Prelude.{◌≡◌, ◌<◌, vec_len, IfOk};
 
 use crate::crowd::Crowd;
 use crate::fault::BenchFault;

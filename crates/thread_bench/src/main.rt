@@ -1,8 +1,6 @@
 //! The program `thread_bench`: how long calls through an office, queues of jobs and plans of jobs take, by one thread and by more.
 #![tactic(auto)]
 
-ghost use Rattle.std.specs.Prelude.{◌≤◌};
-
 mod calls;
 mod choice;
 mod crowd;

@@ -1,6 +1,5 @@
 //! A push and a pop of a queue of jobs.
-ghost use Rattle.std.specs.Prelude.{◌≡◌, ◌∷◌, []};
-ghost use Rattle.job_queue.specs.Seen.{AreAllOf};
+ghost use Rattle.std.specs.Prelude.{◌≡◌, []};
 
 use crate::fault::BenchFault;
 use job_queue::{Feeder, JobQueue, Taker};

@@ -18,6 +18,8 @@ const MOST_SEATS: usize = 64;
 /// What a turn is.
 #[derive(Clone, Copy, Debug, PartialEq, Eq)]
 pub enum Turn {
+    /// The lock alone: the desk is taken, asked for entries that it does not cut out, and given back.
+    Lock,
     /// A Request, by one worker more and then by one less.
     Request,
     /// The same, and the entries are cut out after some 100,000 calls each time.
@@ -32,7 +34,8 @@ pub enum Turn {
 
 impl Turn {
     /// Every turn, as the table has them.
-    pub const ALL: [Turn; 5] = [
+    pub const ALL: [Turn; 6] = [
+        Turn::Lock,
         Turn::Request,
         Turn::RequestInParts,
         Turn::RequestUnrecorded,
@@ -43,6 +46,7 @@ impl Turn {
     /// What the table calls it.
     pub fn name(self) -> &'static str {
         match self {
+            Turn::Lock => "lock alone",
             Turn::Request => "request",
             Turn::RequestInParts => "request, in parts",
             Turn::RequestUnrecorded => "request, no record",
@@ -97,7 +101,7 @@ impl Repeater {
     {
         let arena = self.arena(index);
         match self.turn {
-            Turn::Show | Turn::Visit => Cmd::Show(arena),
+            Turn::Lock | Turn::Show | Turn::Visit => Cmd::Show(arena),
             _ if index % 2 == 0 => Cmd::Request(arena, 1, 0),
             _ => Cmd::Request(arena, -1, 0),
         }
@@ -209,6 +213,25 @@ impl Repeater {
         pass
     }
 
+    /// Takes all turns of the lock alone.
+    fn lock_all<C: Ledger, W: Ledger, R: Wait>(
+        &self,
+        rt: &R,
+        alloc: Global,
+        office: &Office<C, W>,
+        pass: Pass<C, W>,
+    ) -> Pass<C, W>
+        requires office { pass.table ≡ office.now.table }
+        ensures same { IsSamePass pass result }
+    {
+        let mut pass = pass;
+        let mut spare = Vec::new(alloc);
+        for _ in 0..self.times {
+            spare = cut_out(rt, alloc, office, &mut pass, spare);
+        }
+        pass
+    }
+
     /// Takes all turns that move a seat.
     fn visit_all<C: Ledger, W: Ledger, R: Wait>(
         &self,
@@ -228,6 +251,26 @@ impl Repeater {
     }
 }
 
+impl Repeater {
+    /// Takes all turns.
+    fn take_all<C: Ledger, W: Ledger, R: Wait>(
+        &self,
+        rt: &R,
+        alloc: Global,
+        office: &Office<C, W>,
+        pass: Pass<C, W>,
+    ) -> Pass<C, W>
+        requires office { pass.table ≡ office.now.table }
+        ensures same { IsSamePass pass result }
+    {
+        match self.turn {
+            Turn::Lock => self.lock_all(rt, alloc, office, pass),
+            Turn::Visit => self.visit_all(rt, alloc, office, pass),
+            _ => self.call_all(rt, alloc, office, pass),
+        }
+    }
+}
+
 impl Task for Repeater {
     fn work<C: Ledger, W: Ledger, R: Wait>(
         &mut self,
@@ -241,10 +284,7 @@ impl Task for Repeater {
             caller = self.open(rt, alloc, office, caller);
         }
         match caller {
-            Caller::Free(pass) if self.turn == Turn::Visit => {
-                Caller::Free(self.visit_all(rt, alloc, office, pass))
-            }
-            Caller::Free(pass) => Caller::Free(self.call_all(rt, alloc, office, pass)),
+            Caller::Free(pass) => Caller::Free(self.take_all(rt, alloc, office, pass)),
             Caller::Working(worker) => Caller::Working(worker),
         }
     }

@@ -12,7 +12,7 @@ use std::sync::Wait;
 use std::thread::Threads;
 
 /// The numbers of arenas, a column for each.
-const ARENAS: [u32; 4] = [1, 16, 256, 1_000];
+const ARENAS: [u32; 4] = [1, 16, 256, 1_024];
 
 /// What a cell has.
 #[derive(Clone, Copy, Debug, PartialEq, Eq)]

@@ -1,5 +1,5 @@
 //! The book and its shares.
-ghost use Rattle.std.specs.Prelude.{◌≡◌, ◌+◌, ◌<◌, IfOk, length, vec_len};
+ghost use Rattle.std.specs.Prelude.{◌≡◌, ◌+◌, ◌<◌, IfOk, vec_len};
 ghost use Rattle.std.specs.List.{All, sum_by};
 ghost use Rattle.worker_ledger.specs.Counted.{Counted, nothing, most_counted};
 

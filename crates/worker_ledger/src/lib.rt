@@ -15,6 +15,3 @@ mod tally;
 
 pub use book::{Book, Share, Totals};
 pub use pool::Pool;
-
-#[cfg(test)]
-mod tests;

@@ -19,6 +19,3 @@ pub use gate::{Gate, OpenGate};
 pub use report::{Ended, Report};
 pub use station::Station;
 pub use working::work;
-
-#[cfg(test)]
-mod tests;

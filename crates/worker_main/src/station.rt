@@ -1,5 +1,5 @@
 //! Where the jobs of an arena are.
-ghost use Rattle.std.specs.Prelude.{◌≡◌, ◌≢◌, IfSome, IfNone};
+ghost use Rattle.std.specs.Prelude.{IfSome, IfNone};
 ghost use Rattle.worker_main.specs.Stations.{IsStationAt, IsWithout};
 
 use drive_plan::Job;

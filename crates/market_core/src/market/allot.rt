@@ -1,5 +1,5 @@
 //! What the market allots.
-ghost use Rattle.std.specs.Prelude.{◌≡◌, ℕ, ◌+◌, ◌-◌, ◌*◌, ◌≤◌, ◌<◌, Some, None, IfSome, OnSome, length, slice_get, option_map, slice_index, slice_index_or, ◌==◌, if◌then◌else◌};
+ghost use Rattle.std.specs.Prelude.{◌≡◌, ℕ, ◌+◌, ◌-◌, ◌*◌, ◌≤◌, ◌<◌, Some, None, IfSome, OnSome, length, slice_get, option_map, slice_index, ◌==◌};
 ghost use Rattle.market_types.specs.Allotment.{allotment_of, active, assigned, at_level, demand, is_top, limit_of};
 ghost use Rattle.market_types.specs.Step.{arena_at, view_of};
 ghost use Rattle.allotment.specs.Levels.{AreDemandsOf, ArePicksOf, IsLeveled, pick_of};

@@ -1,4 +1,4 @@
-use Rattle.std.proofs.Common.{◌≡◌, ◌∙◌, sym, subst, List}
+use Rattle.std.proofs.Common.{◌∙◌, sym, subst, List}
 use Rattle.drive_plan.specs.Gathering.{IsGatherFault}
 use Rattle.drive_plan.specs.Outcome.{IsDoubled, IsMissing, IsOutcome}
 use Rattle.drive_plan.specs.declared.task.PlannedJob.{PlannedJob}

@@ -1,5 +1,5 @@
-use Rattle.std.proofs.Common.{◌≡◌, ◌<◌, ◌≤◌, length, All}
-use Rattle.market_drive.specs.Racks.{AreAway, IsFor, IsRoomy, OfRack}
+use Rattle.std.proofs.Common.{◌≡◌, length, All}
+use Rattle.market_drive.specs.Racks.{AreAway, IsFor, IsRoomy}
 use Rattle.market_drive.specs.Lines.{queues_at}
 use Rattle.market_drive.proofs.lines.line_up.Given as goal
 

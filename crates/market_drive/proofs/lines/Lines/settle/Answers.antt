@@ -1,7 +1,7 @@
-use Rattle.std.proofs.Common.{◌≡◌, ◌∙◌, ap, sym, subst, arith, ◌∷◌, ◌++◌, [], List, length, All, Some}
+use Rattle.std.proofs.Common.{◌∙◌, ap, sym, subst, arith, List, length, All, Some}
 use Rattle.std.proofs.lemmas.List.Elements.{All-pop}
 use Rattle.job_queue.specs.Seen.{QueueId}
-use Rattle.market_drive.specs.Racks.{AreAway, IsFor, OfEnds}
+use Rattle.market_drive.specs.Racks.{AreAway, IsFor}
 use Rattle.market_drive.specs.Lines.{queues_at}
 use Rattle.market_drive.proofs.Queues.{paired_last, queues_last}
 use Rattle.market_drive.proofs.lines.Lines.settle.Goals as goal

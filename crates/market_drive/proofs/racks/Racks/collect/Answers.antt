@@ -1,4 +1,4 @@
-use Rattle.std.proofs.Common.{rules, ◌≡◌, ◌∙◌, sym, ◌++◌, ◌∷◌, [], Some}
+use Rattle.std.proofs.Common.{rules, ◌∙◌, sym, ◌++◌, ◌∷◌, [], Some}
 use Rattle.std.proofs.lemmas.List.Elements.{All-pop, All-push}
 use Rattle.market_drive.specs.Racks.{IsFor}
 use Rattle.market_drive.proofs.Queues.{split_last}

@@ -1,4 +1,4 @@
-use Rattle.std.proofs.Common.{rules, ◌≡◌, ◌∙◌, ◌++◌, ◌∷◌, [], ◌<◌, length, Some}
+use Rattle.std.proofs.Common.{rules, ◌∙◌, ◌++◌, ◌∷◌, [], ◌<◌, length, Some}
 use Rattle.std.proofs.lemmas.List.Elements.{All-pop, All-push}
 use Rattle.market_drive.specs.Racks.{IsFor, IsRoomy, OfRack}
 use Rattle.market_drive.proofs.racks.Racks.deal.Goals as goal

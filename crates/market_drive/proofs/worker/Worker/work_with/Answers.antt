@@ -1,4 +1,4 @@
-use Rattle.std.proofs.Common.{◌≡◌, ◌∙◌, sym, subst}
+use Rattle.std.proofs.Common.{◌∙◌, sym, subst}
 use Rattle.std.specs.Option.{IsSomeAnd}
 use Rattle.market_drive.specs.Racks.{IsFor}
 use Rattle.market_drive.proofs.Queues.{takers_of, same_queues}

@@ -1,4 +1,4 @@
-use Rattle.std.proofs.Common.{◌≡◌, ◌++◌, ap, sym, ◌∙◌}
+use Rattle.std.proofs.Common.{◌++◌, ap, sym, ◌∙◌}
 use Rattle.office_demo.specs.Notes.{note_of}
 use Rattle.office_demo.proofs.Lines.{notes-more}
 use Rattle.office_demo.proofs.note.Notes.agree.Goals as goal

@@ -3,7 +3,7 @@ use Rattle.level_list.specs.Rows.{requests}
 use Rattle.recall_hire.specs.Shared.{CanShare}
 use Rattle.recall_hire.proofs.Shares.{requests-parts}
 use Rattle.recall_hire.proofs.Searches.{IsOpened, found-newer, found-here, goes-on}
-use Rattle.recall_hire.proofs.walk.Walk.+in_need.Goals as goal
+use Rattle.recall_hire.proofs.walk.Walk.+first_needing.Goals as goal
 
 pub among-returns-in-Some : goal.among-returns-in-Some
 among-returns-in-Some t c =
@@ -12,8 +12,8 @@ among-returns-in-Some t c =
     let i = c.loop-parts.invariant in
     let opened : IsOpened w.workers w.demand c.loop-parts.carry c.loop-parts.rest p.newer p.row.now p.older =
     record { rows_are = c.in_ok-parts.ensures.rows; left = c.in_ok-parts.ensures.lower.0; right = c.in_ok-parts.ensures.lower.1; below = i.shared.carried; due = i.due } in
-    i.goes c.in_need.new.carry c.in_need.new.visits _
-    (found-newer w.workers w.demand w.roster.now c.loop-parts.rest p.newer p.row.now p.older c.loop-parts.carry c.in_need.new.carry c.loop-parts.visits c.enter.new.visits c.in_need.new.visits c.in-Some.arena
+    i.goes c.first_needing.new.carry c.first_needing.new.visits _
+    (found-newer w.workers w.demand w.roster.now c.loop-parts.rest p.newer p.row.now p.older c.loop-parts.carry c.first_needing.new.carry c.loop-parts.visits c.enter.new.visits c.first_needing.new.visits c.in-Some.arena
     opened c.in_ok-parts.ensures.counted c.in-Some.ensures)
 
 pub among-returns-then-lacks : goal.among-returns-then-lacks
@@ -23,8 +23,8 @@ among-returns-then-lacks t c =
     let i = c.loop-parts.invariant in
     let opened : IsOpened w.workers w.demand c.loop-parts.carry c.loop-parts.rest p.newer p.row.now p.older =
     record { rows_are = c.in_ok-parts.ensures.rows; left = c.in_ok-parts.ensures.lower.0; right = c.in_ok-parts.ensures.lower.1; below = i.shared.carried; due = i.due } in
-    i.goes c.lacks.new.carry c.in_need.new.visits _
-    (found-here w.workers w.demand w.roster.now c.loop-parts.rest p.newer p.row.now p.older c.loop-parts.carry c.in_need.new.carry c.lacks.new.carry c.loop-parts.visits c.enter.new.visits c.in_need.new.visits
+    i.goes c.lacks.new.carry c.first_needing.new.visits _
+    (found-here w.workers w.demand w.roster.now c.loop-parts.rest p.newer p.row.now p.older c.loop-parts.carry c.first_needing.new.carry c.lacks.new.carry c.loop-parts.visits c.enter.new.visits c.first_needing.new.visits
     opened c.in_ok-parts.ensures.counted c.in_default.ensures c.if-lacks.ensures.yes)
 
 pub among-returns-then-passes : goal.among-returns-then-passes
@@ -34,9 +34,9 @@ among-returns-then-passes t c =
     let i = c.loop-parts.invariant in
     let opened : IsOpened w.workers w.demand c.loop-parts.carry c.loop-parts.rest p.newer p.row.now p.older =
     record { rows_are = c.in_ok-parts.ensures.rows; left = c.in_ok-parts.ensures.lower.0; right = c.in_ok-parts.ensures.lower.1; below = i.shared.carried; due = i.due } in
-    i.goes c.passes.new.carry c.in_need.new.visits _
-    (goes-on w.workers w.demand w.roster.now c.loop-parts.rest p.newer p.row.now p.older c.loop-parts.carry c.in_need.new.carry c.lacks.new.carry c.passes.new.carry c.loop-parts.visits c.enter.new.visits c.in_need.new.visits c.in_need.new.visits _
-    opened c.in_ok-parts.ensures.counted c.in_default.ensures c.if-lacks.ensures.no c.if-lacks.ensures.carry (c.if-passes.ensures.none c.in_need.new.visits))
+    i.goes c.passes.new.carry c.first_needing.new.visits _
+    (goes-on w.workers w.demand w.roster.now c.loop-parts.rest p.newer p.row.now p.older c.loop-parts.carry c.first_needing.new.carry c.lacks.new.carry c.passes.new.carry c.loop-parts.visits c.enter.new.visits c.first_needing.new.visits c.first_needing.new.visits _
+    opened c.in_ok-parts.ensures.counted c.in_default.ensures c.if-lacks.ensures.no c.if-lacks.ensures.carry (c.if-passes.ensures.none c.first_needing.new.visits))
 
 pub among-loop-parts-preserved : goal.among-loop-parts-preserved
 among-loop-parts-preserved t c =
@@ -58,9 +58,9 @@ among-loop-parts-preserved t c =
       lower = omega (arith, i.lower, c.in_ok-parts.ensures.lower.1);
       goes = λ after end found rest.
           i.goes after end found
-          (goes-on w.workers w.demand w.roster.now c.loop-parts.rest p.newer p.row.now p.older c.loop-parts.carry c.in_need.new.carry c.passes.new.carry after c.loop-parts.visits c.enter.new.visits c.in_need.new.visits end found
+          (goes-on w.workers w.demand w.roster.now c.loop-parts.rest p.newer p.row.now p.older c.loop-parts.carry c.first_needing.new.carry c.passes.new.carry after c.loop-parts.visits c.enter.new.visits c.first_needing.new.visits end found
           opened c.in_ok-parts.ensures.counted c.in_default.ensures c.if-lacks.ensures.no (c.if-passes.ensures.stays ∙ c.if-lacks.ensures.carry) rest);
     }
 
-pub in_need-returns-then-passes : goal.in_need-returns-then-passes
-in_need-returns-then-passes t c = c.if-passes.ensures.none c.args.visits.now
+pub first_needing-returns-then-passes : goal.first_needing-returns-then-passes
+first_needing-returns-then-passes t c = c.if-passes.ensures.none c.args.visits.now

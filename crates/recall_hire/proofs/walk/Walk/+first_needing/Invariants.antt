@@ -1,11 +1,11 @@
 use Rattle.std.proofs.Common.{ℕ, ◌+◌, ◌*◌, ◌^◌, ◌<◌, ◌≤◌, length, Option}
 use Rattle.level_list.specs.Rows.{requests}
 use Rattle.recall_hire.specs.Shared.{CanShare, IsSearch}
-use Rattle.recall_hire.proofs.walk.Walk.+in_need.Given as goal
+use Rattle.recall_hire.proofs.walk.Walk.+first_needing.Given as goal
 
--- a stretch is looked through by `in_need` before `among`, and the ones below it are lower
-abbrev pub decreases-in_need : goal.decreases-in_need
-decreases-in_need l = l.rows.1 * 2 + 1
+-- a stretch is looked through by `first_needing` before `among`, and the ones below it are lower
+abbrev pub decreases-first_needing : goal.decreases-first_needing
+decreases-first_needing l = l.rows.1 * 2 + 1
 
 abbrev pub decreases-among : goal.decreases-among
 decreases-among l = l.rows.1 * 2
