@@ -11,9 +11,12 @@ import sys
 
 from json_reader import json_of
 from model import Market, calls, journal, level_text, verdict
-from scripts import a_script, differs, options
+from scripts import a_script, cut_or_spoilt, differs, options
 
 CHANGED = 40
+
+# How many lines the scripts have: mostly few, so that many journals are seen.
+LENGTHS = [10] * 8 + [20] * 8 + [200, 200, 600]
 
 # Values as they stand in a line: numbers, of which few are whole, strings, and what is no value at all.
 NUMBERS = ["0", "1", "3", "4", "63", "64", "65535", "65536", "65537", "1.0", "-0", "0.0", "-0.0", "1e0", "10E-1", "-1", "18446744073709551615",
@@ -195,23 +198,12 @@ def changed(rng, written, levels):
     return b"".join(line + b"\n" for line in lines)
 
 
-def cut_or_spoilt(rng, text):
-    """The text up to some byte, or with some byte changed."""
-    kind, place = rng.random(), rng.randint(0, len(text))
-    if kind < 0.2:
-        return text[:-1]
-    if kind < 0.6:
-        return text[:place]
-    byte = bytes([rng.choice([0, 9, 10, 13, 32, 34, 44, 92, 123, 125, 127, 128, 255, rng.randrange(256)])])
-    return text[:place] + byte + text[place + rng.choice([0, 1]) :]
-
-
 def main():
     program, count, seed = sys.argv[1], int((sys.argv + [100])[2]), int((sys.argv + [0, 0])[3])
     found = collections.Counter()
     for k in range(count):
         rng = random.Random(f"{seed}/{k}")
-        opening, script = a_script(rng)
+        opening, script = a_script(rng, LENGTHS)
         market = Market(*opening)
         called = list(calls(market, script))
         lines = journal(market, called)

@@ -9,7 +9,7 @@ import random
 import sys
 
 from model import Market, Unread, level, number
-from scripts import differs
+from scripts import cut_or_spoilt, differs
 
 MOST_ARENAS, MOST_CONTROLS, LONGEST_LINE = 64, 256, 256
 
@@ -158,11 +158,8 @@ def changed(rng, text):
         lines[place] = b" ".join(fields)
     elif kind == 3:
         lines[place] += b" " * rng.choice([1, 260])
-    elif kind == 4 and text:
-        at = rng.randrange(len(text))
-        return text[:at] + bytes([rng.randrange(256)]) + text[at + 1:]
     else:
-        return text[:rng.randint(0, len(text))]
+        return cut_or_spoilt(rng, text)
     return b"\n".join(lines)
 
 

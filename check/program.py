@@ -1,23 +1,26 @@
 #!/usr/bin/env python3
 """The whole program as its users run it: a child that is talked to line by line, closed pipes, a child that is killed, a slow
-reader, a full disk, words that it does not know. Each case has a line; the first that fails ends it with status 1.
+reader, a full disk, an input in small pieces or of the greatest length, words that it does not know. Each case has a line; the first
+that fails ends it with status 1.
 
     check/program.py PROGRAM            as check/program.py crates/market/out/market
 """
 import os
+import random
 import signal
 import subprocess
 import sys
 import time
 
-sys.path.insert(0, os.path.join(os.path.dirname(os.path.abspath(__file__)), "..", "examples"))
+EXAMPLES = os.path.join(os.path.dirname(os.path.abspath(__file__)), "..", "examples")
+sys.path.insert(0, EXAMPLES)
 from client import Market, MarketGone
 
 SCRIPT = b"0 open 8 1 normal\n0 request 1 3\n0 show 1\n"
 REPLIES = b"arena 1\nrequest 3\narena 1 request 3 allot 3 top yes active 0 recall 0 hire 3\n"
 PLAN = b"market 8 64\narena 8 1 normal 2 0\narena 8 1 low 1 0\njob 1 sum 10\njob 1 digits 9081\njob 2 sum 100\n"
 OUTCOME = b"job 1 55\njob 2 18\njob 3 5050\n"
-SUBCOMMANDS = {"run": SCRIPT, "explain": SCRIPT, "replay": b"", "drive": PLAN}
+SUBCOMMANDS = {("run",): SCRIPT, ("run", "--journal"): SCRIPT, ("explain",): SCRIPT, ("replay",): b"", ("drive",): PLAN}
 
 
 def ran(words, text=b"", **more):
@@ -28,6 +31,20 @@ def due(what, found, wanted):
     if found != wanted:
         sys.exit(f"{what}: {found!r}, due {wanted!r}")
     print(f"{what}: ok")
+
+
+def has_examples(program):
+    def of(name):
+        return open(os.path.join(EXAMPLES, name), "rb").read()
+
+    due("first.txt has the journal first.journal", ran([program, "run", "--journal"], of("first.txt")).stdout, of("first.journal"))
+    due("first.journal is legal", ran([program, "replay"], of("first.journal")).stdout, b"legal 3\n")
+    due("version_1.journal is legal", ran([program, "replay"], of("version_1.journal")).stdout, b"legal 3\n")
+    due("plan.txt has its outcome", ran([program, "drive"], of("plan.txt")).stdout, OUTCOME)
+    told = ran([sys.executable, os.path.join(EXAMPLES, "client.py"), program])
+    views = [(3, 2), (2, 2), (1, 3)]
+    lines = b"".join(b"arena %d request 5 allot %d top yes active 0 recall 0 hire %d\n" % (arena, allot, allot) for arena, allot in views)
+    due("client.py has three arenas share seven workers", (told.stdout, told.returncode), (lines, 0))
 
 
 def talks(program):
@@ -71,9 +88,9 @@ def reads_slowly(program):
 
 
 def closes_its_pipe(program):
-    for name in SUBCOMMANDS:
-        text = {"replay": b"x\n", "drive": PLAN}.get(name, b"0 open 8 1 normal\n" * 1_000)
-        child = subprocess.Popen([program, name], stdin=subprocess.PIPE, stdout=subprocess.PIPE, stderr=subprocess.PIPE)
+    for words in SUBCOMMANDS:
+        text = {"replay": b"x\n", "drive": PLAN}.get(words[0], b"0 open 8 1 normal\n" * 1_000)
+        child = subprocess.Popen([program, *words], stdin=subprocess.PIPE, stdout=subprocess.PIPE, stderr=subprocess.PIPE)
         child.stdout.close()
         try:
             child.stdin.write(text)
@@ -82,31 +99,63 @@ def closes_its_pipe(program):
             pass
         told = child.stderr.read()
         status = child.wait()
-        due(f"{name} whose reader is gone ends with a write fault", (told, status), (b"write fault\n", 3))
+        due(f"{' '.join(words)} whose reader is gone ends with a write fault", (told, status), (b"write fault\n", 3))
 
 
 def fills_a_disk(program):
     if not os.path.exists("/dev/full"):
         print("no /dev/full here: left out")
         return
-    for name, text in SUBCOMMANDS.items():
+    for words, text in SUBCOMMANDS.items():
         with open("/dev/full", "wb") as full:
-            found = subprocess.run([program, name], input=text, stdout=full, stderr=subprocess.PIPE, timeout=60)
-        due(f"{name} to a full disk ends with a write fault", (found.stderr, found.returncode), (b"write fault\n", 3))
+            found = subprocess.run([program, *words], input=text, stdout=full, stderr=subprocess.PIPE, timeout=60)
+        due(f"{' '.join(words)} to a full disk ends with a write fault", (found.stderr, found.returncode), (b"write fault\n", 3))
 
 
 def cannot_read(program):
-    for name in SUBCOMMANDS:
+    for words in SUBCOMMANDS:
         with open(os.devnull, "wb") as shut:
-            found = subprocess.run([program, name], stdin=shut, capture_output=True, timeout=60)
-        due(f"{name} whose input cannot be read ends with a read fault", (found.stdout, found.stderr, found.returncode), (b"", b"read fault\n", 3))
+            found = subprocess.run([program, *words], stdin=shut, capture_output=True, timeout=60)
+        due(f"{' '.join(words)} whose input cannot be read ends with a read fault", (found.stdout, found.stderr, found.returncode), (b"", b"read fault\n", 3))
+
+
+def comes_in_pieces(program):
+    rng = random.Random(7)
+    script = b"".join(b"%d %s\n" % (rng.randint(0, 3), rng.choice([b"open 8", b"request 1 3", b"join", b"stay", b"lists", b"fly"])) for _ in range(2_000))
+    journal = ran([program, "run", "--journal"], script).stdout
+    for words, text in ((["run"], script), (["run", "--journal"], script), (["explain"], script), (["replay"], journal), (["drive"], PLAN)):
+        child = subprocess.Popen([program, *words], stdin=subprocess.PIPE, stdout=subprocess.PIPE)
+        writer = os.fork()
+        if writer == 0:
+            child.stdout.close()
+            place = 0
+            while place < len(text):
+                place += os.write(child.stdin.fileno(), text[place : place + rng.choice([1, 2, 40, 400, 4_000])])
+                time.sleep(0.0002)
+            os._exit(0)
+        child.stdin.close()
+        told = child.stdout.read()
+        os.waitpid(writer, 0)
+        whole = ran([program, *words], text)
+        due(f"{' '.join(words)} takes its input in pieces of any size", (told, child.wait()), (whole.stdout, whole.returncode))
+
+
+def is_too_long(program):
+    longest = 268_435_456
+    for words in SUBCOMMANDS:
+        # One remark, which says as much as nothing.
+        found, short = ran([program, *words], b"#" * longest), ran([program, *words], b"#")
+        due(f"{' '.join(words)} reads an input of {longest} bytes", (found.stdout, found.stderr, found.returncode), (short.stdout, b"", short.returncode))
+        found = ran([program, *words], b"#" * (longest + 1))
+        due(f"{' '.join(words)} reads none with a byte more", (found.stdout, found.stderr, found.returncode), (b"", b"input too long\n", 3))
 
 
 def helps(program):
-    for words in ([], *([name] for name in SUBCOMMANDS)):
+    for words in ((), *SUBCOMMANDS):
         found = ran([program, *words, "--help"])
-        lines = found.stdout.count(b"\n")
-        due(f"--help of {' '.join(words) or 'the program'} fits a screen", (found.returncode, found.stderr, 0 < lines <= 50), (0, b"", True))
+        lines = found.stdout.decode().splitlines()
+        fits = 0 < len(lines) <= 50 and max(map(len, lines)) <= 100
+        due(f"--help of {' '.join(words) or 'the program'} fits a screen", (found.returncode, found.stderr, fits), (0, b"", True))
 
 
 def refuses_words(program):
@@ -133,7 +182,7 @@ def does_its_job(program):
 
 def main():
     program = os.path.abspath(sys.argv[1])
-    for case in (does_its_job, talks, is_killed, reads_slowly, closes_its_pipe, fills_a_disk, cannot_read, helps, refuses_words):
+    for case in (does_its_job, has_examples, talks, is_killed, reads_slowly, closes_its_pipe, fills_a_disk, cannot_read, comes_in_pieces, is_too_long, helps, refuses_words):
         case(program)
     return 0
 

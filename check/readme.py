@@ -1,5 +1,5 @@
 #!/usr/bin/env python3
-"""Compares the samples of the README and of docs/ with what the program prints.
+"""Compares the samples of the README and of docs/ with what the program prints, and the README's first program with its source.
 
     check/readme.py crates/market/out/market
 
@@ -57,10 +57,22 @@ def told_by(command, program):
     return told.stdout.decode("utf-8").split("\n")[:-1]
 
 
+def compare_first_program():
+    """The block of the README that is a source file is that of `first_market`."""
+    source = open(os.path.join(ROOT, "crates/first_market/src/main.rt"), encoding="utf-8").read()
+    told = [block for _, block in blocks_of("README.md") if block[0].startswith("//! A first program")]
+    # A block ends at an empty line, and a source has some.
+    text = open(os.path.join(ROOT, "README.md"), encoding="utf-8").read()
+    indented = "".join(INDENT + line if line.strip() else line for line in source.splitlines(keepends=True))
+    if len(told) != 1 or indented not in text:
+        sys.exit("README.md: the first program is not that of crates/first_market")
+
+
 def main():
     if len(sys.argv) != 2:
         sys.exit(__doc__)
     program = os.path.abspath(sys.argv[1])
+    compare_first_program()
     compared = passed_over = 0
     for page in PAGES:
         for first, block in blocks_of(page):

@@ -1,6 +1,6 @@
 #!/usr/bin/env python3
-"""Random scripts, through `market run` and `market explain` and through the model beside this file: the first difference
-ends it, with status 1 and the script on standard error.
+"""Random scripts, some of them with bytes changed, through `market run` and `market explain` and through the model beside this
+file: the first difference ends it, with status 1 and the script on standard error.
 
     check/scripts.py PROGRAM [COUNT [SEED]]        as check/scripts.py crates/market/out/market 1000
 """
@@ -40,15 +40,32 @@ def a_line(rng, seats, levels, arenas):
     return f"{seat} {command}" + ("\r" if rng.random() < 0.003 else "") + (" " * 260 if rng.random() < 0.002 else "")
 
 
-def a_script(rng):
-    """What a market is opened with, and a script for it."""
+def a_script(rng, lengths=(20, 200, 600)):
+    """What a market is opened with, and a script for it of one of these lengths."""
     base, hard = rng.choice([1, 2, 3, 8, 40]), rng.choice([1, 5, 64, 65535])
     seats, levels = rng.choice([1, 4, 16, 64]), rng.choice([1, 2, 3, 3, 5, 8])
     arenas, last = rng.choice([2, 6, 30]), rng.choice([1, 3, 12, 1048576, 4294967294])
-    script = "\n".join(a_line(rng, seats, levels, arenas) for _ in range(rng.choice([20, 200, 600])))
+    script = "\n".join(a_line(rng, seats, levels, arenas) for _ in range(rng.choice(lengths)))
     if rng.random() < 0.8:
         script += "\n"
     return (base, hard, seats, levels, last), script.encode("latin-1")
+
+
+def spoilt(rng, text):
+    """The text with some byte changed, or one more."""
+    place = rng.randint(0, len(text))
+    byte = bytes([rng.choice([0, 9, 10, 13, 32, 34, 44, 92, 123, 125, 127, 128, 255, rng.randrange(256)])])
+    return text[:place] + byte + text[place + rng.choice([0, 1]) :]
+
+
+def cut_or_spoilt(rng, text):
+    """The text up to some byte, or spoilt."""
+    kind = rng.random()
+    if kind < 0.2:
+        return text[:-1]
+    if kind < 0.6:
+        return text[: rng.randint(0, len(text))]
+    return spoilt(rng, text)
 
 
 def options(opening):
@@ -75,7 +92,10 @@ def main():
     program, count, seed = sys.argv[1], int((sys.argv + [100])[2]), int((sys.argv + [0, 0])[3])
     lines = 0
     for k in range(count):
-        opening, text = a_script(random.Random(f"{seed}/{k}"))
+        rng = random.Random(f"{seed}/{k}")
+        opening, text = a_script(rng)
+        for _ in range(rng.choice([0, 0, 0, 1, 3, 30])):
+            text = spoilt(rng, text)
         market = Market(*opening)
         called = list(calls(market, text))
         status = 1 if None in called else 0
