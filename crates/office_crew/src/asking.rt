@@ -1,5 +1,5 @@
 //! Any command by any caller.
-ghost use Rattle.std.specs.Prelude.{◌≡◌, Some, Ok, Err};
+ghost use Rattle.std.specs.Prelude.{◌≡◌, None, Some, Ok, Err};
 ghost use Rattle.market_lock.specs.Moves.{Called, Fails};
 ghost use Rattle.market_lock.specs.Seen.{IsSamePass};
 ghost use Rattle.office_crew.specs.Callers.{who_is};
@@ -33,6 +33,7 @@ pub fn ask<C: Ledger, W: Ledger, R: Wait>(
     ensures same { IsSamePass (who_is caller) (who_is result.caller) }
     ensures answered { (reply : Reply) → result.answer ≡ Some (Ok reply) → Called (who_is caller) cmd reply (who_is result.caller) }
     ensures failed { (fault : CallFault) → result.answer ≡ Some (Err fault) → Fails (who_is caller) cmd fault (who_is result.caller) }
+    ensures unasked { result.answer ≡ None → who_is result.caller ≡ who_is caller }
 {
     match caller {
         Caller::Free(pass) => ask_free(rt, alloc, office, pass, cmd),
@@ -52,6 +53,7 @@ fn ask_free<C: Ledger, W: Ledger, R: Wait>(
     ensures same { IsSamePass pass (who_is result.caller) }
     ensures answered { (reply : Reply) → result.answer ≡ Some (Ok reply) → Called pass cmd reply (who_is result.caller) }
     ensures failed { (fault : CallFault) → result.answer ≡ Some (Err fault) → Fails pass cmd fault (who_is result.caller) }
+    ensures unasked { result.answer ≡ None → who_is result.caller ≡ pass }
 {
     if cmd == Cmd::Join {
         return ask_join(rt, alloc, office, pass);
@@ -81,6 +83,7 @@ fn ask_join<C: Ledger, W: Ledger, R: Wait>(
     ensures same { IsSamePass pass (who_is result.caller) }
     ensures answered { (reply : Reply) → result.answer ≡ Some (Ok reply) → Called pass Cmd.Join reply (who_is result.caller) }
     ensures failed { (fault : CallFault) → result.answer ≡ Some (Err fault) → Fails pass Cmd.Join fault (who_is result.caller) }
+    ensures asked { result.answer ≡ None → ⊥ }
 {
     match office.join(rt, alloc, pass) {
         Joined::Placed(worker) => Asked {
@@ -110,6 +113,7 @@ fn ask_working<C: Ledger, W: Ledger, R: Wait>(
     ensures same { IsSamePass worker.who (who_is result.caller) }
     ensures answered { (reply : Reply) → result.answer ≡ Some (Ok reply) → Called worker.who cmd reply (who_is result.caller) }
     ensures failed { (fault : CallFault) → result.answer ≡ Some (Err fault) → Fails worker.who cmd fault (who_is result.caller) }
+    ensures unasked { result.answer ≡ None → who_is result.caller ≡ worker.who }
 {
     let mut worker = worker;
     match cmd {
@@ -141,6 +145,7 @@ fn ask_stay<C: Ledger, W: Ledger, R: Wait>(
     ensures same { IsSamePass worker.who (who_is result.caller) }
     ensures answered { (reply : Reply) → result.answer ≡ Some (Ok reply) → Called worker.who Cmd.Stay reply (who_is result.caller) }
     ensures failed { (fault : CallFault) → result.answer ≡ Some (Err fault) → Fails worker.who Cmd.Stay fault (who_is result.caller) }
+    ensures asked { result.answer ≡ None → ⊥ }
 {
     let arena = worker.arena();
     match office.stay(rt, alloc, worker) {
@@ -169,6 +174,7 @@ fn ask_leave<C: Ledger, W: Ledger, R: Wait>(
     ensures same { IsSamePass worker.who (who_is result.caller) }
     ensures answered { (reply : Reply) → result.answer ≡ Some (Ok reply) → Called worker.who Cmd.Leave reply (who_is result.caller) }
     ensures answers { (fault : CallFault) → result.answer ≡ Some (Err fault) → ⊥ }
+    ensures asked { result.answer ≡ None → ⊥ }
 {
     let arena = worker.arena();
     Asked {
