@@ -16,16 +16,12 @@ fn choose(rt: &impl Abort, alloc: Global, words: &[&str], due: Choice) {
 #[test]
 fn options_are_read_or_default(rt: HostRuntime) {
     let usual = MarketOptions::USUAL;
-    for (words, task) in [
-        (["market", "run"].as_slice(), ScriptTask::Answer),
-        (
-            ["market", "run", "--journal"].as_slice(),
-            ScriptTask::Journal,
-        ),
-        (["market", "explain"].as_slice(), ScriptTask::Explain),
-    ] {
-        choose(&rt, rt.alloc(), words, Choice::Script(task, usual));
-    }
+    let due = Choice::Script(ScriptTask::Answer, usual);
+    choose(&rt, rt.alloc(), &["market", "run"], due);
+    let due = Choice::Script(ScriptTask::Journal, usual);
+    choose(&rt, rt.alloc(), &["market", "run", "--journal"], due);
+    let due = Choice::Script(ScriptTask::Explain, usual);
+    choose(&rt, rt.alloc(), &["market", "explain"], due);
     let words = ["market", "explain", "--base", "3"];
     let three = MarketOptions { base: 3, ..usual };
     let due = Choice::Script(ScriptTask::Explain, three);
