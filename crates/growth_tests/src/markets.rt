@@ -218,8 +218,8 @@ fn every_growth_is_granted(rt: HostRuntime) {
     let Ok(mut market) = Market::new(alloc, 64, 64, 4, 3) else {
         panic!(&rt; "no market");
     };
-    let open = Cmd::Open(8, 1, Level::from_index(1));
     for number in 1..8 {
+        let open = Cmd::Open(8, 1, Level::from_index(1));
         granted(&rt, alloc, &mut market, open);
         granted(
             &rt,

@@ -231,14 +231,14 @@ fn tell<C: Ledger, W: Ledger, R: Wait>(
     alloc: Global,
     office: &Office<C, W>,
     pass: &mut Pass<C, W>,
-    cmd: Cmd,
+    cmd: &Cmd,
 )
     requires own { pass.old.table ≡ office.now.table }
-    requires still { moves_seat cmd ≡ false }
+    requires still { moves_seat cmd.now ≡ false }
     ensures own { pass.new.table ≡ office.now.table }
 {
-    if office.call(rt, alloc, pass, cmd).is_err() {
-        drop(office.call(rt, alloc, pass, cmd));
+    if office.call(rt, alloc, pass, *cmd).is_err() {
+        drop(office.call(rt, alloc, pass, *cmd));
     }
 }
 
@@ -301,20 +301,10 @@ fn cut_between<C: Ledger, W: Ledger, R: Wait>(
     let Some(mut clerk) = passes.pop() else {
         unreachable!()
     };
-    tell(
-        rt,
-        alloc,
-        &office,
-        &mut clerk,
-        Cmd::Open(8, 1, Level::from_index(1)),
-    );
-    tell(
-        rt,
-        alloc,
-        &office,
-        &mut clerk,
-        Cmd::Request(ArenaId::new(1), 2, 0),
-    );
+    let open = Cmd::Open(8, 1, Level::from_index(1));
+    tell(rt, alloc, &office, &mut clerk, &open);
+    let request = Cmd::Request(ArenaId::new(1), 2, 0);
+    tell(rt, alloc, &office, &mut clerk, &request);
     let second = placed_of(rt, alloc, &office, second);
     let third = placed_of(rt, alloc, &office, third);
     let spare = Vec::with_capacity(alloc, 3).unwrap_or(Vec::new(alloc));

@@ -200,24 +200,26 @@ fn unpair<T>(both: Vec<T>) -> (T, T)
 }
 
 /// Gives a command, once more where a growth was refused.
-fn tell<C: Ledger, W: Ledger, R: Wait>(
+fn tell<C: Ledger, W: Ledger, R: Wait + Abort>(
     rt: &R,
     alloc: Global,
     office: &Office<C, W>,
     pass: &mut Pass<C, W>,
-    cmd: Cmd,
+    cmd: &Cmd,
 )
     requires own { pass.old.table ≡ office.now.table }
-    requires still { moves_seat cmd ≡ false }
+    requires still { moves_seat cmd.now ≡ false }
     ensures own { pass.new.table ≡ office.now.table }
 {
-    if office.call(rt, alloc, pass, cmd).is_err() {
-        drop(office.call(rt, alloc, pass, cmd));
+    if office.call(rt, alloc, pass, *cmd).is_ok() {
+        return;
     }
+    let again = office.call(rt, alloc, pass, *cmd);
+    assert!(rt; again.is_ok());
 }
 
 /// The arenas are opened, and ask for their workers.
-fn set_up<C: Ledger, W: Ledger, R: Wait>(
+fn set_up<C: Ledger, W: Ledger, R: Wait + Abort>(
     rt: &R,
     alloc: Global,
     office: &Office<C, W>,
@@ -226,22 +228,14 @@ fn set_up<C: Ledger, W: Ledger, R: Wait>(
     requires { pass.old.table ≡ office.now.table }
     ensures { pass.new.table ≡ office.now.table }
 {
-    tell(
-        rt,
-        alloc,
-        office,
-        pass,
-        Cmd::Open(8, 1, Level::from_index(1)),
-    );
-    tell(
-        rt,
-        alloc,
-        office,
-        pass,
-        Cmd::Open(8, 1, Level::from_index(2)),
-    );
-    tell(rt, alloc, office, pass, Cmd::Request(ArenaId::new(1), 2, 0));
-    tell(rt, alloc, office, pass, Cmd::Request(ArenaId::new(2), 1, 0));
+    let first = Cmd::Open(8, 1, Level::from_index(1));
+    tell(rt, alloc, office, pass, &first);
+    let second = Cmd::Open(8, 1, Level::from_index(2));
+    tell(rt, alloc, office, pass, &second);
+    let of_first = Cmd::Request(ArenaId::new(1), 2, 0);
+    tell(rt, alloc, office, pass, &of_first);
+    let of_second = Cmd::Request(ArenaId::new(2), 1, 0);
+    tell(rt, alloc, office, pass, &of_second);
 }
 
 /// The pass works at two stations, and all that it works with is taken back.
