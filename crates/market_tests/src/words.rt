@@ -15,18 +15,28 @@ fn choose(rt: &impl Abort, alloc: Global, words: &[&str], due: Choice) {
 
 #[test]
 fn options_are_read_or_default(rt: HostRuntime) {
-    let usual = MarketOptions::USUAL;
-    let due = Choice::Script(ScriptTask::Answer, usual);
+    let due = Choice::Script(ScriptTask::Answer, MarketOptions::USUAL);
     choose(&rt, rt.alloc(), &["market", "run"], due);
-    let due = Choice::Script(ScriptTask::Journal, usual);
+    let due = Choice::Script(ScriptTask::Journal, MarketOptions::USUAL);
     choose(&rt, rt.alloc(), &["market", "run", "--journal"], due);
-    let due = Choice::Script(ScriptTask::Explain, usual);
+    let due = Choice::Script(ScriptTask::Explain, MarketOptions::USUAL);
     choose(&rt, rt.alloc(), &["market", "explain"], due);
-    let words = ["market", "explain", "--base", "3"];
-    let three = MarketOptions { base: 3, ..usual };
-    let due = Choice::Script(ScriptTask::Explain, three);
-    choose(&rt, rt.alloc(), &words, due);
     choose(&rt, rt.alloc(), &["market", "replay"], Choice::Replay);
+}
+
+#[test]
+fn an_option_is_read_beside_the_usual_ones(rt: HostRuntime) {
+    let words = ["market", "explain", "--base", "3"];
+    let three = MarketOptions {
+        base: 3,
+        ..MarketOptions::USUAL
+    };
+    choose(
+        &rt,
+        rt.alloc(),
+        &words,
+        Choice::Script(ScriptTask::Explain, three),
+    );
 }
 
 /// A market whose arenas are numbered to there.
