@@ -1,4 +1,4 @@
-use Rattle.plan_tests.proofs.workers.left_by.Given as goal
+use Rattle.plan_tests.proofs.workers.left_if_opened.Given as goal
 
 abbrev pub ghosts-opened-C-Ledger : goal.ghosts-opened-C-Ledger
 ghosts-opened-C-Ledger g a = record { name = a.calls.name; parts = a.calls.parts }
