@@ -154,7 +154,7 @@ def helps(program):
     for words in ((), *SUBCOMMANDS):
         found = ran([program, *words, "--help"])
         lines = found.stdout.decode().splitlines()
-        fits = 0 < len(lines) <= 50 and max(map(len, lines)) <= 120
+        fits = 0 < len(lines) <= 50 and max(map(len, lines)) <= 100
         due(f"--help of {' '.join(words) or 'the program'} fits a screen", (found.returncode, found.stderr, fits), (0, b"", True))
 
 

@@ -86,7 +86,7 @@ const LAST: NumberOption = NumberOption {
     name: "last",
     default: "1048576",
     high: 4_294_967_294,
-    help: "Arenas, stamps and controls are numbered to N, 1 to 4294967294",
+    help: "Arenas, stamps and controls go up to N, 1 to 4294967294",
 };
 
 const WORKERS: NumberOption = NumberOption {

@@ -1,5 +1,7 @@
 -- A caller of an office, a pass or a worker that is placed; and what the office of a meeting is opened with (own).
-use Rattle.std.specs.Prelude.{ℕ}
+use Rattle.std.specs.Prelude.{ℕ, Bool, true, false}
+use Rattle.market_types.specs.declared.command.Cmd.{Cmd}
+use Rattle.market_types.specs.declared.command.Cmd.TheVariants.{Join, Stay, Leave}
 use Rattle.market_lock.specs.Seen.{OfPass, OfPlaced}
 use Rattle.edit_history.specs.declared.terms.Terms as office
 use Rattle.office_crew.specs.declared.caller.Caller.{Caller}
@@ -10,6 +12,14 @@ use Rattle.office_crew.specs.declared.meeting.Terms as crew
 abbrev pub who_is : Caller OfPass OfPlaced → OfPass
 who_is (Free p) = p
 who_is (Working q) = q.who
+
+-- whether it gives a command: who is not placed neither stays nor leaves, and who is placed asks for no arena (own)
+abbrev pub may_ask : Caller OfPass OfPlaced → Cmd → Bool
+may_ask (Free _) Stay = false
+may_ask (Free _) Leave = false
+may_ask (Free _) _ = true
+may_ask (Working _) Join = false
+may_ask (Working _) _ = true
 
 -- the terms with so many seats, as an office keeps them
 abbrev pub terms_of : crew.Terms → ℕ → office.Terms

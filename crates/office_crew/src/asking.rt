@@ -1,8 +1,9 @@
 //! Any command by any caller.
-ghost use Rattle.std.specs.Prelude.{◌≡◌, None, Some, Ok, Err};
+ghost use Rattle.std.specs.Prelude.{◌≡◌, None, Some, Ok, Err, is_some, true};
 ghost use Rattle.market_lock.specs.Moves.{Called, Fails};
 ghost use Rattle.market_lock.specs.Seen.{IsSamePass};
-ghost use Rattle.office_crew.specs.Callers.{who_is};
+ghost use Rattle.office_crew.specs.Callers.{who_is, may_ask};
+ghost use Rattle.office_crew.specs.declared.caller.Caller.TheVariants.{Free, Working};
 
 use crate::caller::Caller;
 use edit_history::CallFault;
@@ -33,6 +34,7 @@ pub fn ask<C: Ledger, W: Ledger, R: Wait>(
     ensures same { IsSamePass (who_is caller) (who_is result.caller) }
     ensures answered { (reply : Reply) → result.answer ≡ Some (Ok reply) → Called (who_is caller) cmd reply (who_is result.caller) }
     ensures failed { (fault : CallFault) → result.answer ≡ Some (Err fault) → Fails (who_is caller) cmd fault (who_is result.caller) }
+    ensures asked { is_some result.answer ≡ may_ask caller cmd }
     ensures unasked { result.answer ≡ None → who_is result.caller ≡ who_is caller }
 {
     match caller {
@@ -53,6 +55,7 @@ fn ask_free<C: Ledger, W: Ledger, R: Wait>(
     ensures same { IsSamePass pass (who_is result.caller) }
     ensures answered { (reply : Reply) → result.answer ≡ Some (Ok reply) → Called pass cmd reply (who_is result.caller) }
     ensures failed { (fault : CallFault) → result.answer ≡ Some (Err fault) → Fails pass cmd fault (who_is result.caller) }
+    ensures asked { is_some result.answer ≡ may_ask (Free pass) cmd }
     ensures unasked { result.answer ≡ None → who_is result.caller ≡ pass }
 {
     if cmd == Cmd::Join {
@@ -83,7 +86,7 @@ fn ask_join<C: Ledger, W: Ledger, R: Wait>(
     ensures same { IsSamePass pass (who_is result.caller) }
     ensures answered { (reply : Reply) → result.answer ≡ Some (Ok reply) → Called pass Cmd.Join reply (who_is result.caller) }
     ensures failed { (fault : CallFault) → result.answer ≡ Some (Err fault) → Fails pass Cmd.Join fault (who_is result.caller) }
-    ensures asked { result.answer ≡ None → ⊥ }
+    ensures asked { is_some result.answer ≡ true }
 {
     match office.join(rt, alloc, pass) {
         Joined::Placed(worker) => Asked {
@@ -113,6 +116,7 @@ fn ask_working<C: Ledger, W: Ledger, R: Wait>(
     ensures same { IsSamePass worker.who (who_is result.caller) }
     ensures answered { (reply : Reply) → result.answer ≡ Some (Ok reply) → Called worker.who cmd reply (who_is result.caller) }
     ensures failed { (fault : CallFault) → result.answer ≡ Some (Err fault) → Fails worker.who cmd fault (who_is result.caller) }
+    ensures asked { is_some result.answer ≡ may_ask (Working worker) cmd }
     ensures unasked { result.answer ≡ None → who_is result.caller ≡ worker.who }
 {
     let mut worker = worker;
@@ -145,7 +149,7 @@ fn ask_stay<C: Ledger, W: Ledger, R: Wait>(
     ensures same { IsSamePass worker.who (who_is result.caller) }
     ensures answered { (reply : Reply) → result.answer ≡ Some (Ok reply) → Called worker.who Cmd.Stay reply (who_is result.caller) }
     ensures failed { (fault : CallFault) → result.answer ≡ Some (Err fault) → Fails worker.who Cmd.Stay fault (who_is result.caller) }
-    ensures asked { result.answer ≡ None → ⊥ }
+    ensures asked { is_some result.answer ≡ true }
 {
     let arena = worker.arena();
     match office.stay(rt, alloc, worker) {
@@ -174,7 +178,7 @@ fn ask_leave<C: Ledger, W: Ledger, R: Wait>(
     ensures same { IsSamePass worker.who (who_is result.caller) }
     ensures answered { (reply : Reply) → result.answer ≡ Some (Ok reply) → Called worker.who Cmd.Leave reply (who_is result.caller) }
     ensures answers { (fault : CallFault) → result.answer ≡ Some (Err fault) → ⊥ }
-    ensures asked { result.answer ≡ None → ⊥ }
+    ensures asked { is_some result.answer ≡ true }
 {
     let arena = worker.arena();
     Asked {

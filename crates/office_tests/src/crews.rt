@@ -195,6 +195,40 @@ fn told_in(rt: &impl Abort, alloc: Global, chronicle: &Chronicle, seat: SeatNo) 
     told
 }
 
+/// The first opener gives one command; when it has ended, the second gives the next one, and after it a task the last.
+fn come_back_in_order<R: Threads + Wait + Sync + Abort>(rt: &R, alloc: Global, cmds: &[Cmd])
+    requires { length cmds.now ≡ 3 }
+{
+    let openers = scripts_of(rt, alloc, &[&cmds[..1], &cmds[1..2]]);
+    let tasks = scripts_of(rt, alloc, &[&cmds[2..]]);
+    assert!(rt; openers.len() == 2 && tasks.len() == 1);
+    let Ok(meeting) = meet(rt, alloc, TERMS, openers, tasks) else {
+        panic!(rt; "no office");
+    };
+    let Meeting {
+        closed,
+        openers,
+        tasks,
+    } = meeting;
+    assert!(rt; openers.len() == 2 && tasks.len() == 1);
+    assert!(rt; openers[0].told() == b"arena 1\n".as_slice());
+    assert!(rt; openers[1].told() == b"arena 2\n".as_slice());
+    assert!(rt; tasks[0].told() == b"request 3\n".as_slice());
+    let told = told_in(rt, alloc, &closed.chronicle, SeatNo::new(1));
+    assert!(rt; told.as_slice() == b"arena 2\n".as_slice());
+    assert!(rt; (closed.calls, closed.workers, closed.chronicle.len()) == (3, 0, 3));
+}
+
+#[test]
+fn openers_work_one_after_the_other(rt: HostRuntime) {
+    let cmds = [
+        Cmd::Open(8, 1, Level::from_index(1)),
+        Cmd::Open(4, 1, Level::from_index(1)),
+        Cmd::Request(ArenaId::new(2), 3, 0),
+    ];
+    come_back_in_order(&rt, rt.alloc(), &cmds);
+}
+
 /// The first caller gives two commands in its thread; when it has met, one visits while another comes to work.
 fn one_visits_and_one_stays<R: Threads + Wait + Sync + Abort>(rt: &R, alloc: Global, cmds: &[Cmd])
     requires { length cmds.now ≡ 6 }
