@@ -81,6 +81,31 @@ private:
     alignas(128) std::atomic<size_t> tail_{0};
 };
 
+// The same as a ring behind one lock, as most programs have it.
+template <class T> class LockedQueue {
+public:
+    explicit LockedQueue(size_t capacity) : ring_(capacity) {}
+    bool push(T job) {
+        std::lock_guard guard(lock_);
+        if (count_ == ring_.size()) return false;
+        ring_[(first_ + count_++) % ring_.size()] = job;
+        return true;
+    }
+    std::optional<T> pop() {
+        std::lock_guard guard(lock_);
+        if (count_ == 0) return std::nullopt;
+        T job = ring_[first_];
+        first_ = (first_ + 1) % ring_.size();
+        --count_;
+        return job;
+    }
+
+private:
+    std::mutex lock_;
+    std::vector<T> ring_;
+    size_t first_ = 0, count_ = 0;
+};
+
 struct Job {
     uint32_t number = 0, arena = 0;
     bool sums = false;
@@ -260,16 +285,16 @@ template <class F> void row(int threads, const char* name, size_t turns, F round
     std::fflush(stdout);
 }
 
-static size_t push_and_pop(size_t jobs) {
-    Queue<uint64_t> queue(1024);
+template <class Q> size_t push_and_pop(size_t jobs) {
+    Q queue(1024);
     size_t count = 0;
     for (size_t job = 0; job < jobs; ++job)
         if (queue.push(job) && queue.pop()) ++count;
     return count;
 }
 
-static size_t exchange(size_t jobs) {
-    Queue<uint64_t> queue(1024);
+template <class Q> size_t exchange(size_t jobs) {
+    Q queue(1024);
     std::vector<std::vector<uint64_t>> got(2);
     std::vector<std::thread> threads;
     for (int i = 0; i < 2; ++i)
@@ -295,8 +320,10 @@ static std::string plan(const char* line, size_t jobs) {
 
 int main() {
     std::puts("nanoseconds a job, the least of 7 rounds\nthreads  job");
-    row(1, "push, pop", 500'000, [] { return push_and_pop(500'000); });
-    row(4, "push, pop", 500'000, [] { return exchange(500'000); });
+    row(1, "push, pop", 500'000, [] { return push_and_pop<Queue<uint64_t>>(500'000); });
+    row(4, "push, pop", 500'000, [] { return exchange<Queue<uint64_t>>(500'000); });
+    row(1, "push, pop, locked", 500'000, [] { return push_and_pop<LockedQueue<uint64_t>>(500'000); });
+    row(4, "push, pop, locked", 500'000, [] { return exchange<LockedQueue<uint64_t>>(500'000); });
     const auto digits = plan("job 1 digits 1\n", 65'536), sums = plan("job 1 sum 1000000\n", 1'024);
     for (uint32_t workers : {1u, 2u, 4u}) row(int(workers), "digits 1", 65'536, [&] { return drive(digits, workers); });
     for (uint32_t workers : {1u, 2u, 4u}) row(int(workers), "sum 1000000", 1'024, [&] { return drive(sums, workers); });

@@ -1,9 +1,12 @@
 //! Histories that fill up, and what a chronicle answers at its bounds.
 use edit_history::{CallFault, Chronicle, Keeping, Terms};
-use market_types::{ArenaId, ArenaView, Cmd, Entry, LastNumber, Level, OpenFault, Reply, SeatNo};
+use market_types::{ArenaId, Cmd, Entry, LastNumber, Level, OpenFault, Reply, SeatNo, reply_text};
 use std::alloc::Global;
 use std::process::Abort;
 use std::rt::HostRuntime;
+
+/// What a caller is told for want of places.
+const FULL: &str = "C2 history full";
 
 /// A chronicle with a base of 8, a hard limit of 64, four seats, three levels, and so many places.
 fn opened(rt: &impl Abort, alloc: Global, places: u32) -> Chronicle {
@@ -26,99 +29,123 @@ fn terms(base: u32, hard: u32, seats: u8, places: u32, levels: u32, keeping: Kee
     }
 }
 
-/// What seat 0 is answered.
-fn answer(chronicle: &mut Chronicle, alloc: Global, cmd: Cmd) -> Result<Reply, CallFault> {
-    let _ = chronicle.market();
-    chronicle.call(alloc, SeatNo::new(0), cmd)
+/// A chronicle on these terms.
+fn opened_on(rt: &impl Abort, alloc: Global, terms: Terms) -> Chronicle {
+    let Ok(chronicle) = Chronicle::on_terms(alloc, terms) else {
+        panic!(rt; "no chronicle");
+    };
+    chronicle
+}
+
+/// What a call's caller is told: the text of its reply, or why there is none.
+fn text_of(rt: &impl Abort, alloc: Global, answer: &Result<Reply, CallFault>) -> String {
+    let text = match answer {
+        Ok(reply) => reply_text(alloc, reply),
+        Err(fault) => format!(in alloc; "{fault}"),
+    };
+    let Ok(text) = text else {
+        panic!(rt; "no memory");
+    };
+    text
+}
+
+/// Seat 0 gives these commands, and is told this of each.
+fn answers(rt: &impl Abort, alloc: Global, chronicle: &mut Chronicle, commands: &[(Cmd, &str)]) {
+    for (cmd, due) in commands {
+        // That each market has a seat 0 is what this call promises.
+        let _ = chronicle.market();
+        let answer = chronicle.call(alloc, SeatNo::new(0), *cmd);
+        assert!(rt; text_of(rt, alloc, &answer).as_str() == *due);
+    }
 }
 
 /// Opens an arena that asks for one worker.
 fn open_arena(rt: &impl Abort, alloc: Global, chronicle: &mut Chronicle) {
-    let opened = answer(chronicle, alloc, Cmd::Open(8, 1, Level::from_index(1)));
-    assert!(rt; matches!(&opened, Ok(Reply::Opened(arena)) if arena.get() == 1));
-    let asked = answer(chronicle, alloc, Cmd::Request(ArenaId::new(1), 1, 0));
-    assert!(rt; matches!(&asked, Ok(Reply::Requested(1))));
+    let commands = [
+        (Cmd::Open(8, 1, Level::from_index(1)), "arena 1"),
+        (Cmd::Request(ArenaId::new(1), 1, 0), "request 1"),
+    ];
+    answers(rt, alloc, chronicle, &commands);
+}
+
+/// A chronicle of four places, which an arena's opening, its request and seat 0's join have taken.
+fn joined(rt: &impl Abort, alloc: Global) -> Chronicle {
+    let mut chronicle = opened(rt, alloc, 4);
+    open_arena(rt, alloc, &mut chronicle);
+    answers(rt, alloc, &mut chronicle, &[(Cmd::Join, "placed 1")]);
+    assert!(rt; chronicle.free() == 0 && chronicle.len() == 3);
+    chronicle
 }
 
 #[test]
 fn a_placed_seat_keeps_a_place_for_its_leave(rt: HostRuntime) {
-    let alloc = rt.alloc();
-    let mut chronicle = opened(&rt, alloc, 4);
-    open_arena(&rt, alloc, &mut chronicle);
-    let joined = answer(&mut chronicle, alloc, Cmd::Join);
-    assert!(&rt; matches!(&joined, Ok(Reply::Placed(arena)) if arena.get() == 1));
-    for cmd in [Cmd::Show(ArenaId::new(1)), Cmd::Stay] {
-        let refused = answer(&mut chronicle, alloc, cmd);
-        assert!(&rt; matches!(&refused, Err(CallFault::HistoryFull)));
-    }
-    assert!(&rt; chronicle.free() == 0);
-    let left = answer(&mut chronicle, alloc, Cmd::Leave);
-    assert!(&rt; matches!(&left, Ok(Reply::Left(arena)) if arena.get() == 1));
+    let mut chronicle = joined(&rt, rt.alloc());
+    let commands = [
+        (Cmd::Show(ArenaId::new(1)), FULL),
+        (Cmd::Stay, FULL),
+        (Cmd::Leave, "left 1"),
+        (Cmd::Limit, FULL),
+    ];
+    answers(&rt, rt.alloc(), &mut chronicle, &commands);
     assert!(&rt; chronicle.len() == 4);
-    let refused = answer(&mut chronicle, alloc, Cmd::Limit);
-    assert!(&rt; matches!(&refused, Err(CallFault::HistoryFull)));
 }
 
 #[test]
 fn a_join_needs_two_places(rt: HostRuntime) {
-    let alloc = rt.alloc();
-    let mut chronicle = opened(&rt, alloc, 3);
-    open_arena(&rt, alloc, &mut chronicle);
-    let refused = answer(&mut chronicle, alloc, Cmd::Join);
-    assert!(&rt; matches!(&refused, Err(CallFault::HistoryFull)));
-    let due = ArenaView {
-        arena: ArenaId::new(1),
-        request: 1,
-        allot: 1,
-        top: true,
-        active: 0,
-        recall: 0,
-        hire: 1,
-    };
-    let shown = answer(&mut chronicle, alloc, Cmd::Show(ArenaId::new(1)));
-    assert!(&rt; matches!(&shown, Ok(Reply::Shown(view)) if *view == due));
+    let mut chronicle = opened(&rt, rt.alloc(), 3);
+    open_arena(&rt, rt.alloc(), &mut chronicle);
+    let commands = [
+        (Cmd::Join, FULL),
+        (
+            Cmd::Show(ArenaId::new(1)),
+            "arena 1 request 1 allot 1 top yes active 0 recall 0 hire 1",
+        ),
+    ];
+    answers(&rt, rt.alloc(), &mut chronicle, &commands);
     assert!(&rt; chronicle.len() == 3);
+}
+
+/// Why no chronicle was opened.
+fn refusal(opening: Result<Chronicle, OpenFault>) -> Option<OpenFault> {
+    match opening {
+        Ok(_) => None,
+        Err(fault) => Some(fault),
+    }
+}
+
+/// Whether these numbers are refused so, however the chronicle is opened.
+fn is_refused(alloc: Global, terms: &Terms, due: OpenFault) -> bool {
+    let usual = Chronicle::new(alloc, terms.base, terms.hard, terms.seats, terms.places, terms.levels);
+    refusal(usual) == Some(due) && refusal(Chronicle::on_terms(alloc, *terms)) == Some(due)
 }
 
 #[test]
 fn an_opening_is_refused_by_the_first_number_out_of_range(rt: HostRuntime) {
+    let parts = Keeping::InParts;
     let bad = [
-        (0, 0, 0, 0, 0, OpenFault::BadBase),
-        (8, 0, 0, 0, 0, OpenFault::BadHard),
-        (8, 64, 65, 0, 0, OpenFault::BadSeats),
-        (8, 64, 4, 0, 0, OpenFault::BadPlaces),
-        (8, 64, 4, 1_048_577, 9, OpenFault::BadPlaces),
-        (8, 64, 4, 1_048_576, 9, OpenFault::BadLevels),
+        (terms(0, 0, 0, 0, 0, parts), OpenFault::BadBase),
+        (terms(8, 0, 0, 0, 0, parts), OpenFault::BadHard),
+        (terms(8, 64, 65, 0, 0, parts), OpenFault::BadSeats),
+        (terms(8, 64, 4, 0, 0, parts), OpenFault::BadPlaces),
+        (terms(8, 64, 4, 1_048_577, 9, parts), OpenFault::BadPlaces),
+        (terms(8, 64, 4, 1_048_576, 9, parts), OpenFault::BadLevels),
     ];
-    for (base, hard, seats, places, levels, due) in bad {
-        let answer = Chronicle::new(rt.alloc(), base, hard, seats, places, levels);
-        assert!(&rt; matches!(&answer, Err(fault) if *fault == due));
-        for keeping in [Keeping::InParts, Keeping::Nothing] {
-            let terms = terms(base, hard, seats, places, levels, keeping);
-            let answer = Chronicle::on_terms(rt.alloc(), terms);
-            assert!(&rt; matches!(&answer, Err(fault) if *fault == due));
-        }
+    for (terms, due) in &bad {
+        assert!(&rt; is_refused(rt.alloc(), terms, *due));
     }
-    assert!(&rt; Chronicle::new(rt.alloc(), 8, 64, 4, 1_048_576, 3).is_ok());
+    let most = terms(8, 64, 4, 1_048_576, 3, parts);
+    assert!(&rt; refusal(Chronicle::on_terms(rt.alloc(), most)).is_none());
 }
 
 #[test]
 fn what_is_forgotten_takes_no_place(rt: HostRuntime) {
-    let alloc = rt.alloc();
-    let mut chronicle = opened(&rt, alloc, 4);
+    let mut chronicle = joined(&rt, rt.alloc());
     assert!(&rt; chronicle.keeping() == Keeping::Everything);
-    open_arena(&rt, alloc, &mut chronicle);
-    let joined = answer(&mut chronicle, alloc, Cmd::Join);
-    assert!(&rt; matches!(&joined, Ok(Reply::Placed(arena)) if arena.get() == 1));
-    assert!(&rt; chronicle.free() == 0);
     chronicle.forget();
     // The seat that is placed has its place for a Leave still.
-    assert!(&rt; chronicle.free() == 3);
-    assert!(&rt; chronicle.len() == 3);
-    let left = answer(&mut chronicle, alloc, Cmd::Leave);
-    assert!(&rt; matches!(&left, Ok(Reply::Left(arena)) if arena.get() == 1));
-    assert!(&rt; chronicle.free() == 3);
-    assert!(&rt; chronicle.len() == 4);
+    assert!(&rt; chronicle.free() == 3 && chronicle.len() == 3);
+    answers(&rt, rt.alloc(), &mut chronicle, &[(Cmd::Leave, "left 1")]);
+    assert!(&rt; chronicle.free() == 3 && chronicle.len() == 4);
 }
 
 /// An empty vector with room for so many entries.
@@ -129,42 +156,60 @@ fn empty(rt: &impl Abort, alloc: Global, room: usize) -> Vec<Entry> {
     spare
 }
 
+/// The last of these entries is one of this command.
+fn end_with(entries: &[Entry], cmd: &Cmd) -> bool {
+    match entries.last() {
+        Some(entry) => entry.call.cmd == *cmd,
+        None => false,
+    }
+}
+
+/// The entries that are kept are cut out, so many others before them.
+fn cut(rt: &impl Abort, chronicle: &mut Chronicle, spare: Vec<Entry>, before: u64) -> Vec<Entry> {
+    let Some(part) = chronicle.cut(spare) else {
+        panic!(rt; "no part");
+    };
+    assert!(rt; part.from == before);
+    part.entries
+}
+
 #[test]
 fn what_is_cut_out_takes_no_place(rt: HostRuntime) {
     let alloc = rt.alloc();
-    let mut chronicle = opened(&rt, alloc, 4);
-    open_arena(&rt, alloc, &mut chronicle);
-    let joined = answer(&mut chronicle, alloc, Cmd::Join);
-    assert!(&rt; matches!(&joined, Ok(Reply::Placed(arena)) if arena.get() == 1));
+    let mut chronicle = joined(&rt, alloc);
     // The seat that is placed has to keep its memory for a Leave.
     assert!(&rt; chronicle.cut(Vec::new(alloc)).is_none());
-    assert!(&rt; chronicle.free() == 0);
-    let Some(first) = chronicle.cut(empty(&rt, alloc, 1)) else {
-        panic!(&rt; "no part");
-    };
-    assert!(&rt; first.from == 0 && first.entries.len() == 3);
-    assert!(&rt;
-        matches!(first.entries.last(), Some(entry) if matches!(entry.call.cmd, Cmd::Join))
-    );
+    let first = cut(&rt, &mut chronicle, empty(&rt, alloc, 1), 0);
+    assert!(&rt; first.len() == 3 && end_with(&first, &Cmd::Join));
     assert!(&rt; chronicle.free() == 3);
-    let left = answer(&mut chronicle, alloc, Cmd::Leave);
-    assert!(&rt; matches!(&left, Ok(Reply::Left(arena)) if arena.get() == 1));
-    assert!(&rt;
-        matches!(chronicle.kept().last(), Some(entry) if matches!(entry.call.cmd, Cmd::Leave))
-    );
-    let Some(second) = chronicle.cut(first.entries) else {
-        panic!(&rt; "no part");
-    };
-    assert!(&rt; second.from == 3 && second.entries.len() == 1);
-    assert!(&rt;
-        matches!(second.entries.last(), Some(entry) if matches!(entry.call.cmd, Cmd::Leave))
-    );
+    answers(&rt, alloc, &mut chronicle, &[(Cmd::Leave, "left 1")]);
+    assert!(&rt; end_with(chronicle.kept(), &Cmd::Leave));
+    let second = cut(&rt, &mut chronicle, first, 3);
+    assert!(&rt; second.len() == 1 && end_with(&second, &Cmd::Leave));
     // Nobody is placed any more, and nothing was kept: the next part is empty.
-    let Some(third) = chronicle.cut(Vec::new(alloc)) else {
-        panic!(&rt; "no part");
-    };
-    assert!(&rt; third.from == 4 && third.entries.len() == 0);
+    assert!(&rt; cut(&rt, &mut chronicle, Vec::new(alloc), 4).is_empty());
     assert!(&rt; chronicle.len() == 4);
+}
+
+/// Seat 0 gives these commands: whether there was memory for all of them.
+fn are_answered(alloc: Global, chronicle: &mut Chronicle, commands: &[Cmd]) -> bool {
+    for cmd in commands {
+        // That each market has a seat 0 is what this call promises.
+        let _ = chronicle.market();
+        if chronicle.call(alloc, SeatNo::new(0), *cmd).is_err() {
+            return false;
+        }
+    }
+    true
+}
+
+/// The entries of a chronicle with one placed seat are cut out, unless there is no memory.
+fn is_cut(rt: &impl Abort, alloc: Global, chronicle: &mut Chronicle) -> bool {
+    let Ok(spare) = Vec::with_capacity(alloc, 1) else {
+        return false;
+    };
+    assert!(rt; chronicle.cut(spare).is_some());
+    true
 }
 
 #[test]
@@ -175,40 +220,25 @@ fn a_refused_growth_spares_the_leave_after_a_cut(rt: HostRuntime) {
         return;
     };
     let open = Cmd::Open(8, 1, Level::from_index(1));
-    for cmd in [open, Cmd::Request(ArenaId::new(1), 1, 0), Cmd::Join] {
-        if answer(&mut chronicle, alloc, cmd).is_err() {
-            return;
-        }
+    let commands = [open, Cmd::Request(ArenaId::new(1), 1, 0), Cmd::Join];
+    if are_answered(alloc, &mut chronicle, &commands) && is_cut(&rt, alloc, &mut chronicle) {
+        assert!(&rt; are_answered(alloc, &mut chronicle, &[Cmd::Leave]));
+        assert!(&rt; chronicle.market().placed() == 0);
     }
-    let Ok(spare) = Vec::with_capacity(alloc, 1) else {
-        return;
-    };
-    assert!(&rt; chronicle.cut(spare).is_some());
-    let left = answer(&mut chronicle, alloc, Cmd::Leave);
-    assert!(&rt; matches!(&left, Ok(Reply::Left(arena)) if arena.get() == 1));
 }
 
 #[test]
 fn a_chronicle_that_is_cut_in_time_is_never_full(rt: HostRuntime) {
     let alloc = rt.alloc();
-    let Ok(mut chronicle) = Chronicle::on_terms(alloc, terms(8, 64, 4, 4, 3, Keeping::InParts))
-    else {
-        panic!(&rt; "no chronicle");
-    };
+    let mut chronicle = opened_on(&rt, alloc, terms(8, 64, 4, 4, 3, Keeping::InParts));
     assert!(&rt; chronicle.keeping() == Keeping::InParts);
     open_arena(&rt, alloc, &mut chronicle);
+    let visit = [(Cmd::Join, "placed 1"), (Cmd::Leave, "left 1")];
     let mut spare = empty(&rt, alloc, 4);
     for visits in 0_u64..1000 {
-        let Some(part) = chronicle.cut(spare) else {
-            panic!(&rt; "no part");
-        };
-        assert!(&rt; part.from == 2 * visits);
-        assert!(&rt; part.entries.len() == 2);
-        spare = part.entries;
-        let joined = answer(&mut chronicle, alloc, Cmd::Join);
-        assert!(&rt; matches!(&joined, Ok(Reply::Placed(arena)) if arena.get() == 1));
-        let left = answer(&mut chronicle, alloc, Cmd::Leave);
-        assert!(&rt; matches!(&left, Ok(Reply::Left(arena)) if arena.get() == 1));
+        spare = cut(&rt, &mut chronicle, spare, 2 * visits);
+        assert!(&rt; spare.len() == 2);
+        answers(&rt, alloc, &mut chronicle, &visit);
     }
     assert!(&rt; chronicle.len() == 2002);
 }
@@ -216,19 +246,16 @@ fn a_chronicle_that_is_cut_in_time_is_never_full(rt: HostRuntime) {
 #[test]
 fn an_unrecorded_chronicle_that_forgets_each_call_is_never_full(rt: HostRuntime) {
     let alloc = rt.alloc();
-    let Ok(mut chronicle) = Chronicle::on_terms(alloc, terms(8, 64, 1, 3, 3, Keeping::Nothing))
-    else {
-        panic!(&rt; "no chronicle");
-    };
+    let mut chronicle = opened_on(&rt, alloc, terms(8, 64, 1, 3, 3, Keeping::Nothing));
     assert!(&rt; chronicle.keeping() == Keeping::Nothing);
     open_arena(&rt, alloc, &mut chronicle);
+    let join = [(Cmd::Join, "placed 1")];
+    let leave = [(Cmd::Leave, "left 1")];
     for _ in 0_u32..1000 {
         chronicle.forget();
-        let joined = answer(&mut chronicle, alloc, Cmd::Join);
-        assert!(&rt; matches!(&joined, Ok(Reply::Placed(arena)) if arena.get() == 1));
+        answers(&rt, alloc, &mut chronicle, &join);
         chronicle.forget();
-        let left = answer(&mut chronicle, alloc, Cmd::Leave);
-        assert!(&rt; matches!(&left, Ok(Reply::Left(arena)) if arena.get() == 1));
+        answers(&rt, alloc, &mut chronicle, &leave);
     }
     assert!(&rt; chronicle.len() == 2002);
     assert!(&rt; chronicle.market().placed() == 0);

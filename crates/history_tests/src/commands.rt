@@ -30,97 +30,95 @@ fn assigned(market: &Market) -> [u64; 8] {
     assigned
 }
 
+/// A market with this base, a hard limit of 64, four seats, and so many levels.
+fn opened(rt: &impl Abort, alloc: Global, base: u32, levels: u32) -> Market {
+    let Ok(market) = Market::new(alloc, base, 64, 4, levels) else {
+        panic!(rt; "no market");
+    };
+    market
+}
+
+/// Seat 3 of four gives these commands, and is answered so.
+fn answers(rt: &impl Abort, alloc: Global, market: &mut Market, commands: &[(Cmd, &str)]) {
+    for (cmd, due) in commands {
+        assert!(rt; market.seats() == 4);
+        let Ok(reply) = market.apply(alloc, SeatNo::new(3), *cmd) else {
+            panic!(rt; "no reply");
+        };
+        let Ok(text) = reply_text(alloc, &reply) else {
+            panic!(rt; "no text");
+        };
+        assert!(rt; text.as_str() == *due);
+    }
+}
+
 #[test]
 fn three_arenas_share_seven(rt: HostRuntime) {
-    let alloc = rt.alloc();
-    let Ok(mut market) = Market::new(alloc, 8, 64, 4, 3) else {
-        panic!(&rt; "no market");
-    };
-    let Some(level) = Level::new(2) else {
-        panic!(&rt; "no level");
-    };
-    let seat = SeatNo::new(3);
-    for _ in 0..3 {
-        assert!(&rt; market.seats() == 4);
-        let opened = market.apply(alloc, seat, Cmd::Open(8, 1, level));
-        assert!(&rt; matches!(&opened, Ok(Reply::Opened(_))));
-    }
-    for arena in 1..4 {
-        assert!(&rt; market.seats() == 4);
-        let requested = market.apply(alloc, seat, Cmd::Request(ArenaId::new(arena), 5, 0));
-        assert!(&rt; matches!(&requested, Ok(Reply::Requested(5))));
-    }
+    let mut market = opened(&rt, rt.alloc(), 8, 3);
+    let level = Level::from_index(1);
+    let commands = [
+        (Cmd::Open(8, 1, level), "arena 1"),
+        (Cmd::Open(8, 1, level), "arena 2"),
+        (Cmd::Open(8, 1, level), "arena 3"),
+        (Cmd::Request(ArenaId::new(1), 5, 0), "request 5"),
+        (Cmd::Request(ArenaId::new(2), 5, 0), "request 5"),
+        (Cmd::Request(ArenaId::new(3), 5, 0), "request 5"),
+    ];
+    answers(&rt, rt.alloc(), &mut market, &commands);
     assert!(&rt; allots(&market) == [3, 2, 2]);
     assert!(&rt; assigned(&market) == [0, 7, 0, 0, 0, 0, 0, 0]);
 }
 
 #[test]
 fn a_seat_is_placed_and_leaves(rt: HostRuntime) {
-    let alloc = rt.alloc();
-    let Ok(mut market) = Market::new(alloc, 8, 64, 4, 3) else {
-        panic!(&rt; "no market");
-    };
-    let seat = SeatNo::new(3);
+    let mut market = opened(&rt, rt.alloc(), 8, 3);
     let arena = ArenaId::new(1);
-    let wanted = [
-        (Cmd::Open(8, 1, Level::from_index(1)), 0, None),
-        (Cmd::Request(arena, 2, 0), 0, None),
-        (Cmd::Join, 1, Some(arena)),
-        (Cmd::Stay, 1, Some(arena)),
-        (Cmd::Leave, 0, None),
+    let asked = [
+        (Cmd::Open(8, 1, Level::from_index(1)), "arena 1"),
+        (Cmd::Request(arena, 2, 0), "request 2"),
     ];
-    for (cmd, placed, at) in wanted {
+    answers(&rt, rt.alloc(), &mut market, &asked);
+    let steps = [
+        (Cmd::Join, "placed 1", Some(arena)),
+        (Cmd::Stay, "stays 1", Some(arena)),
+        (Cmd::Leave, "left 1", None),
+    ];
+    for (cmd, due, at) in &steps {
+        answers(&rt, rt.alloc(), &mut market, &[(*cmd, *due)]);
+        assert!(&rt; market.placed() == if at.is_some() { 1 } else { 0 });
         assert!(&rt; market.seats() == 4);
-        assert!(&rt; market.apply(alloc, seat, cmd).is_ok());
-        assert!(&rt; market.placed() == placed);
-        assert!(&rt; market.seats() == 4);
-        assert!(&rt; market.arena_of(seat) == at);
+        assert!(&rt; market.arena_of(SeatNo::new(3)) == *at);
     }
 }
 
 #[test]
 fn levels_are_served_in_order(rt: HostRuntime) {
-    let alloc = rt.alloc();
-    let Ok(mut market) = Market::new(alloc, 8, 64, 4, 8) else {
-        panic!(&rt; "no market");
-    };
-    let seat = SeatNo::new(0);
-    for number in 1..4 {
-        assert!(&rt; market.seats() == 4);
-        let Some(level) = Level::new(2 * number) else {
-            panic!(&rt; "no level");
-        };
-        let opened = market.apply(alloc, seat, Cmd::Open(8, 1, level));
-        assert!(&rt; opened.is_ok());
-        let requested = market.apply(alloc, seat, Cmd::Request(ArenaId::new(number), 6, 0));
-        assert!(&rt; requested.is_ok());
-    }
+    let mut market = opened(&rt, rt.alloc(), 8, 8);
+    let commands = [
+        (Cmd::Open(8, 1, Level::from_index(1)), "arena 1"),
+        (Cmd::Request(ArenaId::new(1), 6, 0), "request 6"),
+        (Cmd::Open(8, 1, Level::from_index(3)), "arena 2"),
+        (Cmd::Request(ArenaId::new(2), 6, 0), "request 6"),
+        (Cmd::Open(8, 1, Level::from_index(5)), "arena 3"),
+        (Cmd::Request(ArenaId::new(3), 6, 0), "request 6"),
+    ];
+    answers(&rt, rt.alloc(), &mut market, &commands);
     assert!(&rt; allots(&market) == [6, 1, 0]);
     assert!(&rt; assigned(&market) == [0, 6, 0, 1, 0, 0, 0, 0]);
 }
 
 #[test]
 fn enqueued_work_is_served_at_its_level(rt: HostRuntime) {
-    let alloc = rt.alloc();
-    let Ok(mut market) = Market::new(alloc, 1, 64, 4, 3) else {
-        panic!(&rt; "no market");
-    };
-    let seat = SeatNo::new(0);
-    for number in 1..4 {
-        assert!(&rt; market.seats() == 4);
-        let Some(level) = Level::new(number) else {
-            panic!(&rt; "no level");
-        };
-        let opened = market.apply(alloc, seat, Cmd::Open(8, 1, level));
-        assert!(&rt; opened.is_ok());
-        let mandatory = if number > 1 { 1 } else { 0 };
-        let requested = market.apply(
-            alloc,
-            seat,
-            Cmd::Request(ArenaId::new(number), 2, mandatory),
-        );
-        assert!(&rt; requested.is_ok());
-    }
+    let mut market = opened(&rt, rt.alloc(), 1, 3);
+    let commands = [
+        (Cmd::Open(8, 1, Level::from_index(0)), "arena 1"),
+        (Cmd::Request(ArenaId::new(1), 2, 0), "request 2"),
+        (Cmd::Open(8, 1, Level::from_index(1)), "arena 2"),
+        (Cmd::Request(ArenaId::new(2), 2, 1), "request 2"),
+        (Cmd::Open(8, 1, Level::from_index(2)), "arena 3"),
+        (Cmd::Request(ArenaId::new(3), 2, 1), "request 2"),
+    ];
+    answers(&rt, rt.alloc(), &mut market, &commands);
     assert!(&rt; allots(&market) == [0, 1, 0]);
     assert!(&rt; assigned(&market) == [0, 1, 0, 0, 0, 0, 0, 0]);
 }
@@ -159,7 +157,7 @@ fn calls_are_answered_in_order(rt: HostRuntime) {
     assert!(&rt; matches!(&replies[1], Reply::Refused(Fault::NoArena)));
 }
 
-/// What a new market with the last number 3 answers to each of these commands.
+/// A new market with the last number 3 answers these commands so.
 fn answers_to_three(rt: &impl Abort, alloc: Global, commands: &[(Cmd, &str)]) {
     let Some(last) = LastNumber::new(3) else {
         panic!(rt; "no last number");
@@ -168,17 +166,7 @@ fn answers_to_three(rt: &impl Abort, alloc: Global, commands: &[(Cmd, &str)]) {
         panic!(rt; "no market");
     };
     assert!(rt; market.last() == last);
-    let seat = SeatNo::new(3);
-    for (cmd, due) in commands {
-        assert!(rt; market.seats() == 4);
-        let Ok(reply) = market.apply(alloc, seat, *cmd) else {
-            panic!(rt; "no reply");
-        };
-        let Ok(text) = reply_text(alloc, &reply) else {
-            panic!(rt; "no text");
-        };
-        assert!(rt; text.as_str() == *due);
-    }
+    answers(rt, alloc, &mut market, commands);
 }
 
 #[test]
@@ -232,11 +220,19 @@ fn the_usual_last_number_is_two_to_the_twentieth(rt: HostRuntime) {
     assert!(&rt; market.last().get() == 1_048_576);
 }
 
+/// Why no market was opened.
+fn refusal(opening: Result<Market, OpenFault>) -> Option<OpenFault> {
+    match opening {
+        Ok(_) => None,
+        Err(fault) => Some(fault),
+    }
+}
+
 #[test]
 fn numbers_out_of_range_open_nothing(rt: HostRuntime) {
     let alloc = rt.alloc();
-    assert!(&rt; matches!(Market::new(alloc, 0, 0, 0, 0), Err(OpenFault::BadBase)));
-    assert!(&rt; matches!(Market::new(alloc, 8, 0, 0, 0), Err(OpenFault::BadHard)));
-    assert!(&rt; matches!(Market::new(alloc, 8, 64, 65, 9), Err(OpenFault::BadSeats)));
-    assert!(&rt; matches!(Market::new(alloc, 8, 64, 64, 9), Err(OpenFault::BadLevels)));
+    assert!(&rt; refusal(Market::new(alloc, 0, 0, 0, 0)) == Some(OpenFault::BadBase));
+    assert!(&rt; refusal(Market::new(alloc, 8, 0, 0, 0)) == Some(OpenFault::BadHard));
+    assert!(&rt; refusal(Market::new(alloc, 8, 64, 65, 9)) == Some(OpenFault::BadSeats));
+    assert!(&rt; refusal(Market::new(alloc, 8, 64, 64, 9)) == Some(OpenFault::BadLevels));
 }
