@@ -115,7 +115,14 @@ fn refusal(opening: Result<Chronicle, OpenFault>) -> Option<OpenFault> {
 
 /// Whether these numbers are refused so, however the chronicle is opened.
 fn is_refused(alloc: Global, terms: &Terms, due: OpenFault) -> bool {
-    let usual = Chronicle::new(alloc, terms.base, terms.hard, terms.seats, terms.places, terms.levels);
+    let usual = Chronicle::new(
+        alloc,
+        terms.base,
+        terms.hard,
+        terms.seats,
+        terms.places,
+        terms.levels,
+    );
     refusal(usual) == Some(due) && refusal(Chronicle::on_terms(alloc, *terms)) == Some(due)
 }
 

@@ -1,5 +1,5 @@
 //! The market at its limits.
-ghost use Rattle.std.specs.Prelude.{◌<◌, IfOk};
+ghost use Rattle.std.specs.Prelude.{◌≡◌, ◌<◌, length, IfOk};
 ghost use Rattle.std.specs.List.{All};
 ghost use Rattle.market_types.specs.declared.command.Call.{Call};
 
@@ -11,6 +11,16 @@ use std::alloc::{AllocError, Global};
 use std::process::Abort;
 use std::rt::HostRuntime;
 
+/// A market of three levels.
+fn opened(rt: &impl Abort, alloc: Global, base: u32, hard: u32, seats: u8) -> Market
+    ensures { length result.seats ≡ seats }
+{
+    let Ok(market) = Market::new(alloc, base, hard, seats, 3) else {
+        panic!(rt; "no market");
+    };
+    market
+}
+
 /// The market's answer to seat 0.
 fn answer(rt: &impl Abort, alloc: Global, market: &mut Market, cmd: Cmd) -> Reply {
     let _ = market.seats();
@@ -18,6 +28,22 @@ fn answer(rt: &impl Abort, alloc: Global, market: &mut Market, cmd: Cmd) -> Repl
         panic!(rt; "no memory");
     };
     reply
+}
+
+/// Opens an arena, which has this number, and asks for so many workers.
+fn open_asking(
+    rt: &impl Abort,
+    alloc: Global,
+    market: &mut Market,
+    open: Cmd,
+    number: u32,
+    workers: u16,
+) {
+    let opened = answer(rt, alloc, market, open);
+    assert!(rt; matches!(&opened, Reply::Opened(arena) if arena.get() == number));
+    let request = Cmd::Request(ArenaId::new(number), i32::from(workers), 0);
+    let asked = answer(rt, alloc, market, request);
+    assert!(rt; matches!(&asked, Reply::Requested(total) if *total == u32::from(workers)));
 }
 
 fn level(rt: &impl Abort, number: u32) -> Level {
@@ -29,20 +55,17 @@ fn level(rt: &impl Abort, number: u32) -> Level {
 
 #[test]
 fn a_thousand_arenas_share_all_workers(rt: HostRuntime) {
-    let Ok(mut market) = Market::new(rt.alloc(), 65536, 65535, 4, 3) else {
-        panic!(&rt; "no market");
-    };
+    let mut market = opened(&rt, rt.alloc(), 65536, 65535, 4);
     let normal = level(&rt, 2);
     for number in 1..1025 {
-        let opened = answer(&rt, rt.alloc(), &mut market, Cmd::Open(65535, 0, normal));
-        assert!(&rt; matches!(&opened, Reply::Opened(arena) if arena.get() == number));
-        let asked = answer(
+        open_asking(
             &rt,
             rt.alloc(),
             &mut market,
-            Cmd::Request(ArenaId::new(number), 65535, 0),
+            Cmd::Open(65535, 0, normal),
+            number,
+            65535,
         );
-        assert!(&rt; matches!(asked, Reply::Requested(65535)));
     }
     for number in 1..1025 {
         let Some(view) = market.view(ArenaId::new(number)) else {
@@ -65,15 +88,17 @@ fn a_thousand_arenas_share_all_workers(rt: HostRuntime) {
 /// the next of them past those that are filled, and enters no more than two paths of the tree for each.
 #[test]
 fn joins_pass_over_idle_arenas(rt: HostRuntime) {
-    let Ok(mut market) = Market::new(rt.alloc(), 65, 64, 64, 3) else {
-        panic!(&rt; "no market");
-    };
+    let mut market = opened(&rt, rt.alloc(), 65, 64, 64);
     let normal = level(&rt, 2);
     for number in 1..1025 {
-        let _ = answer(&rt, rt.alloc(), &mut market, Cmd::Open(8, 1, normal));
-        let request = Cmd::Request(ArenaId::new(number), 1, 0);
-        let asked = answer(&rt, rt.alloc(), &mut market, request);
-        assert!(&rt; matches!(asked, Reply::Requested(1)));
+        open_asking(
+            &rt,
+            rt.alloc(),
+            &mut market,
+            Cmd::Open(8, 1, normal),
+            number,
+            1,
+        );
     }
     for joined in 0..64_u8 {
         assert!(&rt; joined < market.seats());
@@ -93,15 +118,17 @@ fn joins_pass_over_idle_arenas(rt: HostRuntime) {
 /// A Join that is placed at the last level has looked at every filled arena of the levels before it, and counts them all.
 #[test]
 fn joins_count_the_levels_before(rt: HostRuntime) {
-    let Ok(mut market) = Market::new(rt.alloc(), 65, 64, 64, 3) else {
-        panic!(&rt; "no market");
-    };
+    let mut market = opened(&rt, rt.alloc(), 65, 64, 64);
     for number in 1..7 {
         let level = level(&rt, (number + 1) / 2);
-        let _ = answer(&rt, rt.alloc(), &mut market, Cmd::Open(8, 1, level));
-        let request = Cmd::Request(ArenaId::new(number), 2, 0);
-        let asked = answer(&rt, rt.alloc(), &mut market, request);
-        assert!(&rt; matches!(asked, Reply::Requested(2)));
+        open_asking(
+            &rt,
+            rt.alloc(),
+            &mut market,
+            Cmd::Open(8, 1, level),
+            number,
+            2,
+        );
     }
     for joined in 0..12_u8 {
         assert!(&rt; joined < market.seats());
@@ -118,9 +145,7 @@ fn joins_count_the_levels_before(rt: HostRuntime) {
 
 #[test]
 fn numbers_run_out(rt: HostRuntime) {
-    let Ok(mut market) = Market::new(rt.alloc(), 8, 64, 4, 3) else {
-        panic!(&rt; "no market");
-    };
+    let mut market = opened(&rt, rt.alloc(), 8, 64, 4);
     let normal = level(&rt, 2);
     for number in 1..1_048_577 {
         let opened = answer(&rt, rt.alloc(), &mut market, Cmd::Open(8, 1, normal));
@@ -139,9 +164,7 @@ fn numbers_run_out(rt: HostRuntime) {
 
 #[test]
 fn stamps_run_out(rt: HostRuntime) {
-    let Ok(mut market) = Market::new(rt.alloc(), 8, 64, 4, 3) else {
-        panic!(&rt; "no market");
-    };
+    let mut market = opened(&rt, rt.alloc(), 8, 64, 4);
     let normal = level(&rt, 2);
     let opened = answer(&rt, rt.alloc(), &mut market, Cmd::Open(8, 1, normal));
     assert!(&rt; matches!(opened, Reply::Opened(_)));
@@ -156,9 +179,7 @@ fn stamps_run_out(rt: HostRuntime) {
 
 #[test]
 fn control_numbers_run_out(rt: HostRuntime) {
-    let Ok(mut market) = Market::new(rt.alloc(), 8, 64, 4, 3) else {
-        panic!(&rt; "no market");
-    };
+    let mut market = opened(&rt, rt.alloc(), 8, 64, 4);
     for number in 1..1_048_577 {
         let made = answer(&rt, rt.alloc(), &mut market, Cmd::Control(5));
         assert!(&rt; matches!(made, Reply::Controlled(control) if control.get() == number));
@@ -188,15 +209,17 @@ fn all_need(reply: &Reply, correction: Correction, arenas: usize) -> bool {
 /// have more of either.
 #[test]
 fn a_thousand_arenas_are_listed(rt: HostRuntime) {
-    let Ok(mut market) = Market::new(rt.alloc(), 65536, 65535, 64, 3) else {
-        panic!(&rt; "no market");
-    };
+    let mut market = opened(&rt, rt.alloc(), 65536, 65535, 64);
     let normal = level(&rt, 2);
     for number in 1..1025 {
-        let _ = answer(&rt, rt.alloc(), &mut market, Cmd::Open(8, 1, normal));
-        let request = Cmd::Request(ArenaId::new(number), 1, 0);
-        let asked = answer(&rt, rt.alloc(), &mut market, request);
-        assert!(&rt; matches!(asked, Reply::Requested(1)));
+        open_asking(
+            &rt,
+            rt.alloc(),
+            &mut market,
+            Cmd::Open(8, 1, normal),
+            number,
+            1,
+        );
     }
     let lists = answer(&rt, rt.alloc(), &mut market, Cmd::Lists);
     assert!(&rt; all_need(&lists, Correction::Hire, 1024));
@@ -222,9 +245,7 @@ fn a_thousand_arenas_are_listed(rt: HostRuntime) {
 
 #[test]
 fn at_most_256_controls_live(rt: HostRuntime) {
-    let Ok(mut market) = Market::new(rt.alloc(), 8, 64, 4, 3) else {
-        panic!(&rt; "no market");
-    };
+    let mut market = opened(&rt, rt.alloc(), 8, 64, 4);
     for _ in 0..256 {
         let made = answer(&rt, rt.alloc(), &mut market, Cmd::Control(5));
         assert!(&rt; matches!(made, Reply::Controlled(_)));
@@ -265,9 +286,7 @@ fn a_market_tells_what_it_was_opened_with(rt: HostRuntime) {
 
 #[test]
 fn a_list_of_commands_is_answered_in_order(rt: HostRuntime) {
-    let Ok(mut market) = Market::new(rt.alloc(), 8, 64, 4, 3) else {
-        panic!(&rt; "no market");
-    };
+    let mut market = opened(&rt, rt.alloc(), 8, 64, 4);
     let seat = SeatNo::new(3);
     let arena = ArenaId::new(1);
     let calls = [
@@ -303,9 +322,7 @@ fn limit_calls(alloc: Global, count: usize) -> Result<Vec<Call>, AllocError>
 
 #[test]
 fn a_long_list_of_commands_is_answered(rt: HostRuntime) {
-    let Ok(mut market) = Market::new(rt.alloc(), 8, 64, 4, 3) else {
-        panic!(&rt; "no market");
-    };
+    let mut market = opened(&rt, rt.alloc(), 8, 64, 4);
     let Ok(calls) = limit_calls(rt.alloc(), 1_048_576) else {
         panic!(&rt; "no memory");
     };

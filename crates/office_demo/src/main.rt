@@ -23,6 +23,8 @@ use crate::work::{Outcome, TERMS, work};
 use byte_devices::WriteSink;
 use journal_replay::write_journal;
 use std::process::ExitCode;
+use std::sync::Wait;
+use std::thread::Threads;
 use std::time::Duration;
 
 /// The exit status where a caller does not find its own calls.
@@ -94,29 +96,29 @@ fn end(rt: &HostRuntime, status: Result<u8, DemoFault>) -> ExitCode {
     ExitCode::from(status)
 }
 
-fn main(rt: HostRuntime) -> ExitCode {
-    let status = match Choice::read(&rt) {
-        Ok(Choice::Work { callers, calls }) => match work(&rt, rt.alloc(), TERMS, callers, calls) {
-            Ok(outcome) => show(&rt, &outcome),
-            Err(fault) => Err(fault),
-        },
-        Ok(
-            Choice::Forever {
-                callers,
-                seconds,
-                recorded,
-            },
-        ) => {
-            let time = Duration::from_secs(u64::from(seconds));
-            match last(&rt, &rt, rt.alloc(), time, callers, recorded) {
-                Ok(lasted) => tell_lasted(&rt, &lasted),
-                Err(fault) => Err(fault),
-            }
+/// Does what the command line asks for, with threads of this handle: the exit status.
+fn run<T: Threads + Wait + Sync>(rt: &HostRuntime, threads: &T) -> Result<u8, DemoFault> {
+    match Choice::read(rt)? {
+        Choice::Work { callers, calls } => {
+            let outcome = work(threads, rt.alloc(), TERMS, callers, calls)?;
+            show(rt, &outcome)
         }
-        Ok(Choice::Help) => tell_usage(&rt, 0),
-        Ok(Choice::Unknown) => tell_usage(&rt, BAD_COMMAND_LINE),
-        Err(fault) => Err(fault),
-    };
+        Choice::Forever {
+            callers,
+            seconds,
+            recorded,
+        } => {
+            let time = Duration::from_secs(u64::from(seconds));
+            let lasted = last(threads, rt, rt.alloc(), time, callers, recorded)?;
+            tell_lasted(rt, &lasted)
+        }
+        Choice::Help => tell_usage(rt, 0),
+        Choice::Unknown => tell_usage(rt, BAD_COMMAND_LINE),
+    }
+}
+
+fn main(rt: HostRuntime) -> ExitCode {
+    let status = run(&rt, &rt);
     end(&rt, status)
 }
 
