@@ -2,8 +2,7 @@
 ghost use Rattle.std.specs.Prelude.{IfOk};
 ghost use Rattle.office_demo.specs.Choices.{IsPossible};
 
-use crate::fault::DemoFault;
-use crate::forever::Record;
+use demo_callers::{DemoFault, Record};
 use std::rt::Env;
 use std::{env, io};
 

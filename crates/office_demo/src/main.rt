@@ -3,24 +3,11 @@
 
 ghost use Rattle.std.specs.Prelude.{◌≡◌};
 
-mod attendant;
 mod choice;
-mod dice;
-mod fault;
-mod forever;
-mod guest;
-mod note;
-mod resident;
-mod visitor;
-mod watch;
-mod work;
-mod writer;
 
 use crate::choice::{Choice, USAGE};
-use crate::fault::DemoFault;
-use crate::forever::{Lasted, last};
-use crate::work::{Outcome, TERMS, work};
 use byte_devices::WriteSink;
+use demo_callers::{DemoFault, Lasted, Outcome, TERMS, last, work};
 use journal_replay::write_journal;
 use std::process::ExitCode;
 use std::sync::Wait;
@@ -121,6 +108,3 @@ fn main(rt: HostRuntime) -> ExitCode {
     let status = run(&rt, &rt);
     end(&rt, status)
 }
-
-#[cfg(test)]
-mod tests;

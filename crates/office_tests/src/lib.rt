@@ -5,6 +5,8 @@
 #[cfg(test)]
 mod crews;
 #[cfg(test)]
+mod demos;
+#[cfg(test)]
 mod endless;
 #[cfg(test)]
 mod exchanges;

@@ -26,6 +26,8 @@ pub enum Turn {
     RequestInParts,
     /// The same, and no entry is kept.
     RequestUnrecorded,
+    /// A Limit, whose own work is next to nothing, and no entry is kept.
+    LimitUnrecorded,
     /// A Show.
     Show,
     /// A Join, a Stay and a Leave.
@@ -34,11 +36,12 @@ pub enum Turn {
 
 impl Turn {
     /// Every turn, as the table has them.
-    pub const ALL: [Turn; 6] = [
+    pub const ALL: [Turn; 7] = [
         Turn::Lock,
         Turn::Request,
         Turn::RequestInParts,
         Turn::RequestUnrecorded,
+        Turn::LimitUnrecorded,
         Turn::Show,
         Turn::Visit,
     ];
@@ -50,6 +53,7 @@ impl Turn {
             Turn::Request => "request",
             Turn::RequestInParts => "request, in parts",
             Turn::RequestUnrecorded => "request, no record",
+            Turn::LimitUnrecorded => "limit, no record",
             Turn::Show => "show",
             Turn::Visit => "join, stay, leave",
         }
@@ -67,7 +71,7 @@ impl Turn {
     pub fn keeping(self) -> Keeping {
         match self {
             Turn::RequestInParts => Keeping::InParts,
-            Turn::RequestUnrecorded => Keeping::Nothing,
+            Turn::RequestUnrecorded | Turn::LimitUnrecorded => Keeping::Nothing,
             _ => Keeping::Everything,
         }
     }
@@ -102,6 +106,7 @@ impl Repeater {
         let arena = self.arena(index);
         match self.turn {
             Turn::Lock | Turn::Show | Turn::Visit => Cmd::Show(arena),
+            Turn::LimitUnrecorded => Cmd::Limit,
             _ if index % 2 == 0 => Cmd::Request(arena, 1, 0),
             _ => Cmd::Request(arena, -1, 0),
         }

@@ -1,0 +1,197 @@
+//! Callers at work for so long, through an office that lasts.
+ghost use Rattle.std.specs.Prelude.{◌≡◌, ◌≤◌, length, vec_len, IfOk};
+ghost use Rattle.edit_history.specs.Chronicled.{market_of};
+ghost use Rattle.edit_history.specs.Places.{placed as seats_placed};
+ghost use Rattle.demo_callers.specs.Records.{most_callers, seats_of};
+
+use crate::attendant::Attendant;
+use crate::fault::DemoFault;
+use crate::guest::Guest;
+use crate::note::LEVELS;
+use crate::watch::Watch;
+use crate::writer::{MOST_SEATS, Writer};
+use byte_devices::WriteSink;
+use edit_history::{Chronicle, Keeping};
+use journal_replay::{Extent, Header, write_header, write_part};
+use market_lock::Closed;
+use market_types::LastNumber;
+use office_crew::{Meeting, Terms, meet};
+use std::alloc::{AllocError, Global};
+use std::rt::HostRuntime;
+use std::sync::Wait;
+use std::thread::Threads;
+use std::time::Duration;
+
+/// The greatest last number: arenas are opened as long as anybody waits.
+const GREATEST_LAST: u32 = 4_294_967_294;
+
+/// What becomes of the entries.
+#[derive(Clone, Copy, Debug, PartialEq, Eq)]
+pub enum Record {
+    /// None is kept.
+    Nothing,
+    /// They are written to standard output as a journal, part by part.
+    Journal,
+}
+
+impl Record {
+    /// How many callers there can be. Who writes the journal has a seat too.
+    pub fn most_callers(self) -> u8
+        ensures { result ≡ most_callers self }
+    {
+        match self {
+            Record::Nothing => 64,
+            Record::Journal => 63,
+        }
+    }
+
+    /// How the office keeps its entries.
+    fn keeping(self) -> Keeping {
+        match self {
+            Record::Nothing => Keeping::Nothing,
+            Record::Journal => Keeping::InParts,
+        }
+    }
+
+    /// What the office is opened with.
+    fn terms(self) -> Terms {
+        Terms {
+            base: BASE,
+            hard: HARD,
+            places: PLACES,
+            levels: LEVELS,
+            last: last_number(),
+            keeping: self.keeping(),
+        }
+    }
+}
+
+const BASE: u32 = 8;
+
+const HARD: u32 = 64;
+
+/// How many entries can wait to be written.
+const PLACES: u32 = 65_536;
+
+/// The last number of an arena, a stamp and a control.
+fn last_number() -> LastNumber {
+    LastNumber::new(GREATEST_LAST).unwrap_or(LastNumber::USUAL)
+}
+
+/// What is left when the time is over.
+#[derive(Drop)]
+pub struct Lasted {
+    /// What the office left.
+    pub closed: Closed,
+    /// How long it was open.
+    pub time: Duration,
+    /// The kilobytes that the process had at a quarter of the time, where the system tells them: the most that a caller saw.
+    pub quarter: Option<u64>,
+    /// And at its end.
+    pub end: Option<u64>,
+}
+
+impl Lasted {
+    /// How many calls were answered in a second.
+    pub fn rate(&self) -> u128 {
+        let calls = u128::from(self.closed.calls) * 1_000;
+        calls.checked_div(self.time.as_millis()).unwrap_or(0)
+    }
+}
+
+/// A guest for each seat, no two of one seed, and who writes the journal, if there is to be one.
+fn attendants<'a>(
+    system: &'a HostRuntime,
+    alloc: Global,
+    watch: &'a Watch<'a, HostRuntime>,
+    callers: u8,
+    recorded: Record,
+) -> Result<Vec<Attendant<'a>>, AllocError>
+    requires few { callers ≤ 64 }
+    ensures each { IfOk result (λ attendants. vec_len attendants ≡ seats_of recorded callers) }
+{
+    let mut attendants = Vec::with_capacity(alloc, usize::from(callers) + 1)?;
+    for seed in 0..callers {
+        let guest = Guest::new(system, watch, u64::from(seed));
+        attendants.push_reserved(Attendant::Guest(guest));
+    }
+    if recorded == Record::Journal {
+        attendants.push_reserved(Attendant::Writer(Writer::new(system, watch)));
+    }
+    Ok(attendants)
+}
+
+/// Writes the header of the journal. Who writes the rest has a seat too.
+fn begin_journal(system: &HostRuntime, alloc: Global, callers: u8) -> Result<(), DemoFault>
+    requires few { callers ≤ 63 }
+{
+    let header = Header {
+        base: BASE,
+        hard: HARD,
+        seats: callers + 1,
+        levels: LEVELS,
+        last: last_number(),
+        extent: Extent::Endless,
+    };
+    let mut output = WriteSink::new(system.stdout());
+    write_header(alloc, header, &mut output)?;
+    Ok(())
+}
+
+/// Writes what the writer has left of the journal, and tells why it stopped where its time was not over.
+fn end_journal(
+    system: &HostRuntime,
+    alloc: Global,
+    attendants: &[Attendant<'_>],
+    chronicle: &mut Chronicle,
+) -> Result<(), DemoFault>
+    ensures log { chronicle.new.log ≡ chronicle.old.log }
+    ensures start { chronicle.new.start ≡ chronicle.old.start }
+{
+    if let Some(stop) = attendants.iter().find_map(Attendant::stop) {
+        return Err(stop);
+    }
+    let Some(part) = chronicle.cut(Vec::with_capacity(alloc, MOST_SEATS)?) else {
+        return Err(DemoFault::Missed);
+    };
+    let mut output = WriteSink::new(system.stdout());
+    write_part(alloc, LEVELS, &part, &mut output)?;
+    Ok(())
+}
+
+/// So many callers call until so much time has gone by, through an office that lasts. `system` is what they look at the clock and
+/// the memory by, and where the journal is written.
+pub fn last<R: Threads + Wait + Sync>(
+    rt: &R,
+    system: &HostRuntime,
+    alloc: Global,
+    time: Duration,
+    callers: u8,
+    recorded: Record,
+) -> Result<Lasted, DemoFault>
+    requires few { callers ≤ most_callers recorded }
+    ensures calls { IfOk result (λ lasted. lasted.closed.calls ≡ length lasted.closed.chronicle.log) }
+    ensures workers { IfOk result (λ lasted. lasted.closed.workers ≡ seats_placed (market_of lasted.closed.chronicle)) }
+{
+    let watch = Watch::new(system, time)?;
+    let attendants = attendants(system, alloc, &watch, callers, recorded)?;
+    if recorded == Record::Journal {
+        begin_journal(system, alloc, callers)?;
+    }
+    let nobody = Vec::<Attendant<'_>>::new(alloc);
+    let met = meet(rt, alloc, recorded.terms(), nobody, attendants);
+    let Meeting {
+        mut closed,
+        openers: _,
+        tasks,
+    } = met.map_err(|unmet| unmet.fault)?;
+    if recorded == Record::Journal {
+        end_journal(system, alloc, &tasks, &mut closed.chronicle)?;
+    }
+    Ok(Lasted {
+        time: watch.elapsed(),
+        quarter: tasks.iter().filter_map(Attendant::quarter).max(),
+        end: tasks.iter().filter_map(Attendant::end).max(),
+        closed,
+    })
+}

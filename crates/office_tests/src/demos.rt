@@ -1,0 +1,120 @@
+//! Callers in threads of their own: each finds its own calls in the one history, which a market of one thread answers alike.
+ghost use Rattle.std.specs.Prelude.{◌≡◌, ◌≤◌};
+
+use demo_callers::{Outcome, Record, TERMS, last, work};
+use edit_history::Chronicle;
+use market_core::Market;
+use market_types::{Entry, push_reply};
+use office_crew::Terms;
+use std::alloc::{AllocError, Global};
+use std::process::Abort;
+use std::rt::HostRuntime;
+use std::sync::Wait;
+use std::thread::Threads;
+use std::time::Duration;
+
+/// The market gives the entry's reply to its command.
+fn answers(
+    rt: &impl Abort,
+    alloc: Global,
+    market: &mut Market,
+    entry: &Entry,
+) -> Result<bool, AllocError> {
+    assert!(rt; entry.call.seat.get() < market.seats());
+    let due = market.apply(alloc, entry.call.seat, entry.call.cmd)?;
+    let (mut due_text, mut told_text) = (Vec::new(alloc), Vec::new(alloc));
+    push_reply(&mut due_text, &due)?;
+    push_reply(&mut told_text, &entry.reply)?;
+    Ok(due_text.as_slice() == told_text.as_slice())
+}
+
+/// A market of one thread answers each call of the chronicle as it was answered.
+fn is_answered_alike(
+    rt: &impl Abort,
+    alloc: Global,
+    chronicle: &Chronicle,
+) -> Result<bool, AllocError>
+    requires whole { chronicle.now.from ≡ 0 }
+{
+    let asked = chronicle.market();
+    let (base, hard) = (asked.base(), asked.hard());
+    let Ok(mut market) = Market::new(alloc, base, hard, asked.seats(), asked.levels()) else {
+        panic!(rt; "no market");
+    };
+    for index in 0..chronicle.len() {
+        if !answers(rt, alloc, &mut market, chronicle.entry(index))? {
+            return Ok(false);
+        }
+    }
+    Ok(true)
+}
+
+/// So many callers meet in one history.
+fn meets<R: Threads + Wait + Sync + Abort>(
+    rt: &R,
+    alloc: Global,
+    terms: Terms,
+    callers: u8,
+    calls: u32,
+) -> Outcome
+    requires { callers ≤ 64 }
+{
+    let Ok(outcome) = work(rt, alloc, terms, callers, calls) else {
+        panic!(rt; "no office");
+    };
+    let chronicle = &outcome.closed.chronicle;
+    assert!(rt; outcome.closed.calls == chronicle.len());
+    assert!(rt; outcome.closed.workers == u64::from(chronicle.market().placed()));
+    assert!(rt; outcome.agreeing == callers);
+    assert!(rt; is_answered_alike(rt, alloc, chronicle) == Ok(true));
+    outcome
+}
+
+#[test]
+fn few_and_many_callers_meet(rt: HostRuntime) {
+    for callers in [1_u8, 2, 8, 64] {
+        let outcome = meets(&rt, rt.alloc(), TERMS, callers, 2_000);
+        assert!(&rt; outcome.closed.calls == 2_000 * u64::from(callers));
+    }
+}
+
+#[test]
+fn sixteen_callers_make_nearly_a_million_calls(rt: HostRuntime) {
+    let outcome = meets(&rt, rt.alloc(), TERMS, 16, 60_000);
+    assert!(&rt; outcome.closed.calls == 960_000);
+}
+
+/// The last places are for placed workers to leave.
+#[test]
+fn a_history_fills_up(rt: HostRuntime) {
+    let terms = Terms {
+        places: 600,
+        ..TERMS
+    };
+    let outcome = meets(&rt, rt.alloc(), terms, 8, 500);
+    let taken = outcome.closed.calls.saturating_add(outcome.closed.workers);
+    assert!(&rt; taken == 599 || taken == 600);
+    assert!(&rt; u64::from(outcome.closed.chronicle.free()) == 600_u64.saturating_sub(taken));
+}
+
+#[test]
+fn an_office_without_calls_is_closed(rt: HostRuntime) {
+    let outcome = meets(&rt, rt.alloc(), TERMS, 64, 0);
+    assert!(&rt; outcome.closed.calls == 0);
+    assert!(&rt; outcome.closed.workers == 0);
+}
+
+/// Each caller looks at the clock behind some calls for the first time.
+#[test]
+fn callers_call_until_the_time_is_over(rt: HostRuntime) {
+    let time = Duration::from_millis(200);
+    let Ok(lasted) = last(&rt, &rt, rt.alloc(), time, 4, Record::Nothing) else {
+        panic!(&rt; "no office");
+    };
+    let closed = &lasted.closed;
+    assert!(&rt; closed.calls >= 4_096);
+    assert!(&rt; closed.chronicle.len() == closed.calls);
+    assert!(&rt; closed.chronicle.kept().is_empty());
+    assert!(&rt; closed.workers == u64::from(closed.chronicle.market().placed()));
+    assert!(&rt; lasted.time >= time && lasted.rate() > 0);
+}
