@@ -1,6 +1,7 @@
 // What thread_bench's table of jobs is measured beside: a bounded queue, and the jobs of a plan run by workers that a market
 // moves, in plain C++. Nothing here is verified, and nothing stands on it.
 //   g++ -std=c++17 -O3 -march=native -pthread jobs.cpp -o /tmp/jobs && /tmp/jobs
+// With -DONETBB and -ltbb (Debian's libtbb-dev) it measures oneTBB's own bounded queue too.
 #include <algorithm>
 #include <atomic>
 #include <charconv>
@@ -14,6 +15,9 @@
 #include <string_view>
 #include <thread>
 #include <vector>
+#ifdef ONETBB
+#include <oneapi/tbb/concurrent_queue.h>
+#endif
 
 using Clock = std::chrono::steady_clock;
 
@@ -105,6 +109,22 @@ private:
     std::vector<T> ring_;
     size_t first_ = 0, count_ = 0;
 };
+
+#ifdef ONETBB
+// The bounded queue that oneTBB has, asked as the others are, without waiting.
+template <class T> class TbbQueue {
+public:
+    explicit TbbQueue(size_t capacity) { queue_.set_capacity(ptrdiff_t(capacity)); }
+    bool push(T job) { return queue_.try_push(job); }
+    std::optional<T> pop() {
+        T job;
+        return queue_.try_pop(job) ? std::optional<T>(job) : std::nullopt;
+    }
+
+private:
+    oneapi::tbb::concurrent_bounded_queue<T> queue_;
+};
+#endif
 
 struct Job {
     uint32_t number = 0, arena = 0;
@@ -324,6 +344,10 @@ int main() {
     row(4, "push, pop", 500'000, [] { return exchange<Queue<uint64_t>>(500'000); });
     row(1, "push, pop, locked", 500'000, [] { return push_and_pop<LockedQueue<uint64_t>>(500'000); });
     row(4, "push, pop, locked", 500'000, [] { return exchange<LockedQueue<uint64_t>>(500'000); });
+#ifdef ONETBB
+    row(1, "push, pop, oneTBB", 500'000, [] { return push_and_pop<TbbQueue<uint64_t>>(500'000); });
+    row(4, "push, pop, oneTBB", 500'000, [] { return exchange<TbbQueue<uint64_t>>(500'000); });
+#endif
     const auto digits = plan("job 1 digits 1\n", 65'536), sums = plan("job 1 sum 1000000\n", 1'024);
     for (uint32_t workers : {1u, 2u, 4u}) row(int(workers), "digits 1", 65'536, [&] { return drive(digits, workers); });
     for (uint32_t workers : {1u, 2u, 4u}) row(int(workers), "sum 1000000", 1'024, [&] { return drive(sums, workers); });

@@ -10,7 +10,7 @@ use std::sync::ledger::Ledger;
 
 /// A caller of an office that lasts.
 #[derive(Drop)]
-pub enum Attendant<'a> {
+pub(crate) enum Attendant<'a> {
     /// It calls as it likes.
     Guest(Guest<'a>),
     /// It writes down what the guests do.
@@ -19,7 +19,7 @@ pub enum Attendant<'a> {
 
 impl Attendant<'_> {
     /// The kilobytes that it saw at a quarter of the time.
-    pub fn quarter(&self) -> Option<u64> {
+    pub(crate) fn quarter(&self) -> Option<u64> {
         match self {
             Attendant::Guest(guest) => guest.quarter,
             Attendant::Writer(_) => None,
@@ -27,7 +27,7 @@ impl Attendant<'_> {
     }
 
     /// And at its end.
-    pub fn end(&self) -> Option<u64> {
+    pub(crate) fn end(&self) -> Option<u64> {
         match self {
             Attendant::Guest(guest) => guest.end,
             Attendant::Writer(_) => None,
@@ -35,7 +35,7 @@ impl Attendant<'_> {
     }
 
     /// Why it stopped before its time was over, if it did.
-    pub fn stop(&self) -> Option<DemoFault> {
+    pub(crate) fn stop(&self) -> Option<DemoFault> {
         let Attendant::Writer(writer) = self else {
             return None;
         };

@@ -6,20 +6,20 @@ use rand_xoshiro::SplitMix64;
 
 /// Numbers at random, the same ones for the same seed.
 #[derive(Debug, Drop)]
-pub struct Dice {
+pub(crate) struct Dice {
     random: SplitMix64,
 }
 
 impl Dice {
     /// Of this seed.
-    pub fn new(seed: u64) -> Self {
+    pub(crate) fn new(seed: u64) -> Self {
         Dice {
             random: SplitMix64::seed_from_u64(seed),
         }
     }
 
     /// A number below `bound`.
-    pub fn below(&mut self, bound: u32) -> u32
+    pub(crate) fn below(&mut self, bound: u32) -> u32
         requires { 0 < bound }
         ensures { result < bound }
     {

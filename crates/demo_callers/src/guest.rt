@@ -26,7 +26,7 @@ const WORKERS: i32 = 3;
 /// It opens an arena, asks for workers and gives them back, works in whatever arena wants it, and at times closes its own and opens
 /// another. It notes nothing of it, so that it takes no more memory however long it calls.
 #[derive(Drop)]
-pub struct Guest<'a> {
+pub(crate) struct Guest<'a> {
     system: &'a HostRuntime,
     watch: &'a Watch<'a, HostRuntime>,
     dice: Dice,
@@ -34,14 +34,18 @@ pub struct Guest<'a> {
     /// Its arena asks for workers.
     asks: bool,
     /// The kilobytes that the process had at a quarter of the time.
-    pub quarter: Option<u64>,
+    pub(crate) quarter: Option<u64>,
     /// And at its end.
-    pub end: Option<u64>,
+    pub(crate) end: Option<u64>,
 }
 
 impl<'a> Guest<'a> {
     /// Of this seed, until the watch has run down.
-    pub fn new(system: &'a HostRuntime, watch: &'a Watch<'a, HostRuntime>, seed: u64) -> Self {
+    pub(crate) fn new(
+        system: &'a HostRuntime,
+        watch: &'a Watch<'a, HostRuntime>,
+        seed: u64,
+    ) -> Self {
         Guest {
             system,
             watch,

@@ -9,11 +9,11 @@ use std::alloc::{AllocError, Global};
 use std::marker::Model;
 
 /// The levels of the demo's market.
-pub const LEVELS: u32 = 3;
+pub(crate) const LEVELS: u32 = 3;
 
 /// A line for each call that was answered.
 #[derive(Debug, Drop)]
-pub struct Notes {
+pub(crate) struct Notes {
     text: Vec<u8>,
     /// There was no memory for some call's line.
     torn: bool,
@@ -50,7 +50,7 @@ impl Model for Notes {
 
 impl Notes {
     /// Of no call.
-    pub fn new(alloc: Global) -> Self
+    pub(crate) fn new(alloc: Global) -> Self
         ensures blank { result ≡ record { text = []; torn = false } }
     {
         Notes {
@@ -60,7 +60,7 @@ impl Notes {
     }
 
     /// One call more was answered.
-    pub fn take(&mut self, cmd: &Cmd, reply: &Reply)
+    pub(crate) fn take(&mut self, cmd: &Cmd, reply: &Reply)
         ensures torn { self.old.torn ≡ true → self.new.torn ≡ true }
         ensures text { self.new.torn ≡ false → self.new.text ≡ self.old.text ++ line_of cmd.now reply.now }
     {
@@ -70,7 +70,12 @@ impl Notes {
     }
 
     /// The chronicle's entries of the seat are these calls, in this order.
-    pub fn agree(&self, alloc: Global, chronicle: &Chronicle, seat: u8) -> Result<bool, AllocError>
+    pub(crate) fn agree(
+        &self,
+        alloc: Global,
+        chronicle: &Chronicle,
+        seat: u8,
+    ) -> Result<bool, AllocError>
         requires whole { chronicle.now.from ≡ 0 }
         ensures torn { IfOk result (λ yes. self.now.torn ≡ true → yes ≡ false) }
         ensures same { IfOk result (λ yes. self.now.torn ≡ false → yes ≡ bytes_eq (notes_of seat chronicle.now.log) self.now.text) }

@@ -9,7 +9,7 @@ const STATUS: &str = "/proc/self/status";
 const NAME: &str = "VmRSS:";
 
 /// The kilobytes of memory that the process has, where the system tells them.
-pub fn resident<H: Files + AllocGlobal>(system: &H) -> Option<u64> {
+pub(crate) fn resident<H: Files + AllocGlobal>(system: &H) -> Option<u64> {
     let status = fs::read_to_string(system, STATUS).ok()?;
     kilobytes(status.as_str())
 }

@@ -13,16 +13,16 @@ const ARENAS: u32 = 24;
 
 /// It calls so many times, what its seed says, and notes what it is answered.
 #[derive(Drop)]
-pub struct Visitor {
+pub(crate) struct Visitor {
     dice: Dice,
     turns: u32,
     newest: ArenaId,
-    pub notes: Notes,
+    pub(crate) notes: Notes,
 }
 
 impl Visitor {
     /// Of this seed, to call so many times.
-    pub fn new(alloc: Global, seed: u64, turns: u32) -> Self {
+    pub(crate) fn new(alloc: Global, seed: u64, turns: u32) -> Self {
         Visitor {
             dice: Dice::new(seed),
             turns,

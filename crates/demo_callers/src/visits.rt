@@ -1,5 +1,7 @@
 //! Callers at work in threads of their own.
 ghost use Rattle.std.specs.Prelude.{◌≡◌, ◌≤◌, length, vec_len, IfOk};
+ghost use Rattle.edit_history.specs.Chronicled.{market_of};
+ghost use Rattle.edit_history.specs.Places.{placed as seats_placed};
 
 use crate::fault::DemoFault;
 use crate::note::LEVELS;
@@ -58,7 +60,8 @@ fn count_agreeing(alloc: Global, closed: &Closed, visitors: &[Visitor]) -> Resul
     Ok(agreeing)
 }
 
-/// So many callers of an office of these terms, which keeps all entries, call so many times each. Neither the journal nor what they noted is written.
+/// So many callers of an office of these terms, which keeps all entries, call so many times each. Neither the journal nor what they
+/// noted is written.
 pub fn work<R: Threads + Wait + Sync>(
     rt: &R,
     alloc: Global,
@@ -67,7 +70,10 @@ pub fn work<R: Threads + Wait + Sync>(
     calls: u32,
 ) -> Result<Outcome, DemoFault>
     requires { callers ≤ 64 }
+    ensures callers { IfOk result (λ outcome. outcome.callers ≡ callers) }
     ensures whole { IfOk result (λ outcome. outcome.closed.chronicle.from ≡ 0) }
+    ensures calls { IfOk result (λ outcome. outcome.closed.calls ≡ length outcome.closed.chronicle.log) }
+    ensures workers { IfOk result (λ outcome. outcome.closed.workers ≡ seats_placed (market_of outcome.closed.chronicle)) }
 {
     let visitors = visitors(alloc, callers, calls)?;
     let nobody = Vec::<Visitor>::new(alloc);

@@ -6,7 +6,7 @@ use std::time::{Duration, Instant};
 
 /// A clock that runs for so long, or until somebody stops it. Where it cannot be read, all of its time has gone by.
 #[derive(Drop)]
-pub struct Watch<'a, H> {
+pub(crate) struct Watch<'a, H> {
     clock: &'a H,
     start: Instant,
     length: Duration,
@@ -15,7 +15,7 @@ pub struct Watch<'a, H> {
 
 impl<'a, H: Clock> Watch<'a, H> {
     /// From now on.
-    pub fn new(clock: &'a H, length: Duration) -> io::Result<Self> {
+    pub(crate) fn new(clock: &'a H, length: Duration) -> io::Result<Self> {
         Ok(Watch {
             clock,
             start: Instant::now(clock)?,
@@ -25,22 +25,22 @@ impl<'a, H: Clock> Watch<'a, H> {
     }
 
     /// How much of the time has gone by, and more where nobody looked in time.
-    pub fn elapsed(&self) -> Duration {
+    pub(crate) fn elapsed(&self) -> Duration {
         self.start.elapsed(self.clock).unwrap_or(Duration::MAX)
     }
 
     /// Whether a quarter of the time has gone by.
-    pub fn is_past_quarter(&self) -> bool {
+    pub(crate) fn is_past_quarter(&self) -> bool {
         self.elapsed() >= self.length / 4
     }
 
     /// Whether all of the time has gone by, or somebody has stopped the clock.
-    pub fn is_over(&self) -> bool {
+    pub(crate) fn is_over(&self) -> bool {
         self.stopped.load(Ordering::SeqCst) || self.elapsed() >= self.length
     }
 
     /// Nobody who looks goes on.
-    pub fn stop(&self) {
+    pub(crate) fn stop(&self) {
         self.stopped.store(true, Ordering::SeqCst);
     }
 }

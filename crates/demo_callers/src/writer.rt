@@ -17,11 +17,11 @@ use std::sync::Wait;
 use std::sync::ledger::Ledger;
 
 /// A vector that entries are cut into has room for one of each seat.
-pub const MOST_SEATS: usize = 64;
+pub(crate) const MOST_SEATS: usize = 64;
 
 /// Why a writer stopped.
 #[derive(Clone, Copy, Debug, PartialEq, Eq)]
-pub enum Stop {
+pub(crate) enum Stop {
     /// The time is over.
     Over,
     /// There was no memory.
@@ -55,16 +55,16 @@ impl From<Missed> for Stop {
 
 /// It cuts the entries of its office out and writes their lines to standard output, part after part, until the time is over.
 #[derive(Drop)]
-pub struct Writer<'a> {
+pub(crate) struct Writer<'a> {
     system: &'a HostRuntime,
     watch: &'a Watch<'a, HostRuntime>,
     /// Why it stopped.
-    pub stop: Stop,
+    pub(crate) stop: Stop,
 }
 
 impl<'a> Writer<'a> {
     /// Until the watch has run down.
-    pub fn new(system: &'a HostRuntime, watch: &'a Watch<'a, HostRuntime>) -> Self {
+    pub(crate) fn new(system: &'a HostRuntime, watch: &'a Watch<'a, HostRuntime>) -> Self {
         Writer {
             system,
             watch,

@@ -1,7 +1,9 @@
-//! Tests of the market, its history, its journal and its explanation, and of how lines are cut: what no clause says, with values
-//! worked out by hand.
+//! Tests of the market and the crates below it, of its history, its journal and its explanation, and of how lines are cut: what no
+//! clause says, with values worked out by hand.
 #![tactic(auto)]
 
+#[cfg(test)]
+mod arenas;
 #[cfg(test)]
 mod checking;
 #[cfg(test)]

@@ -1,5 +1,6 @@
 //! Tests that cross crates: whole scripts answered by the engine over devices in memory, with values worked out by hand
-//! from the market's rules, and the market's own calls at their limits.
+//! from the market's rules, and the market's own calls at their limits; of what threads share, of plans that are driven, and of
+//! growths of memory that are refused.
 #![tactic(auto)]
 
 #[cfg(test)]
@@ -7,13 +8,19 @@ mod devices;
 #[cfg(test)]
 mod drives;
 #[cfg(test)]
+mod driving;
+#[cfg(test)]
 mod endless;
 #[cfg(test)]
 mod explanations;
 #[cfg(test)]
+mod growths;
+#[cfg(test)]
 mod journals;
 #[cfg(test)]
 mod limits;
+#[cfg(test)]
+mod office;
 #[cfg(test)]
 mod plans;
 #[cfg(test)]

@@ -1,0 +1,153 @@
+//! Seats at their arenas, and who is in need.
+ghost use Rattle.std.specs.Prelude.{◌≡◌, ◌≤◌, None, replicate};
+
+use super::lists::pushed;
+use level_list::LevelList;
+use market_types::{ArenaId, Correction, Imbalance, Lists, Row, SeatNo};
+use recall_hire::{Roster, Sharing, first_in_need, list};
+use std::alloc::Global;
+use std::process::Abort;
+use std::rt::HostRuntime;
+
+/// The row of an arena with the number of its stamp.
+fn row(stamp: u32, request: u32) -> Row
+    ensures stamp { result.stamp ≡ stamp }
+    ensures request { result.request ≡ request }
+{
+    Row {
+        stamp,
+        arena: ArenaId::new(stamp),
+        request,
+        mandated: false,
+    }
+}
+
+/// The first arena in need of a level that is assigned so many workers, or all that it asks for.
+fn need(roster: &Roster, rows: &LevelList, workers: u64) -> (Option<ArenaId>, u32) {
+    let demand = rows.demand();
+    first_in_need(roster, &rows.whole(), workers.min(demand), demand)
+}
+
+#[test]
+fn seats_are_counted_at_their_arenas(rt: HostRuntime) {
+    let arena = ArenaId::new(1);
+    // Its slot is that of the other.
+    let other = ArenaId::new(1025);
+    let mut roster = seats(&rt, rt.alloc(), 2);
+    assert!(&rt; roster.seats() == 2);
+    roster.place(SeatNo::new(0), arena);
+    assert!(&rt; roster.active(arena) == 1);
+    assert!(&rt; roster.active(other) == 0);
+    roster.place(SeatNo::new(1), arena);
+    assert!(&rt; roster.active(arena) == 2);
+    assert!(&rt; roster.placed() == 2);
+    assert!(&rt; roster.at(SeatNo::new(1)) == Some(arena));
+    assert!(&rt; roster.unplace(SeatNo::new(0)) == Some(arena));
+    assert!(&rt; roster.unplace(SeatNo::new(0)) == None);
+    assert!(&rt; roster.active(arena) == 1);
+    assert!(&rt; roster.placed() == 1);
+    roster.place(SeatNo::new(0), other);
+    assert!(&rt; roster.active(other) == 1);
+    assert!(&rt; roster.placed() == 2);
+}
+
+/// Arenas 1, 2 and 3, which ask for 2, 5 and 1 workers.
+fn three_arenas(rt: &impl Abort, alloc: Global) -> LevelList {
+    let mut rows = LevelList::new();
+    pushed(rt, alloc, &mut rows, row(1, 2));
+    pushed(rt, alloc, &mut rows, row(2, 5));
+    pushed(rt, alloc, &mut rows, row(3, 1));
+    rows
+}
+
+/// So many seats, none placed.
+fn seats(rt: &impl Abort, alloc: Global, count: u8) -> Roster
+    requires some { 1 ≤ count }
+    requires few { count ≤ 64 }
+    ensures { result ≡ replicate count None }
+{
+    let Ok(roster) = Roster::new(alloc, count) else {
+        panic!(rt; "no memory");
+    };
+    roster
+}
+
+/// Two seats, both at arena 3.
+fn two_placed(rt: &impl Abort, alloc: Global) -> Roster {
+    let mut roster = seats(rt, alloc, 2);
+    roster.place(SeatNo::new(0), ArenaId::new(3));
+    roster.place(SeatNo::new(1), ArenaId::new(3));
+    roster
+}
+
+#[test]
+fn a_worker_goes_to_the_first_arena_in_need(rt: HostRuntime) {
+    let roster = seats(&rt, rt.alloc(), 2);
+    let rows = three_arenas(&rt, rt.alloc());
+    assert!(&rt; need(&roster, &LevelList::new(), 8) == (None, 0));
+    assert!(&rt; need(&roster, &rows, 0) == (None, 0));
+    assert!(&rt; need(&roster, &rows, 8) == (Some(ArenaId::new(3)), 2));
+    let roster = two_placed(&rt, rt.alloc());
+    assert!(&rt; need(&roster, &rows, 8) == (Some(ArenaId::new(2)), 2));
+}
+
+/// What is listed of arenas, where each is allotted all that it asks for, or one worker goes to arena 3.
+#[tactic(auto, using(recall_hire::proofs::Listings::few_actives))]
+fn listed(rt: &impl Abort, alloc: Global, rows: &LevelList, roster: &Roster, all: bool) -> Lists {
+    let mut lists = Lists {
+        arenas: Vec::new(alloc),
+    };
+    let demand = rows.demand();
+    let sharing = if all {
+        Sharing::Carried {
+            workers: demand,
+            demand,
+        }
+    } else {
+        Sharing::Picked {
+            arena: Some(ArenaId::new(3)),
+            workers: 1,
+        }
+    };
+    let _ = roster.seats();
+    let mut unmet = u32::MAX;
+    assert!(rt; list(roster, &rows.whole(), sharing, &mut unmet, &mut lists).is_ok());
+    lists
+}
+
+/// An arena as it is listed.
+fn counted(arena: u32, correction: Correction, count: u32) -> Imbalance {
+    Imbalance {
+        arena: ArenaId::new(arena),
+        correction,
+        count,
+    }
+}
+
+#[test]
+fn counts_are_listed_in_order(rt: HostRuntime) {
+    let rows = three_arenas(&rt, rt.alloc());
+    let roster = two_placed(&rt, rt.alloc());
+    let lists = listed(&rt, rt.alloc(), &rows, &roster, true);
+    let due = [
+        counted(3, Correction::Recall, 1),
+        counted(2, Correction::Hire, 5),
+        counted(1, Correction::Hire, 2),
+    ];
+    assert!(&rt; lists.arenas.as_slice() == due.as_slice());
+    assert!(&rt; lists.len() == 3);
+    let lists = listed(&rt, rt.alloc(), &rows, &roster, false);
+    let due = [counted(3, Correction::Recall, 1)];
+    assert!(&rt; lists.arenas.as_slice() == due.as_slice());
+}
+
+#[test]
+fn an_arena_with_one_worker_of_three_hires_two(rt: HostRuntime) {
+    let mut rows = LevelList::new();
+    pushed(&rt, rt.alloc(), &mut rows, row(1, 3));
+    let mut roster = seats(&rt, rt.alloc(), 2);
+    roster.place(SeatNo::new(0), ArenaId::new(1));
+    let lists = listed(&rt, rt.alloc(), &rows, &roster, true);
+    let due = [counted(1, Correction::Hire, 2)];
+    assert!(&rt; lists.arenas.as_slice() == due.as_slice());
+}
