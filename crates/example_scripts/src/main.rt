@@ -117,7 +117,7 @@ const FAULTY: [&str; 11] = [
 ];
 
 /// The plans of which all jobs are done. What is written of each stands beside it, in `NAME.outcome`.
-const FINISHED: [&str; 2] = ["three_jobs", "no_job"];
+const FINISHED: [&str; 3] = ["three_jobs", "no_job", "enqueued_jobs_alone"];
 
 /// The plans that are refused.
 const REFUSED: [&str; 3] = ["no_text", "a_job_of_no_arena", "only_reserved_slots"];
