@@ -30,6 +30,37 @@ job 1 sum 10
 job 1 digits 9081
 ";
 
+/// The same under a base of one thread, where a control lets two workers in.
+const TWO_BY_CONTROL: &[u8] = b"\
+market 1 64
+arena 8 1 normal 2 0
+control 3
+job 1 sum 10
+job 1 digits 9081
+";
+
+/// The same where the market has one worker.
+const TWO_FOR_ONE: &[u8] = b"\
+market 2 64
+arena 8 1 normal 2 0
+job 1 sum 10
+job 1 digits 9081
+";
+
+/// Eight arenas that ask for as many workers as can be asked for, and a job for the last.
+const MUCH_WANTED: &[u8] = b"\
+market 8 64
+arena 8 1 normal 65535 0
+arena 8 1 normal 65535 0
+arena 8 1 normal 65535 0
+arena 8 1 normal 65535 0
+arena 8 1 normal 65535 0
+arena 8 1 normal 65535 0
+arena 8 1 normal 65535 0
+arena 8 1 normal 65535 0
+job 8 sum 10
+";
+
 /// Holds job 1 until job 2 is done.
 #[derive(Drop)]
 struct SecondFirst {
@@ -106,18 +137,45 @@ fn each_number_of_workers_gives_the_same_answers(rt: HostRuntime) {
     is_answered(&rt, rt.alloc(), PLAN, 16, &due);
 }
 
+/// Job 1 of two, which waits for job 2, is done.
+fn meet<R: Threads + Wait + Sync + Abort>(rt: &R, alloc: Global, text: &[u8]) {
+    let gate = SecondFirst {
+        done: AtomicU64::new(0),
+    };
+    let Ok(done) = drive(rt, alloc, text, 2, &gate) else {
+        panic!(rt; "the jobs did not meet");
+    };
+    assert!(rt; done.len() == 2);
+    assert!(rt; (done[0].number, done[0].value, done[1].number, done[1].value) == (1, 55, 2, 18));
+}
+
 /// This refuses a worker that holds the lock through its job, one thread that runs all jobs, and an end that is always told as want of
 /// memory or as unfinished.
 #[test]
 fn two_jobs_meet(rt: HostRuntime) {
+    meet(&rt, rt.alloc(), TWO_JOBS);
+}
+
+/// This refuses a market whose hard limit is its base.
+#[test]
+fn two_jobs_meet_where_a_control_allows_more_than_the_base(rt: HostRuntime) {
+    meet(&rt, rt.alloc(), TWO_BY_CONTROL);
+}
+
+/// This refuses a market whose base is its hard limit.
+#[test]
+fn two_jobs_do_not_meet_where_the_market_has_one_worker(rt: HostRuntime) {
     let gate = SecondFirst {
         done: AtomicU64::new(0),
     };
-    let Ok(done) = drive(&rt, rt.alloc(), TWO_JOBS, 2, &gate) else {
-        panic!(&rt; "the jobs did not meet");
-    };
-    assert!(&rt; done.len() == 2);
-    assert!(&rt; (done[0].number, done[0].value, done[1].number, done[1].value) == (1, 55, 2, 18));
+    let due = DriveFault::Unfinished;
+    is_refused(&rt, rt.alloc(), TWO_FOR_ONE, 2, &gate, due);
+}
+
+/// This refuses a worker that gives less of a request back than was made, which comes again until the history is full.
+#[test]
+fn what_was_asked_for_is_given_back_at_once(rt: HostRuntime) {
+    is_answered(&rt, rt.alloc(), MUCH_WANTED, 2, &[(1, 55)]);
 }
 
 #[test]
