@@ -7,6 +7,7 @@ mod crowd;
 mod fault;
 mod jobs;
 mod measure;
+mod mutexed;
 mod queues;
 mod repeater;
 mod table;

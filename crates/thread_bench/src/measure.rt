@@ -2,7 +2,9 @@
 use crate::calls::Scene;
 use crate::fault::BenchFault;
 use crate::jobs::Shift;
+use crate::mutexed;
 use crate::queues::Exchange;
+use crate::repeater::Turn;
 use std::alloc::Global;
 use std::rt::Clock;
 use std::sync::Wait;
@@ -17,6 +19,8 @@ pub const ROUNDS: usize = 7;
 pub enum Subject<'a> {
     /// Calls through an office.
     Calls(Scene),
+    /// Requests to a market of so many arenas behind a mutex.
+    Mutexed(u32),
     /// A queue of jobs.
     Queue(Exchange),
     /// The jobs of a plan.
@@ -32,6 +36,7 @@ impl Subject<'_> {
     ) -> Result<u64, BenchFault> {
         match self {
             Subject::Calls(scene) => scene.round(rt, alloc),
+            Subject::Mutexed(arenas) => mutexed::round(rt, alloc, arenas),
             Subject::Queue(exchange) => exchange.round(rt, alloc),
             Subject::Plan(shift) => shift.round(rt, alloc),
         }
@@ -41,6 +46,7 @@ impl Subject<'_> {
     fn turns(self) -> u64 {
         match self {
             Subject::Calls(scene) => scene.turns(),
+            Subject::Mutexed(_) => u64::from(Turn::Request.times()),
             Subject::Queue(exchange) => exchange.turns(),
             Subject::Plan(shift) => shift.turns(),
         }

@@ -100,7 +100,7 @@ impl Repeater {
     }
 
     /// The command of a turn that moves no seat.
-    fn cmd(&self, index: u32) -> Cmd
+    pub fn cmd(&self, index: u32) -> Cmd
         ensures still { moves_seat result ≡ false }
     {
         let arena = self.arena(index);

@@ -73,6 +73,19 @@ fn print_row<R: Clock + Threads + Wait + Sync + AllocGlobal + Print>(
     Ok(())
 }
 
+/// Prints the row of a market behind a mutex.
+fn print_mutexed<R: Clock + Threads + Wait + Sync + AllocGlobal + Print>(
+    rt: &R,
+    content: Content,
+) -> Result<(), BenchFault> {
+    print!(rt; "{:>7}  {:<18}", 1, "request, mutex")?;
+    for arenas in ARENAS {
+        print_cell(rt, content, Subject::Mutexed(arenas))?;
+    }
+    println!(rt; "")?;
+    Ok(())
+}
+
 /// Prints the rows of so many threads.
 fn print_rows<R: Clock + Threads + Wait + Sync + AllocGlobal + Print>(
     rt: &R,
@@ -85,12 +98,13 @@ fn print_rows<R: Clock + Threads + Wait + Sync + AllocGlobal + Print>(
     Ok(())
 }
 
-/// Prints the table of calls. Counts are those of one thread: of more threads they differ from run to run.
+/// Prints the table of calls, that of a market behind a mutex first. Counts are those of one thread: of more threads they differ from run to run.
 fn print_calls<R: Clock + Threads + Wait + Sync + AllocGlobal + Print>(
     rt: &R,
     content: Content,
 ) -> Result<(), BenchFault> {
     print_head(rt, content)?;
+    print_mutexed(rt, content)?;
     for crowd in Crowd::ALL {
         if content == Content::Times || crowd == Crowd::One {
             print_rows(rt, content, crowd)?;
