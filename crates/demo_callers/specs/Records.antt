@@ -1,5 +1,8 @@
 -- Who calls at an office that lasts (own).
 use Rattle.std.specs.Prelude.{◌+◌, ℕ}
+use Rattle.market_types.specs.State.{State, opening_to}
+use Rattle.edit_history.specs.declared.keeping.Keeping.{Keeping}
+use Rattle.edit_history.specs.declared.keeping.Keeping.TheVariants.{InParts, Nothing}
 use Rattle.demo_callers.specs.declared.forever.Record.{Record}
 use Rattle.demo_callers.specs.declared.forever.Record.TheVariants.{Nothing as NoRecord, Journal}
 
@@ -12,3 +15,12 @@ most_callers Journal = 63
 abbrev pub seats_of : Record → ℕ → ℕ
 seats_of NoRecord callers = callers
 seats_of Journal callers = callers + 1
+
+-- what becomes a journal is cut out in parts
+abbrev pub keeping_of : Record → Keeping
+keeping_of NoRecord = Nothing
+keeping_of Journal = InParts
+
+-- the market that so many seats call at: its numbers last as long as numbers can
+abbrev pub lasting : ℕ → State
+lasting seats = opening_to 8 64 seats 3 4294967294

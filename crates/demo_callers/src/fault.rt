@@ -1,4 +1,6 @@
 //! Why the demo stops.
+ghost use Rattle.std.specs.Prelude.{◌≡◌};
+
 use byte_devices::OutFault;
 use market_types::OpenFault;
 use std::alloc::AllocError;
@@ -26,13 +28,18 @@ pub enum DemoFault {
 }
 
 impl From<AllocError> for DemoFault {
-    fn from(_error: AllocError) -> DemoFault {
+    fn from(_error: AllocError) -> DemoFault
+        ensures { result ≡ DemoFault.Memory }
+    {
         DemoFault::Memory
     }
 }
 
 impl From<OpenFault> for DemoFault {
-    fn from(fault: OpenFault) -> DemoFault {
+    fn from(fault: OpenFault) -> DemoFault
+        ensures memory { fault ≡ OpenFault.Memory → result ≡ DemoFault.Memory }
+        ensures closed { (fault ≡ OpenFault.Memory → ⊥) → result ≡ DemoFault.Closed }
+    {
         match fault {
             OpenFault::Memory => DemoFault::Memory,
             _ => DemoFault::Closed,
@@ -41,7 +48,10 @@ impl From<OpenFault> for DemoFault {
 }
 
 impl From<OutFault> for DemoFault {
-    fn from(fault: OutFault) -> DemoFault {
+    fn from(fault: OutFault) -> DemoFault
+        ensures memory { fault ≡ OutFault.Memory → result ≡ DemoFault.Memory }
+        ensures write { fault ≡ OutFault.Write → result ≡ DemoFault.Write }
+    {
         match fault {
             OutFault::Memory => DemoFault::Memory,
             OutFault::Write => DemoFault::Write,

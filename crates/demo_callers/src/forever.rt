@@ -1,8 +1,9 @@
 //! Callers at work for so long, through an office that lasts.
-ghost use Rattle.std.specs.Prelude.{◌≡◌, ◌≤◌, length, vec_len, IfOk};
+ghost use Rattle.std.specs.Prelude.{◌≡◌, ◌≤◌, ℕ, length, vec_len, IfOk};
+ghost use Rattle.market_types.specs.State.{opening_to};
 ghost use Rattle.edit_history.specs.Chronicled.{market_of};
 ghost use Rattle.edit_history.specs.Places.{placed as seats_placed};
-ghost use Rattle.demo_callers.specs.Records.{most_callers, seats_of};
+ghost use Rattle.demo_callers.specs.Records.{most_callers, seats_of, keeping_of, lasting};
 
 use crate::attendant::Attendant;
 use crate::fault::DemoFault;
@@ -46,7 +47,9 @@ impl Record {
     }
 
     /// How the office keeps its entries.
-    fn keeping(self) -> Keeping {
+    fn keeping(self) -> Keeping
+        ensures { result ≡ keeping_of self }
+    {
         match self {
             Record::Nothing => Keeping::Nothing,
             Record::Journal => Keeping::InParts,
@@ -54,7 +57,10 @@ impl Record {
     }
 
     /// What the office is opened with.
-    fn terms(self) -> Terms {
+    fn terms(self) -> Terms
+        ensures lasting { (seats : ℕ) → opening_to result.base result.hard seats result.levels result.last ≡ lasting seats }
+        ensures keeping { result.keeping ≡ keeping_of self }
+    {
         Terms {
             base: BASE,
             hard: HARD,
@@ -74,7 +80,9 @@ const HARD: u32 = 64;
 const PLACES: u32 = 65_536;
 
 /// The last number of an arena, a stamp and a control.
-fn last_number() -> LastNumber {
+fn last_number() -> LastNumber
+    ensures { result ≡ 4294967294 }
+{
     LastNumber::new(GREATEST_LAST).unwrap_or(LastNumber::USUAL)
 }
 
@@ -147,6 +155,7 @@ fn end_journal(
 ) -> Result<(), DemoFault>
     ensures log { chronicle.new.log ≡ chronicle.old.log }
     ensures start { chronicle.new.start ≡ chronicle.old.start }
+    ensures keeping { chronicle.new.keeping ≡ chronicle.old.keeping }
 {
     if let Some(stop) = attendants.iter().find_map(Attendant::stop) {
         return Err(stop);
@@ -170,6 +179,8 @@ pub fn last<R: Threads + Wait + Sync>(
     recorded: Record,
 ) -> Result<Lasted, DemoFault>
     requires few { callers ≤ most_callers recorded }
+    ensures start { IfOk result (λ lasted. lasted.closed.chronicle.start ≡ lasting (seats_of recorded callers)) }
+    ensures keeping { IfOk result (λ lasted. lasted.closed.chronicle.keeping ≡ keeping_of recorded) }
     ensures calls { IfOk result (λ lasted. lasted.closed.calls ≡ length lasted.closed.chronicle.log) }
     ensures workers { IfOk result (λ lasted. lasted.closed.workers ≡ seats_placed (market_of lasted.closed.chronicle)) }
 {

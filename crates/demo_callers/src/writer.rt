@@ -33,13 +33,18 @@ pub(crate) enum Stop {
 }
 
 impl From<AllocError> for Stop {
-    fn from(_error: AllocError) -> Stop {
+    fn from(_error: AllocError) -> Stop
+        ensures { result ≡ Stop.Memory }
+    {
         Stop::Memory
     }
 }
 
 impl From<OutFault> for Stop {
-    fn from(fault: OutFault) -> Stop {
+    fn from(fault: OutFault) -> Stop
+        ensures memory { fault ≡ OutFault.Memory → result ≡ Stop.Memory }
+        ensures write { fault ≡ OutFault.Write → result ≡ Stop.Write }
+    {
         match fault {
             OutFault::Memory => Stop::Memory,
             OutFault::Write => Stop::Write,
@@ -48,7 +53,9 @@ impl From<OutFault> for Stop {
 }
 
 impl From<Missed> for Stop {
-    fn from(_missed: Missed) -> Stop {
+    fn from(_missed: Missed) -> Stop
+        ensures { result ≡ Stop.Missed }
+    {
         Stop::Missed
     }
 }

@@ -1,0 +1,13 @@
+use Rattle.std.specs.Prelude.{vec_len}
+use Rattle.std.proofs.Common.{rules, ◌≡◌, ◌+◌, ap, ◌∙◌, arith}
+use Rattle.demo_callers.specs.Records.{seats_of, lasting}
+use Rattle.demo_callers.proofs.forever.last.Goals as goal
+
+pub returns-clause-start : goal.returns-clause-start
+returns-clause-start g c =
+    let none : vec_len c.new-nobody.result ≡ 0 = search rules in
+    let each : vec_len c.in_ok-attendants.attendants ≡ seats_of c.args.recorded c.args.callers = search rules in
+    let all : vec_len c.new-nobody.result + vec_len c.in_ok-attendants.attendants ≡ seats_of c.args.recorded c.args.callers = omega arith in
+    let opened : c.in_ok-closed.closed.chronicle.start ≡ lasting (vec_len c.new-nobody.result + vec_len c.in_ok-attendants.attendants) = search rules in
+    let same : c.if-eq-2.closed.chronicle.start ≡ c.in_ok-closed.closed.chronicle.start = search rules in
+    same ∙ opened ∙ ap lasting all
