@@ -82,7 +82,10 @@ impl Market {
         }
     }
 
+    // Each command's function is inlined, since a reply that goes through memory is read in other pieces than it was written in.
+
     /// A new arena, before all others.
+    #[inline(always)]
     fn open(
         &mut self,
         alloc: Global,
@@ -124,6 +127,7 @@ impl Market {
     }
 
     /// The arena goes, unless a seat is placed at it.
+    #[inline(always)]
     fn close(&mut self, arena: ArenaId) -> (Reply, u64)
         ensures reply { result.0 ≡ (close_step self.old arena).0 }
         ensures next { self.new ≡ (close_step self.old arena).1 }
@@ -145,6 +149,7 @@ impl Market {
     }
 
     /// The arena goes first, at this level.
+    #[inline(always)]
     fn priority(&mut self, arena: ArenaId, level: Level) -> (Reply, u64)
         ensures reply { result.0 ≡ (priority_step self.old arena level).0 }
         ensures next { self.new ≡ (priority_step self.old arena level).1 }
@@ -169,6 +174,7 @@ impl Market {
     }
 
     /// The arena gets other slots, at its place.
+    #[inline(always)]
     fn resize(&mut self, arena: ArenaId, slots: u32, reserved: u32) -> (Reply, u64)
         ensures reply { result.0 ≡ (resize_step self.old arena slots reserved).0 }
         ensures next { self.new ≡ (resize_step self.old arena slots reserved).1 }
@@ -186,6 +192,7 @@ impl Market {
     }
 
     /// Adds to what the arena asks for.
+    #[inline(always)]
     fn request(&mut self, arena: ArenaId, workers: i32, mandatory: i32) -> (Reply, u64)
         ensures reply { result.0 ≡ (request_step self.old arena workers mandatory).0 }
         ensures next { self.new ≡ (request_step self.old arena workers mandatory).1 }
@@ -200,6 +207,7 @@ impl Market {
     }
 
     /// A new limit on parallelism.
+    #[inline(always)]
     fn control(&mut self, value: u32) -> Result<Reply, AllocError>
         ensures reply { IfOk result (λ reply. reply ≡ (control_step self.old value).0) }
         ensures next { OnOk result (self.new ≡ (control_step self.old value).1) }
@@ -215,6 +223,7 @@ impl Market {
     }
 
     /// The control goes.
+    #[inline(always)]
     fn uncontrol(&mut self, control: ControlId) -> Reply
         ensures reply { result ≡ (uncontrol_step self.old control).0 }
         ensures next { self.new ≡ (uncontrol_step self.old control).1 }
@@ -236,6 +245,7 @@ impl Market {
     }
 
     /// An unplaced seat goes to the first arena in need of a worker.
+    #[inline(always)]
     fn join(&mut self, seat: SeatNo) -> (Reply, u64)
         requires seat { seat < length self.old.seats }
         ensures reply { result.0 ≡ (join_from self.old seat (place_of self.old seat)).0 }
@@ -256,6 +266,7 @@ impl Market {
     }
 
     /// The seat stays at its arena, unless that has a worker too many.
+    #[inline(always)]
     fn stay(&mut self, seat: SeatNo) -> (Reply, u64)
         requires seat { seat < length self.old.seats }
         ensures reply { result.0 ≡ (stay_from self.old seat (place_of self.old seat)).0 }
@@ -275,6 +286,7 @@ impl Market {
     }
 
     /// The seat leaves its arena.
+    #[inline(always)]
     fn leave(&mut self, seat: SeatNo) -> Reply
         requires seat { seat < length self.old.seats }
         ensures reply { result ≡ (leave_from self.old seat (place_of self.old seat)).0 }
@@ -297,6 +309,7 @@ impl Market {
     }
 
     /// What is seen of an arena, or that there is none.
+    #[inline(always)]
     fn show(&self, arena: ArenaId) -> (Reply, u64)
         ensures reply { result.0 ≡ (show_step self.now arena).0 }
         ensures entered { least_visits self.now result.0 ≤ result.1 }
@@ -310,6 +323,7 @@ impl Market {
     }
 
     /// The arenas with workers too many, and those with too few.
+    #[inline(always)]
     fn list(&self, alloc: Global) -> Result<(Reply, u64), AllocError>
         ensures reply { IfOk result (λ answer. answer.0 ≡ Listed (counts_of self.now)) }
         ensures entered { IfOk result (λ answer. least_visits self.now answer.0 ≤ answer.1) }
