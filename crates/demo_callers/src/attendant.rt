@@ -1,7 +1,7 @@
 //! Who is at an office that lasts.
-use crate::fault::DemoFault;
 use crate::guest::Guest;
-use crate::writer::{Stop, Writer};
+use crate::writer::Writer;
+use byte_devices::Sink;
 use market_lock::{Office, Pass, Placed};
 use office_crew::{Caller, Task};
 use std::alloc::Global;
@@ -10,14 +10,14 @@ use std::sync::ledger::Ledger;
 
 /// A caller of an office that lasts.
 #[derive(Drop)]
-pub(crate) enum Attendant<'a> {
+pub(crate) enum Attendant<'a, O> {
     /// It calls as it likes.
     Guest(Guest<'a>),
     /// It writes down what the guests do.
-    Writer(Writer<'a>),
+    Writer(Writer<'a, O>),
 }
 
-impl Attendant<'_> {
+impl<O> Attendant<'_, O> {
     /// The kilobytes that it saw at a quarter of the time.
     pub(crate) fn quarter(&self) -> Option<u64> {
         match self {
@@ -33,22 +33,9 @@ impl Attendant<'_> {
             Attendant::Writer(_) => None,
         }
     }
-
-    /// Why it stopped before its time was over, if it did.
-    pub(crate) fn stop(&self) -> Option<DemoFault> {
-        let Attendant::Writer(writer) = self else {
-            return None;
-        };
-        match writer.stop {
-            Stop::Over => None,
-            Stop::Memory => Some(DemoFault::Memory),
-            Stop::Write => Some(DemoFault::Write),
-            Stop::Missed => Some(DemoFault::Missed),
-        }
-    }
 }
 
-impl Task for Attendant<'_> {
+impl<O: Sink> Task for Attendant<'_, O> {
     fn work<C: Ledger, W: Ledger, R: Wait>(
         &mut self,
         rt: &R,

@@ -13,7 +13,7 @@ pub enum DemoFault {
     /// There was no memory.
     #[error("memory")]
     Memory,
-    /// Standard output took no more.
+    /// What the journal is written to took no more.
     #[error("write fault")]
     Write,
     /// The office was not opened.

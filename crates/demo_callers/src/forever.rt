@@ -1,5 +1,6 @@
 //! Callers at work for so long, through an office that lasts.
-ghost use Rattle.std.specs.Prelude.{◌≡◌, ◌≤◌, ℕ, length, vec_len, IfOk};
+ghost use Rattle.std.specs.Prelude.{◌≡◌, ◌≤◌, ◌*◌, ◌/◌, ℕ, false, length, vec_len, IfOk};
+ghost use Rattle.std.specs.Duration.{as_nanos};
 ghost use Rattle.market_types.specs.State.{opening_to};
 ghost use Rattle.edit_history.specs.Chronicled.{market_of};
 ghost use Rattle.edit_history.specs.Places.{placed as seats_placed};
@@ -10,12 +11,12 @@ use crate::fault::DemoFault;
 use crate::guest::Guest;
 use crate::note::LEVELS;
 use crate::watch::Watch;
-use crate::writer::{MOST_SEATS, Writer};
-use byte_devices::WriteSink;
+use crate::writer::Writer;
+use byte_devices::{OutFault, Sink};
 use edit_history::{Chronicle, Keeping};
-use journal_replay::{Extent, Header, write_header, write_part};
+use journal_replay::{Extent, Header, write_header};
 use market_lock::Closed;
-use market_types::LastNumber;
+use market_types::{LastNumber, OpenFault};
 use office_crew::{Meeting, Terms, meet};
 use std::alloc::{AllocError, Global};
 use std::rt::HostRuntime;
@@ -31,7 +32,7 @@ const GREATEST_LAST: u32 = 4_294_967_294;
 pub enum Record {
     /// None is kept.
     Nothing,
-    /// They are written to standard output as a journal, part by part.
+    /// They are written as a journal, part by part.
     Journal,
 }
 
@@ -100,21 +101,24 @@ pub struct Lasted {
 }
 
 impl Lasted {
-    /// How many calls were answered in a second.
-    pub fn rate(&self) -> u128 {
+    /// How many calls were answered in a second, rounded down; 0 where it took less than a millisecond.
+    pub fn rate(&self) -> u128
+        ensures { result ≡ self.now.closed.calls * 1_000 / (as_nanos self.now.time / 1_000_000) }
+    {
         let calls = u128::from(self.closed.calls) * 1_000;
         calls.checked_div(self.time.as_millis()).unwrap_or(0)
     }
 }
 
-/// A guest for each seat, no two of one seed, and who writes the journal, if there is to be one.
-fn attendants<'a>(
+/// A guest for each seat, no two of one seed, and behind them who writes the journal to the output, if there is to be one.
+fn attendants<'a, O: Sink + Drop>(
     system: &'a HostRuntime,
     alloc: Global,
     watch: &'a Watch<'a, HostRuntime>,
     callers: u8,
     recorded: Record,
-) -> Result<Vec<Attendant<'a>>, AllocError>
+    output: O,
+) -> Result<Vec<Attendant<'a, O>>, AllocError>
     requires few { callers ≤ 64 }
     ensures each { IfOk result (λ attendants. vec_len attendants ≡ seats_of recorded callers) }
 {
@@ -124,14 +128,15 @@ fn attendants<'a>(
         attendants.push_reserved(Attendant::Guest(guest));
     }
     if recorded == Record::Journal {
-        attendants.push_reserved(Attendant::Writer(Writer::new(system, watch)));
+        attendants.push_reserved(Attendant::Writer(Writer::new(watch, output)));
     }
     Ok(attendants)
 }
 
 /// Writes the header of the journal. Who writes the rest has a seat too.
-fn begin_journal(system: &HostRuntime, alloc: Global, callers: u8) -> Result<(), DemoFault>
+fn begin_journal<O: Sink>(alloc: Global, callers: u8, output: &mut O) -> Result<(), OutFault>
     requires few { callers ≤ 63 }
+    requires working { O.failed output.old ≡ false }
 {
     let header = Header {
         base: BASE,
@@ -141,68 +146,79 @@ fn begin_journal(system: &HostRuntime, alloc: Global, callers: u8) -> Result<(),
         last: last_number(),
         extent: Extent::Endless,
     };
-    let mut output = WriteSink::new(system.stdout());
-    write_header(alloc, header, &mut output)?;
-    Ok(())
+    write_header(alloc, header, output)
 }
 
-/// Writes what the writer has left of the journal, and tells why it stopped where its time was not over.
-fn end_journal(
-    system: &HostRuntime,
+/// Writes what is left of the journal where somebody writes one, and tells why that ended before its time.
+fn end_journal<O: Sink>(
     alloc: Global,
-    attendants: &[Attendant<'_>],
+    attendants: &mut [Attendant<'_, O>],
     chronicle: &mut Chronicle,
 ) -> Result<(), DemoFault>
     ensures log { chronicle.new.log ≡ chronicle.old.log }
+    ensures market { market_of chronicle.new ≡ market_of chronicle.old }
     ensures start { chronicle.new.start ≡ chronicle.old.start }
     ensures keeping { chronicle.new.keeping ≡ chronicle.old.keeping }
 {
-    if let Some(stop) = attendants.iter().find_map(Attendant::stop) {
-        return Err(stop);
+    match attendants.last_mut() {
+        Some(Attendant::Writer(writer)) => writer.finish(alloc, chronicle),
+        _ => Ok(()),
     }
-    let Some(part) = chronicle.cut(Vec::with_capacity(alloc, MOST_SEATS)?) else {
-        return Err(DemoFault::Missed);
-    };
-    let mut output = WriteSink::new(system.stdout());
-    write_part(alloc, LEVELS, &part, &mut output)?;
-    Ok(())
+}
+
+/// All attend, until the time is over, an office that lasts: what it left, and who attended.
+fn attend<'a, O: Sink + Send + Drop, R: Threads + Wait + Sync>(
+    rt: &R,
+    alloc: Global,
+    recorded: Record,
+    attendants: Vec<Attendant<'a, O>>,
+) -> Result<(Closed, Vec<Attendant<'a, O>>), OpenFault>
+    requires few { vec_len attendants ≤ 64 }
+    ensures start { IfOk result (λ met. met.0.chronicle.start ≡ lasting (vec_len attendants.entry)) }
+    ensures keeping { IfOk result (λ met. met.0.chronicle.keeping ≡ keeping_of recorded) }
+    ensures calls { IfOk result (λ met. met.0.calls ≡ length met.0.chronicle.log) }
+    ensures workers { IfOk result (λ met. met.0.workers ≡ seats_placed (market_of met.0.chronicle)) }
+{
+    let nobody = Vec::<Attendant<'_, O>>::new(alloc);
+    let met = meet(rt, alloc, recorded.terms(), nobody, attendants);
+    let Meeting {
+        closed,
+        openers: _,
+        tasks,
+    } = met.map_err(|unmet| unmet.fault)?;
+    Ok((closed, tasks))
 }
 
 /// So many callers call until so much time has gone by, through an office that lasts. `system` is what they look at the clock and
-/// the memory by, and where the journal is written.
-pub fn last<R: Threads + Wait + Sync>(
+/// the memory by, and `output` takes the journal, if there is to be one.
+pub fn last<O: Sink + Send + Drop, R: Threads + Wait + Sync>(
     rt: &R,
     system: &HostRuntime,
     alloc: Global,
     time: Duration,
     callers: u8,
     recorded: Record,
+    output: O,
 ) -> Result<Lasted, DemoFault>
     requires few { callers ≤ most_callers recorded }
+    requires working { O.failed output ≡ false }
     ensures start { IfOk result (λ lasted. lasted.closed.chronicle.start ≡ lasting (seats_of recorded callers)) }
     ensures keeping { IfOk result (λ lasted. lasted.closed.chronicle.keeping ≡ keeping_of recorded) }
     ensures calls { IfOk result (λ lasted. lasted.closed.calls ≡ length lasted.closed.chronicle.log) }
     ensures workers { IfOk result (λ lasted. lasted.closed.workers ≡ seats_placed (market_of lasted.closed.chronicle)) }
 {
+    let mut output = output;
+    if recorded == Record::Journal {
+        begin_journal(alloc, callers, &mut output)?;
+    }
     let watch = Watch::new(system, time)?;
-    let attendants = attendants(system, alloc, &watch, callers, recorded)?;
-    if recorded == Record::Journal {
-        begin_journal(system, alloc, callers)?;
-    }
-    let nobody = Vec::<Attendant<'_>>::new(alloc);
-    let met = meet(rt, alloc, recorded.terms(), nobody, attendants);
-    let Meeting {
-        mut closed,
-        openers: _,
-        tasks,
-    } = met.map_err(|unmet| unmet.fault)?;
-    if recorded == Record::Journal {
-        end_journal(system, alloc, &tasks, &mut closed.chronicle)?;
-    }
+    let attendants = attendants(system, alloc, &watch, callers, recorded, output)?;
+    let (mut closed, mut attendants) = attend(rt, alloc, recorded, attendants)?;
+    end_journal(alloc, &mut attendants, &mut closed.chronicle)?;
     Ok(Lasted {
         time: watch.elapsed(),
-        quarter: tasks.iter().filter_map(Attendant::quarter).max(),
-        end: tasks.iter().filter_map(Attendant::end).max(),
+        quarter: attendants.iter().filter_map(Attendant::quarter).max(),
+        end: attendants.iter().filter_map(Attendant::end).max(),
         closed,
     })
 }

@@ -1,12 +1,14 @@
 //! A caller that writes down what others do, while they do it.
 ghost use Rattle.std.specs.Prelude.{◌≡◌};
+ghost use Rattle.edit_history.specs.Chronicled.{market_of};
 ghost use Rattle.market_lock.specs.Seen.{IsSamePass};
 
+use crate::fault::DemoFault;
 use crate::note::LEVELS;
 use crate::watch::Watch;
-use byte_devices::WriteSink;
-use edit_history::Part;
-use journal_replay::{OutFault, write_part};
+use byte_devices::{OutFault, Sink};
+use edit_history::{Chronicle, Part};
+use journal_replay::write_part;
 use market_lock::{Office, Pass, Placed};
 use market_types::Entry;
 use office_crew::{Caller, Task};
@@ -17,7 +19,7 @@ use std::sync::Wait;
 use std::sync::ledger::Ledger;
 
 /// A vector that entries are cut into has room for one of each seat.
-pub(crate) const MOST_SEATS: usize = 64;
+const MOST_SEATS: usize = 64;
 
 /// Why a writer stopped.
 #[derive(Clone, Copy, Debug, PartialEq, Eq)]
@@ -26,7 +28,7 @@ pub(crate) enum Stop {
     Over,
     /// There was no memory.
     Memory,
-    /// Standard output took no more.
+    /// The journal's device took no more.
     Write,
     /// The office gave no part, or one that does not go on where the last one ended.
     Missed,
@@ -60,28 +62,36 @@ impl From<Missed> for Stop {
     }
 }
 
-/// It cuts the entries of its office out and writes their lines to standard output, part after part, until the time is over.
+/// It cuts the entries of its office out and writes their lines to its device, part after part, until the time is over.
 #[derive(Drop)]
-pub(crate) struct Writer<'a> {
-    system: &'a HostRuntime,
+pub(crate) struct Writer<'a, O> {
     watch: &'a Watch<'a, HostRuntime>,
+    output: O,
     /// Why it stopped.
-    pub(crate) stop: Stop,
+    stop: Stop,
 }
 
-impl<'a> Writer<'a> {
+impl<'a, O: Sink> Writer<'a, O> {
     /// Until the watch has run down.
-    pub(crate) fn new(system: &'a HostRuntime, watch: &'a Watch<'a, HostRuntime>) -> Self {
+    pub(crate) fn new(watch: &'a Watch<'a, HostRuntime>, output: O) -> Self {
         Writer {
-            system,
             watch,
+            output,
             stop: Stop::Over,
         }
     }
 
+    /// Writes the lines of a part.
+    fn write(&mut self, alloc: Global, part: &Part) -> Result<(), OutFault> {
+        if self.output.failed() {
+            return Err(OutFault::Write);
+        }
+        write_part(alloc, LEVELS, part, &mut self.output)
+    }
+
     /// Writes part after part. It ends with why.
     fn write_parts<C: Ledger, W: Ledger, R: Wait>(
-        &self,
+        &mut self,
         rt: &R,
         alloc: Global,
         office: &Office<C, W>,
@@ -90,17 +100,40 @@ impl<'a> Writer<'a> {
         requires office { scribe.old.pass.table ≡ office.now.table }
         ensures same { IsSamePass scribe.old.pass scribe.new.pass }
     {
-        let mut output = WriteSink::new(self.system.stdout());
         let mut spare = Vec::with_capacity(alloc, MOST_SEATS)?;
         for _ in rt.forever() {
             let is_over = self.watch.is_over();
             let part = scribe.cut(rt, office, spare)?;
-            write_part(alloc, LEVELS, &part, &mut output)?;
+            self.write(alloc, &part)?;
             if is_over {
                 break;
             }
             spare = room_of(part);
         }
+        Ok(())
+    }
+
+    /// Writes what is left of the journal, and tells why it stopped where its time was not over.
+    pub(crate) fn finish(
+        &mut self,
+        alloc: Global,
+        chronicle: &mut Chronicle,
+    ) -> Result<(), DemoFault>
+        ensures log { chronicle.new.log ≡ chronicle.old.log }
+        ensures market { market_of chronicle.new ≡ market_of chronicle.old }
+        ensures start { chronicle.new.start ≡ chronicle.old.start }
+        ensures keeping { chronicle.new.keeping ≡ chronicle.old.keeping }
+    {
+        match self.stop {
+            Stop::Over => {}
+            Stop::Memory => return Err(DemoFault::Memory),
+            Stop::Write => return Err(DemoFault::Write),
+            Stop::Missed => return Err(DemoFault::Missed),
+        }
+        let Some(part) = chronicle.cut(Vec::with_capacity(alloc, MOST_SEATS)?) else {
+            return Err(DemoFault::Missed);
+        };
+        self.write(alloc, &part)?;
         Ok(())
     }
 }
@@ -111,7 +144,7 @@ fn room_of(part: Part) -> Vec<Entry> {
     entries
 }
 
-impl Task for Writer<'_> {
+impl<O: Sink> Task for Writer<'_, O> {
     fn work<C: Ledger, W: Ledger, R: Wait>(
         &mut self,
         rt: &R,

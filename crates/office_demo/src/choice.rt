@@ -1,6 +1,6 @@
 //! The words of the command line.
-ghost use Rattle.std.specs.Prelude.{IfOk};
-ghost use Rattle.office_demo.specs.Choices.{IsPossible};
+ghost use Rattle.std.specs.Prelude.{◌≡◌, IfOk, map};
+ghost use Rattle.office_demo.specs.Choices.{IsPossible, choice_of, choice_of_callers, choice_of_seconds, choice_of_time, choice_of_work, forever_of, work_of};
 
 use demo_callers::{DemoFault, Record};
 use std::rt::Env;
@@ -59,95 +59,111 @@ pub enum Choice {
 
 impl Choice {
     /// Reads the words of the command line. Words that are not UTF-8 are none that the program knows.
-    pub fn read<R: Env + Alloc>(rt: &R) -> Result<Choice, DemoFault>
+    pub fn read<R: Env + AllocGlobal>(rt: &R) -> Result<Choice, DemoFault>
         ensures possible { IfOk result IsPossible }
     {
-        match Choice::of_words(rt) {
-            Ok(choice) => Ok(choice),
-            Err(error) if error.kind() == io::ErrorKind::InvalidData => Ok(Choice::Unknown),
-            Err(error) => Err(DemoFault::from(error)),
+        let words = match env::args(rt) {
+            Ok(args) => args.skip(1).collect::<Vec<String>>(rt.alloc())?,
+            Err(error) if error.kind() == io::ErrorKind::InvalidData => return Ok(Choice::Unknown),
+            Err(error) => return Err(DemoFault::from(error)),
+        };
+        let words: Vec<&str> = words.iter().map(String::as_str).collect(rt.alloc())?;
+        Ok(Choice::of_words(&words))
+    }
+
+    /// What the words behind the program's name choose.
+    fn of_words(words: &[&str]) -> Choice
+        ensures choice { result ≡ choice_of (map (λ s. s.now) words.entry.now) }
+        ensures possible { IsPossible result }
+    {
+        match words.split_first() {
+            None => USUAL,
+            Some((word, words)) if *word == "--forever" => Choice::of_time(words),
+            Some((word, words)) => Choice::of_work(word, words),
         }
     }
 
-    /// What the words choose. An error is that of reading them.
-    fn of_words<R: Env + Alloc>(rt: &R) -> io::Result<Choice>
-        ensures possible { IfOk result IsPossible }
+    /// What a first word that is not `--forever` chooses, with the words behind it.
+    fn of_work(word: &str, words: &[&str]) -> Choice
+        ensures choice { result ≡ choice_of_work word.now (map (λ s. s.now) words.entry.now) }
+        ensures possible { IsPossible result }
     {
-        let mut words = env::args(rt)?;
-        let _program = words.next();
-        let (first, second) = (words.next(), words.next());
-        let (third, fourth) = (words.next(), words.next());
-        if words.next().is_some() {
-            return Ok(Choice::Unknown);
+        match words.split_first() {
+            None if word == "--help" || word == "-h" => Choice::Help,
+            None => Choice::of_numbers(word, "250"),
+            Some((calls, words)) if words.is_empty() => Choice::of_numbers(word, calls),
+            Some(_) => Choice::Unknown,
         }
-        Ok(match (&first, &second, &third, &fourth) {
-            (Some(first), Some(second), Some(third), fourth) => {
-                let fourth = fourth.as_ref().map_or("", String::as_str);
-                Choice::of_more(first.as_str(), second.as_str(), third.as_str(), fourth)
+    }
+
+    /// What the words behind `--forever` choose.
+    fn of_time(words: &[&str]) -> Choice
+        ensures choice { result ≡ choice_of_time (map (λ s. s.now) words.entry.now) }
+        ensures possible { IsPossible result }
+    {
+        match words.split_first() {
+            None => Choice::Unknown,
+            Some((seconds, words)) => Choice::of_seconds(seconds, words),
+        }
+    }
+
+    /// What a time chooses, with the words behind it.
+    fn of_seconds(seconds: &str, words: &[&str]) -> Choice
+        ensures choice { result ≡ choice_of_seconds seconds.now (map (λ s. s.now) words.entry.now) }
+        ensures possible { IsPossible result }
+    {
+        match words.split_first() {
+            None => Choice::of_forever(seconds, "4", Record::Nothing),
+            Some((word, words)) if *word == "--journal" && words.is_empty() => {
+                Choice::of_forever(seconds, "4", Record::Journal)
             }
-            (Some(first), Some(second), None, _) => Choice::of_two(first.as_str(), second.as_str()),
-            (Some(word), None, _, _) => Choice::of_word(word.as_str()),
-            _ => USUAL,
-        })
+            Some((callers, words)) => Choice::of_callers(seconds, callers, words),
+        }
     }
 
-    /// What three words choose, or four where the last one is not empty.
-    fn of_more(first: &str, seconds: &str, third: &str, fourth: &str) -> Choice
+    /// What a time and a number of callers choose, with the words behind them.
+    fn of_callers(seconds: &str, callers: &str, words: &[&str]) -> Choice
+        ensures choice { result ≡ choice_of_callers seconds.now callers.now (map (λ s. s.now) words.entry.now) }
         ensures possible { IsPossible result }
     {
-        match (first, third, fourth) {
-            ("--forever", "--journal", "") => Choice::of_time(seconds, "4", Record::Journal),
-            ("--forever", callers, "--journal") => {
-                Choice::of_time(seconds, callers, Record::Journal)
+        match words.split_first() {
+            None => Choice::of_forever(seconds, callers, Record::Nothing),
+            Some((word, words)) if *word == "--journal" && words.is_empty() => {
+                Choice::of_forever(seconds, callers, Record::Journal)
             }
-            ("--forever", callers, "") => Choice::of_time(seconds, callers, Record::Nothing),
-            _ => Choice::Unknown,
+            Some(_) => Choice::Unknown,
         }
     }
 
-    /// What two words choose.
-    fn of_two(first: &str, second: &str) -> Choice
-        ensures possible { IsPossible result }
-    {
-        match first {
-            "--forever" => Choice::of_time(second, "4", Record::Nothing),
-            callers => Choice::of_numbers(callers, second),
-        }
-    }
-
-    /// What one word chooses.
-    fn of_word(word: &str) -> Choice
-        ensures possible { IsPossible result }
-    {
-        match word {
-            "--help" | "-h" => Choice::Help,
-            callers => Choice::of_numbers(callers, "250"),
-        }
-    }
-
-    /// What two numbers choose.
+    /// What the numbers of callers and of calls choose.
     fn of_numbers(callers: &str, calls: &str) -> Choice
+        ensures choice { result ≡ work_of callers.now calls.now }
         ensures possible { IsPossible result }
     {
-        match (callers.parse(), calls.parse()) {
-            (Ok(callers @ 1..=64), Ok(calls)) => Choice::Work { callers, calls },
-            _ => Choice::Unknown,
+        let (Ok(callers), Ok(calls)) = (callers.parse::<u8>(), calls.parse::<u32>()) else {
+            return Choice::Unknown;
+        };
+        if callers == 0 || callers > 64 {
+            return Choice::Unknown;
         }
+        Choice::Work { callers, calls }
     }
 
-    /// What a time, a number and a record choose.
-    fn of_time(seconds: &str, callers: &str, recorded: Record) -> Choice
+    /// What a time, a number of callers and a record choose.
+    fn of_forever(seconds: &str, callers: &str, recorded: Record) -> Choice
+        ensures choice { result ≡ forever_of seconds.now callers.now recorded }
         ensures possible { IsPossible result }
     {
-        match (callers.parse::<u8>(), seconds.parse()) {
-            (Ok(callers), Ok(seconds)) if callers > 0 && callers <= recorded.most_callers() => {
-                Choice::Forever {
-                    callers,
-                    seconds,
-                    recorded,
-                }
-            }
-            _ => Choice::Unknown,
+        let (Ok(callers), Ok(seconds)) = (callers.parse::<u8>(), seconds.parse::<u32>()) else {
+            return Choice::Unknown;
+        };
+        if callers == 0 || callers > recorded.most_callers() {
+            return Choice::Unknown;
+        }
+        Choice::Forever {
+            callers,
+            seconds,
+            recorded,
         }
     }
 }

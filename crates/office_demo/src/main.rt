@@ -96,7 +96,8 @@ fn run<T: Threads + Wait + Sync>(rt: &HostRuntime, threads: &T) -> Result<u8, De
             recorded,
         } => {
             let time = Duration::from_secs(u64::from(seconds));
-            let lasted = last(threads, rt, rt.alloc(), time, callers, recorded)?;
+            let output = WriteSink::new(rt.stdout());
+            let lasted = last(threads, rt, rt.alloc(), time, callers, recorded, output)?;
             tell_lasted(rt, &lasted)
         }
         Choice::Help => tell_usage(rt, 0),

@@ -1,7 +1,8 @@
 //! Callers in threads of their own: each finds its own calls in the one history, which a market of one thread answers alike.
 ghost use Rattle.std.specs.Prelude.{◌≡◌, ◌≤◌};
 
-use demo_callers::{Outcome, Record, TERMS, last, work};
+use byte_devices::{DeviceFault, Sink, TestSink};
+use demo_callers::{DemoFault, Outcome, Record, TERMS, last, work};
 use edit_history::Chronicle;
 use market_core::Market;
 use market_types::{Entry, push_reply};
@@ -108,7 +109,8 @@ fn an_office_without_calls_is_closed(rt: HostRuntime) {
 #[test]
 fn callers_call_until_the_time_is_over(rt: HostRuntime) {
     let time = Duration::from_millis(200);
-    let Ok(lasted) = last(&rt, &rt, rt.alloc(), time, 4, Record::Nothing) else {
+    let nowhere = TestSink::new(Vec::new(rt.alloc()));
+    let Ok(lasted) = last(&rt, &rt, rt.alloc(), time, 4, Record::Nothing, nowhere) else {
         panic!(&rt; "no office");
     };
     let closed = &lasted.closed;
@@ -117,4 +119,49 @@ fn callers_call_until_the_time_is_over(rt: HostRuntime) {
     assert!(&rt; closed.chronicle.kept().is_empty());
     assert!(&rt; closed.workers == u64::from(closed.chronicle.market().placed()));
     assert!(&rt; lasted.time >= time && lasted.rate() > 0);
+}
+
+/// A device that has room for so many bytes more, and keeps none.
+#[derive(Drop)]
+struct Chute {
+    room: usize,
+    failed: bool,
+}
+
+impl Sink for Chute {
+    ghost use Rattle.std.specs.Prelude.{None};
+
+    ghost taken = { λ _. None };
+
+    ghost failed = { λ s. s.failed };
+
+    fn write(&mut self, bytes: &[u8]) -> Result<usize, DeviceFault> {
+        let count = bytes.len().min(self.room);
+        if count == 0 && !bytes.is_empty() {
+            self.failed = true;
+            return Err(DeviceFault);
+        }
+        self.room -= count;
+        Ok(count)
+    }
+
+    fn failed(&self) -> bool {
+        self.failed
+    }
+}
+
+/// So many entries wait at most to be written, in lines of no more than 128 bytes: the device has room for as many more than twice.
+const ROOM: usize = 3 * 65_536 * 128;
+
+/// Who writes the journal cuts the office's entries out again and again: without that no more than twice as many as can wait are
+/// ever written.
+#[test]
+fn a_journal_goes_on_until_its_device_is_full(rt: HostRuntime) {
+    let device = Chute {
+        room: ROOM,
+        failed: false,
+    };
+    let time = Duration::from_secs(50);
+    let ended = last(&rt, &rt, rt.alloc(), time, 4, Record::Journal, device);
+    assert!(&rt; matches!(&ended, Err(DemoFault::Write)));
 }

@@ -1,6 +1,5 @@
-use Rattle.std.proofs.Common.{◌≡◌, false}
 use Rattle.market_lock.specs.Seen.{IsSamePass}
 use Rattle.demo_callers.proofs.writer.Writer.write_parts.Given as goal
 
 abbrev pub invariant-loop : goal.invariant-loop
-invariant-loop g l = IsSamePass l.fn.scribe.pass l.scribe.pass × (l.output.failed ≡ false)
+invariant-loop g l = IsSamePass l.fn.scribe.pass l.scribe.pass
