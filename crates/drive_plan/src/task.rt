@@ -1,5 +1,5 @@
 //! Tasks, and their answers.
-ghost use Rattle.std.specs.Prelude.{◌≡◌};
+ghost use Rattle.std.specs.Prelude.{◌≡◌, ◌<◌, ◌+◌, ◌^◌};
 ghost use Rattle.drive_plan.specs.Values.{digits_sum, sum_to, value_of};
 
 use market_types::ArenaId;
@@ -13,13 +13,23 @@ pub enum Task {
     Digits(u64),
 }
 
+/// A sum with one number more. It stays a call: the compiler would make a formula of all of them, and a job of a plan is to be the
+/// work that its line says.
+#[inline(never)]
+fn add(sum: u64, number: u64) -> u64
+    requires fits { sum + number < 2 ^ 64 }
+    ensures { result ≡ sum + number }
+{
+    sum + number
+}
+
 /// The sum of the numbers from 1 to `last`.
 fn sum_to(last: u32) -> u64
     ensures { result ≡ sum_to last }
 {
     let mut sum = 0;
     for number in 0..last {
-        sum += u64::from(number) + 1;
+        sum = add(sum, u64::from(number) + 1);
     }
     sum
 }
