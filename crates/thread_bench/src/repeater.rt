@@ -90,25 +90,22 @@ pub struct Repeater {
 }
 
 impl Repeater {
-    /// The arena of this turn: near ones in far turns.
+    /// The arena of this turn: near ones in far turns. There is no division, which would take a part of what is measured.
     fn arena(&self, index: u32) -> ArenaId {
-        let scattered = index.wrapping_mul(2_654_435_761) >> 8;
-        match scattered.checked_rem(self.arenas) {
-            Some(place) => ArenaId::new(place.saturating_add(1)),
-            None => ArenaId::new(1),
-        }
+        let scattered = u64::from(index.wrapping_mul(2_654_435_761));
+        let place = (scattered * u64::from(self.arenas)) >> 32;
+        ArenaId::new(u32::try_from(place).unwrap_or(0).saturating_add(1))
     }
 
     /// The command of a turn that moves no seat.
     pub fn cmd(&self, index: u32) -> Cmd
         ensures still { moves_seat result ≡ false }
     {
-        let arena = self.arena(index);
         match self.turn {
-            Turn::Lock | Turn::Show | Turn::Visit => Cmd::Show(arena),
             Turn::LimitUnrecorded => Cmd::Limit,
-            _ if index % 2 == 0 => Cmd::Request(arena, 1, 0),
-            _ => Cmd::Request(arena, -1, 0),
+            Turn::Lock | Turn::Show | Turn::Visit => Cmd::Show(self.arena(index)),
+            _ if index % 2 == 0 => Cmd::Request(self.arena(index), 1, 0),
+            _ => Cmd::Request(self.arena(index), -1, 0),
         }
     }
 
