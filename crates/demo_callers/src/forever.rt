@@ -1,10 +1,12 @@
 //! Callers at work for so long, through an office that lasts.
-ghost use Rattle.std.specs.Prelude.{◌≡◌, ◌≤◌, ◌*◌, ◌/◌, ℕ, false, length, vec_len, IfOk};
+ghost use Rattle.std.specs.Prelude.{◌≡◌, ◌≤◌, ◌*◌, ◌/◌, ◌++◌, ℕ, codes, false, length, vec_len, IfOk, OnOk};
+ghost use Rattle.std.specs.Io.KnownBytes.{Appends};
 ghost use Rattle.std.specs.Duration.{as_nanos};
 ghost use Rattle.market_types.specs.State.{opening_to};
 ghost use Rattle.edit_history.specs.Chronicled.{market_of};
 ghost use Rattle.edit_history.specs.Places.{placed as seats_placed};
-ghost use Rattle.demo_callers.specs.Records.{most_callers, seats_of, keeping_of, lasting};
+ghost use Rattle.journal_replay.specs.Journal.{header_line};
+ghost use Rattle.demo_callers.specs.Records.{most_callers, seats_of, keeping_of, lasting, header_of};
 
 use crate::attendant::Attendant;
 use crate::fault::DemoFault;
@@ -137,6 +139,7 @@ fn attendants<'a, O: Sink + Drop>(
 fn begin_journal<O: Sink>(alloc: Global, callers: u8, output: &mut O) -> Result<(), OutFault>
     requires few { callers ≤ 63 }
     requires working { O.failed output.old ≡ false }
+    ensures all { OnOk result (Appends (O.taken output.old) (O.taken output.new) (header_line (header_of callers) ++ codes "\n")) }
 {
     let header = Header {
         base: BASE,

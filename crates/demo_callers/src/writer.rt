@@ -1,6 +1,8 @@
 //! A caller that writes down what others do, while they do it.
-ghost use Rattle.std.specs.Prelude.{◌≡◌};
+ghost use Rattle.std.specs.Prelude.{◌≡◌, ◌≤◌, [], drop, vec_capacity, IfOk, OnOk};
+ghost use Rattle.std.specs.Io.KnownBytes.{Appends};
 ghost use Rattle.edit_history.specs.Chronicled.{market_of};
+ghost use Rattle.journal_replay.specs.Journal.{entry_lines};
 ghost use Rattle.market_lock.specs.Seen.{IsSamePass};
 
 use crate::fault::DemoFault;
@@ -82,7 +84,9 @@ impl<'a, O: Sink> Writer<'a, O> {
     }
 
     /// Writes the lines of a part.
-    fn write(&mut self, alloc: Global, part: &Part) -> Result<(), OutFault> {
+    fn write(&mut self, alloc: Global, part: &Part) -> Result<(), OutFault>
+        ensures all { OnOk result (Appends (O.taken self.old.output) (O.taken self.new.output) (entry_lines 3 part.now.entries.items)) }
+    {
         if self.output.failed() {
             return Err(OutFault::Write);
         }
@@ -98,7 +102,9 @@ impl<'a, O: Sink> Writer<'a, O> {
         scribe: &mut Scribe<C, W>,
     ) -> Result<(), Stop>
         requires office { scribe.old.pass.table ≡ office.now.table }
+        requires begins { scribe.old.written ≡ [] }
         ensures same { IsSamePass scribe.old.pass scribe.new.pass }
+        ensures written { OnOk result (Appends (O.taken self.old.output) (O.taken self.new.output) (entry_lines 3 scribe.new.written)) }
     {
         let mut spare = Vec::with_capacity(alloc, MOST_SEATS)?;
         for _ in rt.forever() {
@@ -108,7 +114,7 @@ impl<'a, O: Sink> Writer<'a, O> {
             if is_over {
                 break;
             }
-            spare = room_of(part);
+            spare = room_of(part)?;
         }
         Ok(())
     }
@@ -119,6 +125,7 @@ impl<'a, O: Sink> Writer<'a, O> {
         alloc: Global,
         chronicle: &mut Chronicle,
     ) -> Result<(), DemoFault>
+        ensures written { OnOk result (Appends (O.taken self.old.output) (O.taken self.new.output) (entry_lines 3 (drop chronicle.old.from chronicle.old.log))) }
         ensures log { chronicle.new.log ≡ chronicle.old.log }
         ensures market { market_of chronicle.new ≡ market_of chronicle.old }
         ensures start { chronicle.new.start ≡ chronicle.old.start }
@@ -138,10 +145,16 @@ impl<'a, O: Sink> Writer<'a, O> {
     }
 }
 
-/// What a part that was written leaves is room for the next one.
-fn room_of(part: Part) -> Vec<Entry> {
+/// What a part that was written leaves, with room for an entry of each seat: more of them may be placed now than when the part was
+/// begun.
+fn room_of(part: Part) -> Result<Vec<Entry>, AllocError>
+    ensures { IfOk result (λ room. 64 ≤ vec_capacity room) }
+{
     let Part { from: _, entries } = part;
-    entries
+    let mut room = entries;
+    room.clear();
+    room.reserve(MOST_SEATS)?;
+    Ok(room)
 }
 
 impl<O: Sink> Task for Writer<'_, O> {
