@@ -1,14 +1,12 @@
 //! Tests that cross crates: whole scripts answered by the engine over devices in memory, with values worked out by hand
-//! from the market's rules, and the market's own calls at their limits; of what threads share, of plans that are driven, and of
-//! growths of memory that are refused.
+//! from the market's rules, and the market's own calls at their limits; of plans that are driven, and of growths of memory that
+//! are refused.
 #![tactic(auto)]
 
 #[cfg(test)]
 mod devices;
 #[cfg(test)]
 mod drives;
-#[cfg(test)]
-mod driving;
 #[cfg(test)]
 mod endless;
 #[cfg(test)]
@@ -19,8 +17,6 @@ mod growths;
 mod journals;
 #[cfg(test)]
 mod limits;
-#[cfg(test)]
-mod office;
 #[cfg(test)]
 mod plans;
 #[cfg(test)]
