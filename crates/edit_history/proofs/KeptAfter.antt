@@ -1,6 +1,6 @@
 -- What a chronicle keeps, at the start and after a call.
-use Rattle.std.proofs.Common.{◌≡◌, ℕ, ◌+◌, ◌-◌, ◌<◌, ◌≤◌, List, [], ◌∷◌, ◌++◌, length, append_assoc, length-append, None, refl, ap, sym, ◌∙◌, subst, arith}
-use Rattle.std.proofs.lemmas.List.{length-replicate}
+use Rattle.std.proofs.Common.{◌≡◌, ℕ, ◌+◌, ◌-◌, ◌^◌, ◌<◌, ◌≤◌, List, [], ◌∷◌, ◌++◌, length, append_assoc, length-append, None, refl, ap, sym, ◌∙◌, subst, arith}
+use Rattle.std.proofs.lemmas.List.{length-replicate, append-nil, nil_from_length}
 use Rattle.std.proofs.lemmas.List.Elements.{All-nil, All-push}
 use Rattle.std.specs.List.{All}
 use Rattle.market_types.specs.declared.command.Cmd.{Cmd}
@@ -84,6 +84,26 @@ module _ (start market : State) (past recent : List Entry) (from places capacity
   -- a call that has its places has them besides all entries and all placed seats
   pub kept-room : (free needed : ℕ) → free + ((length (past ++ recent) - from) + placed (state_after start (calls_of (past ++ recent)))) ≡ places → needed ≤ free → length recent + placed market + needed ≤ places
   kept-room free needed sum enough = omega (arith, kept-length, kept-placed)
+
+  -- where all entries are forgotten none is kept
+  pub kept-none : from ≡ length (past ++ recent) → recent ≡ []
+  kept-none all = nil_from_length recent (omega (arith, kept-length, all))
+
+  -- what is kept is forgotten
+  pub kept-forget : (past' : List Entry) (from' : ℕ) → past' ≡ past ++ recent → from' ≡ from + length recent → from' + places < 2 ^ 64 → IsKept start market past' [] from' places capacity
+  kept-forget past' from' is long enough =
+      let log : past' ++ [] ≡ past ++ recent = append-nil past' ∙ is in
+      record {
+        opened = k.opened;
+        legal = subst (λ (l : List Entry). IsLegal start l) (sym log) k.legal;
+        calls = subst (λ (l : List Entry). All (IsCallOf (length start.seats)) l) (sym log) k.calls;
+        market_is = k.market_is ∙ ap (λ (l : List Entry). state_after start (calls_of l)) (sym log);
+        from_is = long ∙ sym kept-long ∙ ap length (sym is);
+        room = omega (arith, k.room);
+        memory = omega (arith, k.memory);
+        few = k.few;
+        countable = enough;
+      }
 
   -- nothing but the memory has grown
   pub kept-same : (market' : State) (recent' : List Entry) (capacity' : ℕ) → market' ≡ market → recent' ≡ recent → capacity ≤ capacity' → IsKept start market' past recent' from places capacity'

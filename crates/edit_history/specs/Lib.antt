@@ -1,4 +1,5 @@
 pub mod Chronicled
+pub mod Answered
 pub mod Places
 pub mod Kept
 pub mod Pasts

@@ -1,10 +1,11 @@
 //! The market and its history.
-ghost use Rattle.std.specs.Prelude.{◌≡◌, ◌+◌, ◌<◌, ◌≤◌, ◌++◌, [], ◌∷◌, Some, length, slice_get, vec_capacity, IfOk, OnErr, IfErr, IsErrOf, IsOk, IfSome, IfNone, OnSome, IsSome};
+ghost use Rattle.std.specs.Prelude.{◌≡◌, ◌+◌, ◌<◌, ◌≤◌, ◌++◌, [], ◌∷◌, true, false, Some, length, slice_get, vec_capacity, IfOk, OnErr, IfErr, IsErrOf, IsOk, IfSome, IfNone, OnSome, IsSome};
 ghost use Rattle.std.specs.List.{All};
 ghost use Rattle.market_types.specs.Reading.{Fits};
 ghost use Rattle.market_types.specs.Step.{step, place_of};
 ghost use Rattle.market_types.specs.History.{IsLegal};
 ghost use Rattle.market_types.specs.Opening.{MemoryAside};
+ghost use Rattle.edit_history.specs.Answered.{IsAnswered};
 ghost use Rattle.edit_history.specs.Chronicled.{entry, market_of, opened_by, opened_chronicle, most_forgotten, HasNumbersOf, IsCallOf, IsOpening};
 ghost use Rattle.edit_history.specs.Parts.{EndsWith};
 ghost use Rattle.edit_history.specs.Places.{placed, takes, taken, LacksPlaces};
@@ -26,7 +27,7 @@ use std::snapshot::Snapshot;
 const MOST_PLACES: u32 = 1_048_576;
 
 /// How long a history is at most whose entries are all forgotten or cut out: with all places after it, 64 bits still count its calls.
-const MOST_FORGOTTEN: u64 = u64::MAX - MOST_PLACES as u64;
+pub const MOST_FORGOTTEN: u64 = u64::MAX - MOST_PLACES as u64;
 
 /// A market whose calls are recorded. Contracts see it as its opening, the history since, and its number of places.
 #[derive(Drop)]
@@ -59,7 +60,8 @@ impl Chronicle {
     /// else `BadLevels`. Then out of memory is `Memory`.
     ///
     /// Entries that are to be cut out in parts are kept until whoever calls has it `cut`. Those that are not to be kept take their
-    /// places until whoever calls has it `forget` them, after each call: two places more than seats are then enough.
+    /// places until whoever calls has it `forget` them, after each call, or none where it has an `answer` that keeps nothing: two
+    /// places more than seats are then enough.
     pub fn on_terms(alloc: Global, terms: Terms) -> Result<Self, OpenFault>
         ensures exact { MemoryAside (opened_by terms) result }
     {
@@ -131,6 +133,27 @@ impl Chronicle {
         ensures from { self.new.from ≡ self.old.from }
         ensures keeping { self.new.keeping ≡ self.old.keeping }
     {
+        self.answer(alloc, seat, cmd, true)
+    }
+
+    /// The same, but where `keeps` is false the entry is forgotten at once: it is an entry of the history, it is never stored,
+    /// and its place is free again. This can be asked only where all entries before are forgotten too, and while the history is
+    /// not longer than 18,446,744,073,708,503,038 entries, so that 64 bits count its calls.
+    #[inline(always)]
+    pub fn answer(
+        &mut self,
+        alloc: Global,
+        seat: SeatNo,
+        cmd: Cmd,
+        keeps: bool,
+    ) -> Result<Reply, CallFault>
+        requires seat { seat < length self.old.start.seats }
+        requires none { keeps ≡ false → self.old.from ≡ length self.old.log }
+        requires countable { keeps ≡ false → self.old.from < most_forgotten }
+        ensures answered { IsAnswered self.old seat cmd result self.new }
+        ensures kept { keeps ≡ true → self.new.from ≡ self.old.from }
+        ensures forgotten { keeps ≡ false → self.new.from ≡ length self.new.log }
+    {
         let call = Call { seat, cmd };
         command_holds_its_numbers(call.cmd);
         let placed = self.market.placed();
@@ -145,6 +168,13 @@ impl Chronicle {
         let Ok(reply) = self.market.apply(alloc, call.seat, call.cmd) else {
             return Err(CallFault::Memory);
         };
+        if !keeps {
+            let entry = Entry { call, reply };
+            self.past.push(&entry);
+            self.from += 1;
+            let Entry { call: _, reply } = entry;
+            return Ok(reply);
+        }
         // Only lists take memory here, and they change nothing.
         let Ok(kept) = reply.copied(alloc) else {
             return Err(CallFault::Memory);

@@ -7,6 +7,6 @@ pub enum Keeping {
     Everything,
     /// Each entry until it is cut out: whoever calls the chronicle takes the entries out in parts, so that its places do not fill up.
     InParts,
-    /// No entry: whoever calls the chronicle has it forget each entry at once, so that its places do not fill up.
+    /// No entry: whoever calls the chronicle has it forget each entry at once, or never store it, so that its places do not fill up.
     Nothing,
 }

@@ -4,8 +4,9 @@
 //! keeps one for its Leave, so that a worker can always leave. Contracts see it as its opening, its history and its places; the
 //! market is what the opening becomes by the history's calls.
 //!
-//! A history need not be kept: a chronicle forgets its entries where it is told to ([`Chronicle::forget`]). They then take no
-//! memory and no place, and can't be read; what is proved of the history is proved of them still.
+//! A history need not be kept: a chronicle forgets its entries where it is told to ([`Chronicle::forget`]), or never stores one
+//! ([`Chronicle::answer`]). They then take no memory and no place, and can't be read; what is proved of the history is proved of
+//! them still.
 //!
 //! Or it is taken out in parts ([`Chronicle::cut`]): what was taken out can be read in its [`Part`], and the parts one after the
 //! other are the history ([`parts_in_a_row_are_the_history`]).
@@ -19,7 +20,7 @@ mod part;
 mod past;
 mod terms;
 
-pub use chronicle::Chronicle;
+pub use chronicle::{Chronicle, MOST_FORGOTTEN};
 pub use fault::CallFault;
 pub use keeping::Keeping;
 pub use law::{

@@ -1,5 +1,5 @@
 //! A history that exists in proofs alone.
-ghost use Rattle.std.specs.Prelude.{◌≡◌, ◌++◌, []};
+ghost use Rattle.std.specs.Prelude.{◌≡◌, ◌++◌, [], ◌∷◌};
 
 use market_types::Entry;
 use std::marker::Model;
@@ -17,6 +17,7 @@ pub(crate) struct Past {
 enum Last {
     Nothing,
     After(Snapshot<Past>, Snapshot<Vec<Entry>>),
+    AfterOne(Snapshot<Past>, Snapshot<Entry>),
 }
 
 impl Model for Past {
@@ -58,5 +59,14 @@ impl Past {
             let before = Snapshot::of(&*self);
             self.last = Last::After(before, Snapshot::of(part));
         }
+    }
+
+    /// This entry comes behind the others. It isn't stored.
+    #[inline(always)]
+    pub(crate) fn push(&mut self, entry: &Entry)
+        ensures { self.new ≡ self.old ++ entry.now ∷ [] }
+    {
+        let before = Snapshot::of(&*self);
+        self.last = Last::AfterOne(before, Snapshot::of(entry));
     }
 }

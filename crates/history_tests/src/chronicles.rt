@@ -1,5 +1,5 @@
 //! Histories that fill up, and what a chronicle answers at its bounds.
-use edit_history::{CallFault, Chronicle, Keeping, Terms};
+use edit_history::{CallFault, Chronicle, Keeping, MOST_FORGOTTEN, Terms};
 use market_types::{ArenaId, Cmd, Entry, LastNumber, Level, OpenFault, Reply, SeatNo, reply_text};
 use std::alloc::Global;
 use std::process::Abort;
@@ -266,6 +266,46 @@ fn an_unrecorded_chronicle_that_forgets_each_call_is_never_full(rt: HostRuntime)
     }
     assert!(&rt; chronicle.len() == 2002);
     assert!(&rt; chronicle.market().placed() == 0);
+}
+
+/// Seat 0 gives these commands, is told this of each, and none of them is kept.
+fn answers_unkept(
+    rt: &impl Abort,
+    alloc: Global,
+    chronicle: &mut Chronicle,
+    commands: &[(Cmd, &str)],
+) {
+    for (cmd, due) in commands {
+        // That each market has a seat 0 is what this call promises.
+        let _ = chronicle.market();
+        assert!(rt; chronicle.len() < MOST_FORGOTTEN);
+        chronicle.forget();
+        let answer = chronicle.answer(alloc, SeatNo::new(0), *cmd, false);
+        assert!(rt; text_of(rt, alloc, &answer).as_str() == *due);
+        assert!(rt; chronicle.kept().is_empty());
+    }
+}
+
+#[test]
+fn an_answer_that_is_not_kept_takes_no_place(rt: HostRuntime) {
+    let alloc = rt.alloc();
+    let mut chronicle = opened(&rt, alloc, 2);
+    let none = [
+        (Cmd::Open(8, 1, Level::from_index(1)), "arena 1"),
+        (Cmd::Request(ArenaId::new(1), 1, 0), "request 1"),
+        (Cmd::Close(ArenaId::new(2)), "F05 no arena"),
+        (Cmd::Join, "placed 1"),
+        (Cmd::Leave, "left 1"),
+    ];
+    answers_unkept(&rt, alloc, &mut chronicle, &none);
+    assert!(&rt; chronicle.len() == 5 && chronicle.free() == 2);
+    let limit = [
+        (Cmd::Limit, "value 8 limit 7 effective 7"),
+        (Cmd::Join, FULL),
+    ];
+    answers(&rt, alloc, &mut chronicle, &limit);
+    assert!(&rt; end_with(chronicle.kept(), &Cmd::Limit));
+    assert!(&rt; chronicle.len() == 6 && chronicle.free() == 1);
 }
 
 #[test]

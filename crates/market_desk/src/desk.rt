@@ -1,8 +1,9 @@
 //! The market with its history, and its book.
-ghost use Rattle.std.specs.Prelude.{◌≡◌, ℕ, ◌+◌, ◌-◌, ◌<◌, ◌≤◌, ◌++◌, [], ◌∷◌, length, IfOk, OnOk, OnErr, IfErr, IsErrOf, IsOk, vec_capacity, IfSome, IfNone, OnSome, IsSome};
+ghost use Rattle.std.specs.Prelude.{◌≡◌, ℕ, ◌+◌, ◌<◌, ◌≤◌, ◌++◌, [], ◌∷◌, length, IfOk, OnOk, OnErr, IfErr, IsErrOf, IsOk, vec_capacity, IfSome, IfNone, OnSome, IsSome};
 ghost use Rattle.market_types.specs.Step.{step, place_of};
 ghost use Rattle.market_types.specs.History.{IsLegal, place_in};
 ghost use Rattle.market_core.specs.Moves.{Answers};
+ghost use Rattle.edit_history.specs.Answered.{IsAnswered};
 ghost use Rattle.edit_history.specs.Chronicled.{entry, market_of, most_forgotten};
 ghost use Rattle.edit_history.specs.Parts.{EndsWith};
 ghost use Rattle.edit_history.specs.Places.{takes, placed, LacksPlaces};
@@ -12,7 +13,7 @@ ghost use Rattle.worker_ledger.specs.Counted.{nothing, most_counted};
 ghost use Rattle.market_desk.specs.Workers.{workers_at, workers_after, MayGet};
 ghost use Rattle.market_desk.specs.Forgetting.{forgotten};
 
-use edit_history::{CallFault, Chronicle, Keeping, Part, own_entries_place_a_seat};
+use edit_history::{CallFault, Chronicle, Keeping, MOST_FORGOTTEN, Part, own_entries_place_a_seat};
 use market_core::a_call_moves_its_own_seat;
 use market_types::{Cmd, Entry, Reply, SeatNo};
 use std::alloc::Global;
@@ -55,7 +56,7 @@ impl<C: Ledger, W: Ledger> Desk<C, W> {
     /// a worker that comes where the seat is placed, and goes where it is recalled or leaves. `HistoryFull`, where free places
     /// lack, and then `Memory` are as there: nothing is then changed, recorded or counted. A Leave by a placed seat takes no
     /// memory and always succeeds. The seat is one that the market has, and the share is its caller's: it has a worker
-    /// exactly where the seat's own entries place it. An unrecorded chronicle forgets the entry at once.
+    /// exactly where the seat's own entries place it. An unrecorded chronicle never stores the entry.
     pub fn serve(
         &mut self,
         alloc: Global,
@@ -85,10 +86,9 @@ impl<C: Ledger, W: Ledger> Desk<C, W> {
     {
         a_call_moves_its_own_seat();
         facts_of(&self.chronicle);
-        let reply = self.chronicle.call(alloc, seat, cmd)?;
+        let reply = answer(&mut self.chronicle, alloc, seat, cmd)?;
         facts_of(&self.chronicle);
         count_reply(&mut self.book, share, &reply);
-        forget_unkept(&mut self.chronicle);
         Ok(reply)
     }
 
@@ -173,15 +173,19 @@ fn count_reply<C: Ledger, W: Ledger>(book: &mut Book<C, W>, share: &mut Share<C,
     }
 }
 
-/// Forgets the entry of the last call, where none is to be kept.
-fn forget_unkept(chronicle: &mut Chronicle)
-    requires called { 0 < length chronicle.old.log }
-    requires before { chronicle.old.from ≡ forgotten chronicle.old.keeping (length chronicle.old.log - 1) chronicle.old.from }
-    ensures same { chronicle.new ≡ record chronicle.old { from = chronicle.new.from } }
+/// Does what a seat asks, and keeps the entry where it is to be kept.
+#[inline(always)]
+fn answer(
+    chronicle: &mut Chronicle,
+    alloc: Global,
+    seat: SeatNo,
+    cmd: Cmd,
+) -> Result<Reply, CallFault>
+    requires seat { seat < length chronicle.old.start.seats }
+    requires before { chronicle.old.from ≡ forgotten chronicle.old.keeping (length chronicle.old.log) chronicle.old.from }
+    ensures answered { IsAnswered chronicle.old seat cmd result chronicle.new }
     ensures from { chronicle.new.from ≡ forgotten chronicle.new.keeping (length chronicle.new.log) chronicle.old.from }
 {
-    match chronicle.keeping() {
-        Keeping::Everything | Keeping::InParts => {}
-        Keeping::Nothing => chronicle.forget(),
-    }
+    let keeps = chronicle.keeping() != Keeping::Nothing || chronicle.len() >= MOST_FORGOTTEN;
+    chronicle.answer(alloc, seat, cmd, keeps)
 }

@@ -224,8 +224,7 @@ fn is_written<R: Threads + Wait + Sync + Abort>(
     assert!(rt; matches!(&verdict, Verdict::Legal(entries) if *entries == lasted.closed.calls));
 }
 
-/// What callers do while the last part but one is cut is in the last one. That nobody calls then is by chance, and here by chance
-/// again and again.
+/// The last part is what callers do after the writer's last cut. It may be empty by chance, so that several rounds are made.
 #[test]
 fn each_call_is_in_the_journal(rt: HostRuntime) {
     let alone =
