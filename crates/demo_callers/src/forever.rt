@@ -217,11 +217,17 @@ pub fn last<O: Sink + Send + Drop, R: Threads + Wait + Sync>(
     let watch = Watch::new(system, time)?;
     let attendants = attendants(system, alloc, &watch, callers, recorded, output)?;
     let (mut closed, mut attendants) = attend(rt, alloc, recorded, attendants)?;
-    end_journal(alloc, &mut attendants, &mut closed.chronicle)?;
-    Ok(Lasted {
+    let ended = end_journal(alloc, &mut attendants, &mut closed.chronicle);
+    let lasted = Lasted {
         time: watch.elapsed(),
         quarter: attendants.iter().filter_map(Attendant::quarter).max(),
         end: attendants.iter().filter_map(Attendant::end).max(),
         closed,
-    })
+    };
+    drop(attendants);
+    if let Err(fault) = ended {
+        drop(lasted);
+        return Err(fault);
+    }
+    Ok(lasted)
 }

@@ -6,6 +6,7 @@ use line_engine::InputFault;
 use std::alloc::Global;
 use std::process::Abort;
 use std::rt::HostRuntime;
+use test_asserts::{holds, same};
 
 const HEADER: &str = "{\"base\":8,\"hard\":64,\"journal\":1,\"seats\":4}";
 
@@ -28,7 +29,7 @@ fn text_of(rt: &impl Abort, alloc: Global, lines: &[&str]) -> Vec<u8> {
 
 /// Puts more bytes behind the text.
 fn push(rt: &impl Abort, text: &mut Vec<u8>, more: &[u8]) {
-    assert!(rt; text.extend_from_slice(more).is_ok());
+    holds(rt, text.extend_from_slice(more).is_ok());
 }
 
 /// What is found of the first bytes of the journal.
@@ -48,7 +49,7 @@ fn found_of_front(bytes: usize) -> &'static str {
 #[test]
 fn a_front_of_a_journal_is_legal_where_a_line_ends(rt: HostRuntime) {
     let text = text_of(&rt, rt.alloc(), &[HEADER, OPEN, REQUEST, SHOW]);
-    assert!(&rt; text.len() == 244);
+    same(&rt, text.len(), 244);
     for bytes in 0..=text.len() {
         finds(&rt, rt.alloc(), &text[..bytes], found_of_front(bytes));
     }
@@ -114,10 +115,12 @@ fn a_journal_comes_in_pieces(rt: HostRuntime) {
     for size in [1, 7, 43, 1000] {
         let mut source = TestSource::new(&text).in_pieces_of(size);
         let found = check_source(rt.alloc(), &mut source);
-        assert!(&rt; matches!(&found, Ok(Verdict::Legal(3))));
+        holds(&rt, matches!(&found, Ok(Verdict::Legal(3))));
+        drop(found);
         let mut source = TestSource::new(&broken).in_pieces_of(size);
         let found = check_source(rt.alloc(), &mut source);
-        assert!(&rt; matches!(&found, Ok(Verdict::BadJson(3))));
+        holds(&rt, matches!(&found, Ok(Verdict::BadJson(3))));
+        drop(found);
     }
 }
 
@@ -129,9 +132,11 @@ fn a_failing_source_is_a_fault(rt: HostRuntime) {
             .in_pieces_of(100)
             .failing_after(reads);
         let found = check_source(rt.alloc(), &mut source);
-        assert!(&rt; matches!(&found, Err(InputFault::Read)));
+        holds(&rt, matches!(&found, Err(InputFault::Read)));
+        drop(found);
     }
     let mut source = TestSource::new(&text).in_pieces_of(100).failing_after(4);
     let found = check_source(rt.alloc(), &mut source);
-    assert!(&rt; matches!(&found, Ok(Verdict::Legal(3))));
+    holds(&rt, matches!(&found, Ok(Verdict::Legal(3))));
+    drop(found);
 }

@@ -4,6 +4,7 @@ use market_types::{ArenaId, Cmd, Entry, LastNumber, Level, OpenFault, Reply, Sea
 use std::alloc::Global;
 use std::process::Abort;
 use std::rt::HostRuntime;
+use test_asserts::{holds, same};
 
 /// What a caller is told for want of places.
 const FULL: &str = "C2 history full";
@@ -55,7 +56,8 @@ fn answers(rt: &impl Abort, alloc: Global, chronicle: &mut Chronicle, commands: 
         // That each market has a seat 0 is what this call promises.
         let _ = chronicle.market();
         let answer = chronicle.call(alloc, SeatNo::new(0), *cmd);
-        assert!(rt; text_of(rt, alloc, &answer).as_str() == *due);
+        same(rt, text_of(rt, alloc, &answer).as_str(), *due);
+        drop(answer);
     }
 }
 
@@ -73,7 +75,7 @@ fn joined(rt: &impl Abort, alloc: Global) -> Chronicle {
     let mut chronicle = opened(rt, alloc, 4);
     open_arena(rt, alloc, &mut chronicle);
     answers(rt, alloc, &mut chronicle, &[(Cmd::Join, "placed 1")]);
-    assert!(rt; chronicle.free() == 0 && chronicle.len() == 3);
+    holds(rt, chronicle.free() == 0 && chronicle.len() == 3);
     chronicle
 }
 
@@ -87,7 +89,8 @@ fn a_placed_seat_keeps_a_place_for_its_leave(rt: HostRuntime) {
         (Cmd::Limit, FULL),
     ];
     answers(&rt, rt.alloc(), &mut chronicle, &commands);
-    assert!(&rt; chronicle.len() == 4);
+    same(&rt, chronicle.len(), 4);
+    drop(chronicle);
 }
 
 #[test]
@@ -102,7 +105,8 @@ fn a_join_needs_two_places(rt: HostRuntime) {
         ),
     ];
     answers(&rt, rt.alloc(), &mut chronicle, &commands);
-    assert!(&rt; chronicle.len() == 3);
+    same(&rt, chronicle.len(), 3);
+    drop(chronicle);
 }
 
 /// Why no chronicle was opened.
@@ -138,21 +142,25 @@ fn an_opening_is_refused_by_the_first_number_out_of_range(rt: HostRuntime) {
         (terms(8, 64, 4, 1_048_576, 9, parts), OpenFault::BadLevels),
     ];
     for (terms, due) in &bad {
-        assert!(&rt; is_refused(rt.alloc(), terms, *due));
+        holds(&rt, is_refused(rt.alloc(), terms, *due));
     }
     let most = terms(8, 64, 4, 1_048_576, 3, parts);
-    assert!(&rt; refusal(Chronicle::on_terms(rt.alloc(), most)).is_none());
+    holds(
+        &rt,
+        refusal(Chronicle::on_terms(rt.alloc(), most)).is_none(),
+    );
 }
 
 #[test]
 fn what_is_forgotten_takes_no_place(rt: HostRuntime) {
     let mut chronicle = joined(&rt, rt.alloc());
-    assert!(&rt; chronicle.keeping() == Keeping::Everything);
+    same(&rt, chronicle.keeping(), Keeping::Everything);
     chronicle.forget();
     // The seat that is placed has its place for a Leave still.
-    assert!(&rt; chronicle.free() == 3 && chronicle.len() == 3);
+    holds(&rt, chronicle.free() == 3 && chronicle.len() == 3);
     answers(&rt, rt.alloc(), &mut chronicle, &[(Cmd::Leave, "left 1")]);
-    assert!(&rt; chronicle.free() == 3 && chronicle.len() == 4);
+    holds(&rt, chronicle.free() == 3 && chronicle.len() == 4);
+    drop(chronicle);
 }
 
 /// An empty vector with room for so many entries.
@@ -176,7 +184,7 @@ fn cut(rt: &impl Abort, chronicle: &mut Chronicle, spare: Vec<Entry>, before: u6
     let Some(part) = chronicle.cut(spare) else {
         panic!(rt; "no part");
     };
-    assert!(rt; part.from == before);
+    same(rt, part.from, before);
     part.entries
 }
 
@@ -185,17 +193,18 @@ fn what_is_cut_out_takes_no_place(rt: HostRuntime) {
     let alloc = rt.alloc();
     let mut chronicle = joined(&rt, alloc);
     // The seat that is placed has to keep its memory for a Leave.
-    assert!(&rt; chronicle.cut(Vec::new(alloc)).is_none());
+    holds(&rt, chronicle.cut(Vec::new(alloc)).is_none());
     let first = cut(&rt, &mut chronicle, empty(&rt, alloc, 1), 0);
-    assert!(&rt; first.len() == 3 && end_with(&first, &Cmd::Join));
-    assert!(&rt; chronicle.free() == 3);
+    holds(&rt, first.len() == 3 && end_with(&first, &Cmd::Join));
+    same(&rt, chronicle.free(), 3);
     answers(&rt, alloc, &mut chronicle, &[(Cmd::Leave, "left 1")]);
-    assert!(&rt; end_with(chronicle.kept(), &Cmd::Leave));
+    holds(&rt, end_with(chronicle.kept(), &Cmd::Leave));
     let second = cut(&rt, &mut chronicle, first, 3);
-    assert!(&rt; second.len() == 1 && end_with(&second, &Cmd::Leave));
+    holds(&rt, second.len() == 1 && end_with(&second, &Cmd::Leave));
     // Nobody is placed any more, and nothing was kept: the next part is empty.
-    assert!(&rt; cut(&rt, &mut chronicle, Vec::new(alloc), 4).is_empty());
-    assert!(&rt; chronicle.len() == 4);
+    holds(&rt, cut(&rt, &mut chronicle, Vec::new(alloc), 4).is_empty());
+    same(&rt, chronicle.len(), 4);
+    drop(chronicle);
 }
 
 /// Seat 0 gives these commands: whether there was memory for all of them.
@@ -215,7 +224,7 @@ fn is_cut(rt: &impl Abort, alloc: Global, chronicle: &mut Chronicle) -> bool {
     let Ok(spare) = Vec::with_capacity(alloc, 1) else {
         return false;
     };
-    assert!(rt; chronicle.cut(spare).is_some());
+    holds(rt, chronicle.cut(spare).is_some());
     true
 }
 
@@ -229,32 +238,34 @@ fn a_refused_growth_spares_the_leave_after_a_cut(rt: HostRuntime) {
     let open = Cmd::Open(8, 1, Level::from_index(1));
     let commands = [open, Cmd::Request(ArenaId::new(1), 1, 0), Cmd::Join];
     if are_answered(alloc, &mut chronicle, &commands) && is_cut(&rt, alloc, &mut chronicle) {
-        assert!(&rt; are_answered(alloc, &mut chronicle, &[Cmd::Leave]));
-        assert!(&rt; chronicle.market().placed() == 0);
+        holds(&rt, are_answered(alloc, &mut chronicle, &[Cmd::Leave]));
+        same(&rt, chronicle.market().placed(), 0);
     }
+    drop(chronicle);
 }
 
 #[test]
 fn a_chronicle_that_is_cut_in_time_is_never_full(rt: HostRuntime) {
     let alloc = rt.alloc();
     let mut chronicle = opened_on(&rt, alloc, terms(8, 64, 4, 4, 3, Keeping::InParts));
-    assert!(&rt; chronicle.keeping() == Keeping::InParts);
+    same(&rt, chronicle.keeping(), Keeping::InParts);
     open_arena(&rt, alloc, &mut chronicle);
     let visit = [(Cmd::Join, "placed 1"), (Cmd::Leave, "left 1")];
     let mut spare = empty(&rt, alloc, 4);
     for visits in 0_u64..1000 {
         spare = cut(&rt, &mut chronicle, spare, 2 * visits);
-        assert!(&rt; spare.len() == 2);
+        same(&rt, spare.len(), 2);
         answers(&rt, alloc, &mut chronicle, &visit);
     }
-    assert!(&rt; chronicle.len() == 2002);
+    same(&rt, chronicle.len(), 2002);
+    drop(chronicle);
 }
 
 #[test]
 fn an_unrecorded_chronicle_that_forgets_each_call_is_never_full(rt: HostRuntime) {
     let alloc = rt.alloc();
     let mut chronicle = opened_on(&rt, alloc, terms(8, 64, 1, 3, 3, Keeping::Nothing));
-    assert!(&rt; chronicle.keeping() == Keeping::Nothing);
+    same(&rt, chronicle.keeping(), Keeping::Nothing);
     open_arena(&rt, alloc, &mut chronicle);
     let join = [(Cmd::Join, "placed 1")];
     let leave = [(Cmd::Leave, "left 1")];
@@ -264,8 +275,9 @@ fn an_unrecorded_chronicle_that_forgets_each_call_is_never_full(rt: HostRuntime)
         chronicle.forget();
         answers(&rt, alloc, &mut chronicle, &leave);
     }
-    assert!(&rt; chronicle.len() == 2002);
-    assert!(&rt; chronicle.market().placed() == 0);
+    same(&rt, chronicle.len(), 2002);
+    same(&rt, chronicle.market().placed(), 0);
+    drop(chronicle);
 }
 
 /// Seat 0 gives these commands, is told this of each, and none of them is kept.
@@ -278,11 +290,12 @@ fn answers_unkept(
     for (cmd, due) in commands {
         // That each market has a seat 0 is what this call promises.
         let _ = chronicle.market();
-        assert!(rt; chronicle.len() < MOST_FORGOTTEN);
+        holds(rt, chronicle.len() < MOST_FORGOTTEN);
         chronicle.forget();
         let answer = chronicle.answer(alloc, SeatNo::new(0), *cmd, false);
-        assert!(rt; text_of(rt, alloc, &answer).as_str() == *due);
-        assert!(rt; chronicle.kept().is_empty());
+        same(rt, text_of(rt, alloc, &answer).as_str(), *due);
+        holds(rt, chronicle.kept().is_empty());
+        drop(answer);
     }
 }
 
@@ -298,14 +311,15 @@ fn an_answer_that_is_not_kept_takes_no_place(rt: HostRuntime) {
         (Cmd::Leave, "left 1"),
     ];
     answers_unkept(&rt, alloc, &mut chronicle, &none);
-    assert!(&rt; chronicle.len() == 5 && chronicle.free() == 2);
+    holds(&rt, chronicle.len() == 5 && chronicle.free() == 2);
     let limit = [
         (Cmd::Limit, "value 8 limit 7 effective 7"),
         (Cmd::Join, FULL),
     ];
     answers(&rt, alloc, &mut chronicle, &limit);
-    assert!(&rt; end_with(chronicle.kept(), &Cmd::Limit));
-    assert!(&rt; chronicle.len() == 6 && chronicle.free() == 1);
+    holds(&rt, end_with(chronicle.kept(), &Cmd::Limit));
+    holds(&rt, chronicle.len() == 6 && chronicle.free() == 1);
+    drop(chronicle);
 }
 
 #[test]
@@ -317,6 +331,7 @@ fn a_fault_has_its_text(rt: HostRuntime) {
         let Ok(told) = format!(in rt.alloc(); "{fault}") else {
             panic!(&rt; "no memory");
         };
-        assert!(&rt; told.as_str() == text);
+        same(&rt, told.as_str(), text);
+        drop(told);
     }
 }

@@ -7,6 +7,7 @@ use market_types::{
 use std::alloc::Global;
 use std::process::Abort;
 use std::rt::HostRuntime;
+use test_asserts::{holds, same};
 
 /// What the first three arenas are allotted.
 fn allots(market: &Market) -> [u32; 3] {
@@ -41,14 +42,15 @@ fn opened(rt: &impl Abort, alloc: Global, base: u32, levels: u32) -> Market {
 /// Seat 3 of four gives these commands, and is answered so.
 fn answers(rt: &impl Abort, alloc: Global, market: &mut Market, commands: &[(Cmd, &str)]) {
     for (cmd, due) in commands {
-        assert!(rt; market.seats() == 4);
+        same(rt, market.seats(), 4);
         let Ok(reply) = market.apply(alloc, SeatNo::new(3), *cmd) else {
             panic!(rt; "no reply");
         };
         let Ok(text) = reply_text(alloc, &reply) else {
             panic!(rt; "no text");
         };
-        assert!(rt; text.as_str() == *due);
+        same(rt, text.as_str(), *due);
+        drop(reply);
     }
 }
 
@@ -65,8 +67,9 @@ fn three_arenas_share_seven(rt: HostRuntime) {
         (Cmd::Request(ArenaId::new(3), 5, 0), "request 5"),
     ];
     answers(&rt, rt.alloc(), &mut market, &commands);
-    assert!(&rt; allots(&market) == [3, 2, 2]);
-    assert!(&rt; assigned(&market) == [0, 7, 0, 0, 0, 0, 0, 0]);
+    same(&rt, allots(&market), [3, 2, 2]);
+    same(&rt, assigned(&market), [0, 7, 0, 0, 0, 0, 0, 0]);
+    drop(market);
 }
 
 #[test]
@@ -85,10 +88,11 @@ fn a_seat_is_placed_and_leaves(rt: HostRuntime) {
     ];
     for (cmd, due, at) in &steps {
         answers(&rt, rt.alloc(), &mut market, &[(*cmd, *due)]);
-        assert!(&rt; market.placed() == if at.is_some() { 1 } else { 0 });
-        assert!(&rt; market.seats() == 4);
-        assert!(&rt; market.arena_of(SeatNo::new(3)) == *at);
+        same(&rt, market.placed(), if at.is_some() { 1 } else { 0 });
+        same(&rt, market.seats(), 4);
+        same(&rt, market.arena_of(SeatNo::new(3)), *at);
     }
+    drop(market);
 }
 
 #[test]
@@ -103,8 +107,9 @@ fn levels_are_served_in_order(rt: HostRuntime) {
         (Cmd::Request(ArenaId::new(3), 6, 0), "request 6"),
     ];
     answers(&rt, rt.alloc(), &mut market, &commands);
-    assert!(&rt; allots(&market) == [6, 1, 0]);
-    assert!(&rt; assigned(&market) == [0, 6, 0, 1, 0, 0, 0, 0]);
+    same(&rt, allots(&market), [6, 1, 0]);
+    same(&rt, assigned(&market), [0, 6, 0, 1, 0, 0, 0, 0]);
+    drop(market);
 }
 
 #[test]
@@ -119,8 +124,9 @@ fn enqueued_work_is_served_at_its_level(rt: HostRuntime) {
         (Cmd::Request(ArenaId::new(3), 2, 1), "request 2"),
     ];
     answers(&rt, rt.alloc(), &mut market, &commands);
-    assert!(&rt; allots(&market) == [0, 1, 0]);
-    assert!(&rt; assigned(&market) == [0, 1, 0, 0, 0, 0, 0, 0]);
+    same(&rt, allots(&market), [0, 1, 0]);
+    same(&rt, assigned(&market), [0, 1, 0, 0, 0, 0, 0, 0]);
+    drop(market);
 }
 
 #[test]
@@ -143,8 +149,9 @@ fn calls_are_answered_in_order(rt: HostRuntime) {
     let Ok(replies) = apply_all(alloc, &mut market, &calls) else {
         panic!(&rt; "no replies");
     };
-    assert!(&rt; replies.len() == 2);
-    assert!(&rt;
+    same(&rt, replies.len(), 2);
+    holds(
+        &rt,
         matches!(
             &replies[0],
             Reply::Limits(LimitView {
@@ -152,9 +159,11 @@ fn calls_are_answered_in_order(rt: HostRuntime) {
                 limit: 0,
                 effective: 0
             })
-        )
+        ),
     );
-    assert!(&rt; matches!(&replies[1], Reply::Refused(Fault::NoArena)));
+    holds(&rt, matches!(&replies[1], Reply::Refused(Fault::NoArena)));
+    drop(replies);
+    drop(market);
 }
 
 /// A new market with the last number 3 answers these commands so.
@@ -165,8 +174,9 @@ fn answers_to_three(rt: &impl Abort, alloc: Global, commands: &[(Cmd, &str)]) {
     let Ok(mut market) = Market::with_last(alloc, 8, 64, 4, 3, last) else {
         panic!(rt; "no market");
     };
-    assert!(rt; market.last() == last);
+    same(rt, market.last(), last);
     answers(rt, alloc, &mut market, commands);
+    drop(market);
 }
 
 #[test]
@@ -217,7 +227,8 @@ fn the_usual_last_number_is_two_to_the_twentieth(rt: HostRuntime) {
     let Ok(market) = Market::new(rt.alloc(), 8, 64, 4, 3) else {
         panic!(&rt; "no market");
     };
-    assert!(&rt; market.last().get() == 1_048_576);
+    same(&rt, market.last().get(), 1_048_576);
+    drop(market);
 }
 
 /// Why no market was opened.
@@ -231,8 +242,24 @@ fn refusal(opening: Result<Market, OpenFault>) -> Option<OpenFault> {
 #[test]
 fn numbers_out_of_range_open_nothing(rt: HostRuntime) {
     let alloc = rt.alloc();
-    assert!(&rt; refusal(Market::new(alloc, 0, 0, 0, 0)) == Some(OpenFault::BadBase));
-    assert!(&rt; refusal(Market::new(alloc, 8, 0, 0, 0)) == Some(OpenFault::BadHard));
-    assert!(&rt; refusal(Market::new(alloc, 8, 64, 65, 9)) == Some(OpenFault::BadSeats));
-    assert!(&rt; refusal(Market::new(alloc, 8, 64, 64, 9)) == Some(OpenFault::BadLevels));
+    same(
+        &rt,
+        refusal(Market::new(alloc, 0, 0, 0, 0)),
+        Some(OpenFault::BadBase),
+    );
+    same(
+        &rt,
+        refusal(Market::new(alloc, 8, 0, 0, 0)),
+        Some(OpenFault::BadHard),
+    );
+    same(
+        &rt,
+        refusal(Market::new(alloc, 8, 64, 65, 9)),
+        Some(OpenFault::BadSeats),
+    );
+    same(
+        &rt,
+        refusal(Market::new(alloc, 8, 64, 64, 9)),
+        Some(OpenFault::BadLevels),
+    );
 }

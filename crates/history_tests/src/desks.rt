@@ -1,5 +1,5 @@
 //! What one caller is answered and counted for, and a history that fills up.
-ghost use Rattle.std.specs.Prelude.{◌≡◌};
+ghost use Rattle.std.specs.Prelude.{◌≡◌, vec_len};
 ghost use Rattle.market_types.specs.History.{place_in};
 ghost use Rattle.market_desk.specs.Workers.{workers_at};
 
@@ -11,6 +11,7 @@ use std::marker::Brand;
 use std::process::Abort;
 use std::rt::HostRuntime;
 use std::sync::ledger::{Blank, Ledger};
+use test_asserts::{holds, same};
 use worker_ledger::{Book, Share, Totals};
 
 /// A base of 8, a hard limit of 64, one seat, three levels, the usual last number, and so many places.
@@ -59,8 +60,9 @@ fn lacks_places<C: Ledger, W: Ledger>(
 {
     let before = standing(desk, share);
     let refused = answer(desk, share, alloc, cmd);
-    assert!(rt; matches!(&refused, Err(CallFault::HistoryFull)));
-    assert!(rt; standing(desk, share) == before);
+    holds(rt, matches!(&refused, Err(CallFault::HistoryFull)));
+    same(rt, standing(desk, share), before);
+    drop(refused);
 }
 
 /// An arena that asks for one worker is opened.
@@ -74,9 +76,14 @@ fn open_one<C: Ledger, W: Ledger>(
     ensures worker { share.new.workers ≡ workers_at (place_in 0 desk.new.log) }
 {
     let told = answer(desk, share, alloc, &Cmd::Open(8, 1, Level::from_index(1)));
-    assert!(rt; matches!(&told, Ok(Reply::Opened(arena)) if arena.get() == 1));
+    holds(
+        rt,
+        matches!(&told, Ok(Reply::Opened(arena)) if arena.get() == 1),
+    );
+    drop(told);
     let told = answer(desk, share, alloc, &Cmd::Request(ArenaId::new(1), 1, 0));
-    assert!(rt; matches!(&told, Ok(Reply::Requested(1))));
+    holds(rt, matches!(&told, Ok(Reply::Requested(1))));
+    drop(told);
 }
 
 /// An arena that asks for one worker is opened, and seat 0 joins it.
@@ -91,8 +98,22 @@ fn join<C: Ledger, W: Ledger>(
 {
     open_one(rt, desk, share, alloc);
     let told = answer(desk, share, alloc, &Cmd::Join);
-    assert!(rt; matches!(&told, Ok(Reply::Placed(arena)) if arena.get() == 1));
-    assert!(rt; share.calls() == 3);
+    holds(
+        rt,
+        matches!(&told, Ok(Reply::Placed(arena)) if arena.get() == 1),
+    );
+    same(rt, share.calls(), 3);
+    drop(told);
+}
+
+/// How many calls the desk's history has, and what its book has, all shares being back.
+fn gathered<C: Ledger, W: Ledger>(desk: Desk<C, W>, shares: Vec<Share<C, W>>) -> (u64, Totals)
+    requires all { (vec_len shares ≡ C.parts) × (vec_len shares ≡ W.parts) }
+{
+    let (chronicle, book) = desk.into_parts();
+    let calls = chronicle.len();
+    drop(chronicle);
+    (calls, book.gather(shares))
 }
 
 /// A desk of one seat and four places, whose caller joins, is told that the history is full, and leaves unless it stays: what
@@ -122,11 +143,14 @@ fn full_history<C: Ledger, W: Ledger>(
     lacks_places(rt, &mut desk, share, alloc, &Cmd::Stay);
     if !stays {
         let left = answer(&mut desk, share, alloc, &Cmd::Leave);
-        assert!(rt; matches!(&left, Ok(Reply::Left(arena)) if arena.get() == 1));
+        holds(
+            rt,
+            matches!(&left, Ok(Reply::Left(arena)) if arena.get() == 1),
+        );
         lacks_places(rt, &mut desk, share, alloc, &Cmd::Limit);
+        drop(left);
     }
-    let (chronicle, book) = desk.into_parts();
-    (chronicle.len(), book.gather(shares))
+    gathered(desk, shares)
 }
 
 #[test]
@@ -142,7 +166,7 @@ fn a_placed_worker_leaves_a_full_history(rt: HostRuntime) {
         calls: 4,
         workers: 0,
     };
-    assert!(&rt; counted == (4, totals));
+    same(&rt, counted, (4, totals));
 }
 
 #[test]
@@ -152,7 +176,7 @@ fn a_worker_that_stays_is_counted(rt: HostRuntime) {
         calls: 3,
         workers: 1,
     };
-    assert!(&rt; counted == (3, totals));
+    same(&rt, counted, (3, totals));
 }
 
 /// A desk of one seat and three places, the last of them free: a Join takes two. What its history and its book have at the end.
@@ -178,9 +202,12 @@ fn one_place_left<C: Ledger, W: Ledger>(
     open_one(rt, &mut desk, share, alloc);
     lacks_places(rt, &mut desk, share, alloc, &Cmd::Join);
     let told = answer(&mut desk, share, alloc, &Cmd::Show(ArenaId::new(1)));
-    assert!(rt; matches!(&told, Ok(Reply::Shown(view)) if view.allot == 1 && view.hire == 1));
-    let (chronicle, book) = desk.into_parts();
-    (chronicle.len(), book.gather(shares))
+    holds(
+        rt,
+        matches!(&told, Ok(Reply::Shown(view)) if view.allot == 1 && view.hire == 1),
+    );
+    drop(told);
+    gathered(desk, shares)
 }
 
 #[test]
@@ -190,7 +217,7 @@ fn a_join_at_a_desk_needs_two_places(rt: HostRuntime) {
         calls: 3,
         workers: 0,
     };
-    assert!(&rt; counted == (3, totals));
+    same(&rt, counted, (3, totals));
 }
 
 /// A desk of one seat and four places that is kept in parts, or not: its caller joins, the entries are cut out, and it leaves.
@@ -226,14 +253,18 @@ fn cut_and_left<C: Ledger, W: Ledger>(
     join(rt, &mut desk, share, alloc);
     let part = desk.cut(spare);
     let left = answer(&mut desk, share, alloc, &Cmd::Leave);
-    assert!(rt; matches!(&left, Ok(Reply::Left(arena)) if arena.get() == 1));
-    assert!(rt; desk.chronicle().len() == 4);
-    let (_chronicle, book) = desk.into_parts();
+    holds(
+        rt,
+        matches!(&left, Ok(Reply::Left(arena)) if arena.get() == 1),
+    );
+    drop(left);
+    same(rt, desk.chronicle().len(), 4);
     let entries = match &part {
         Some(part) => Some(part.entries.len()),
         None => None,
     };
-    (entries, book.gather(shares))
+    drop(part);
+    (entries, gathered(desk, shares).1)
 }
 
 #[test]
@@ -243,7 +274,7 @@ fn a_desk_that_is_kept_in_parts_is_cut(rt: HostRuntime) {
         workers: 0,
     };
     let counted = cut_and_left::<Brand, Brand>(&rt, rt.alloc(), Blank::new(1), Blank::new(1), true);
-    assert!(&rt; counted == (Some(3), totals));
+    same(&rt, counted, (Some(3), totals));
 }
 
 #[test]
@@ -259,7 +290,7 @@ fn another_desk_is_not_cut(rt: HostRuntime) {
         Blank::new(1),
         false,
     );
-    assert!(&rt; counted == (None, totals));
+    same(&rt, counted, (None, totals));
 }
 
 /// What seat 0 is answered, asked for again where there was no memory: then nothing had changed, and nothing was counted.
@@ -277,17 +308,63 @@ fn answer_at_last<C: Ledger, W: Ledger>(
     let before = standing(desk, share);
     match answer(desk, share, alloc, cmd) {
         Ok(reply) => return reply,
-        Err(fault) => assert!(rt; fault == CallFault::Memory && !granted),
+        Err(fault) => holds(rt, fault == CallFault::Memory && !granted),
     }
-    assert!(rt; standing(desk, share) == before);
+    same(rt, standing(desk, share), before);
     let Ok(reply) = answer(desk, share, alloc, cmd) else {
         panic!(rt; "no memory");
     };
     reply
 }
 
-/// An arena and a control are opened, lists are told, and a worker comes and goes: what was counted, unless there was no
-/// memory for the desk itself. Where every growth is granted, no call is refused.
+/// An arena and a control are opened, lists are told, and a worker comes and goes. Where every growth is granted, no call is refused.
+fn comes_and_goes<C: Ledger, W: Ledger>(
+    rt: &impl Abort,
+    desk: &mut Desk<C, W>,
+    share: &mut Share<C, W>,
+    alloc: Global,
+    granted: bool,
+)
+    requires worker { share.old.workers ≡ workers_at (place_in 0 desk.old.log) }
+{
+    let open = Cmd::Open(8, 1, Level::from_index(1));
+    let told = answer_at_last(rt, desk, share, alloc, &open, granted);
+    holds(
+        rt,
+        matches!(&told, Reply::Opened(arena) if arena.get() == 1),
+    );
+    drop(told);
+    let told = answer_at_last(rt, desk, share, alloc, &Cmd::Control(5), granted);
+    holds(
+        rt,
+        matches!(&told, Reply::Controlled(control) if control.get() == 1),
+    );
+    drop(told);
+    let request = Cmd::Request(ArenaId::new(1), 3, 0);
+    let told = answer_at_last(rt, desk, share, alloc, &request, granted);
+    holds(rt, matches!(&told, Reply::Requested(3)));
+    drop(told);
+    let told = answer_at_last(rt, desk, share, alloc, &Cmd::Lists, granted);
+    holds(
+        rt,
+        matches!(&told, Reply::Listed(lists) if lists.len() == 1),
+    );
+    drop(told);
+    let told = answer_at_last(rt, desk, share, alloc, &Cmd::Join, granted);
+    holds(
+        rt,
+        matches!(&told, Reply::Placed(arena) if arena.get() == 1),
+    );
+    drop(told);
+    let told = answer(desk, share, alloc, &Cmd::Leave);
+    holds(
+        rt,
+        matches!(&told, Ok(Reply::Left(arena)) if arena.get() == 1),
+    );
+    drop(told);
+}
+
+/// What was counted then, unless there was no memory for the desk itself.
 fn grown<C: Ledger, W: Ledger>(
     rt: &impl Abort,
     alloc: Global,
@@ -303,39 +380,26 @@ fn grown<C: Ledger, W: Ledger>(
     let chronicle = match Chronicle::new(alloc, 8, 64, 1, 100, 3) {
         Ok(chronicle) => chronicle,
         Err(fault) => {
-            assert!(rt; fault == OpenFault::Memory);
+            same(rt, fault, OpenFault::Memory);
             return None;
         }
     };
     let Ok((book, mut shares)) = Book::<C, W>::new(alloc, 1, calls, workers) else {
+        drop(chronicle);
         return None;
     };
     let mut desk = Desk::new(chronicle, book);
     let share = &mut shares.as_mut_slice()[0];
-    let open = Cmd::Open(8, 1, Level::from_index(1));
-    let told = answer_at_last(rt, &mut desk, share, alloc, &open, granted);
-    assert!(rt; matches!(&told, Reply::Opened(arena) if arena.get() == 1));
-    let told = answer_at_last(rt, &mut desk, share, alloc, &Cmd::Control(5), granted);
-    assert!(rt; matches!(&told, Reply::Controlled(control) if control.get() == 1));
-    let request = Cmd::Request(ArenaId::new(1), 3, 0);
-    let told = answer_at_last(rt, &mut desk, share, alloc, &request, granted);
-    assert!(rt; matches!(&told, Reply::Requested(3)));
-    let told = answer_at_last(rt, &mut desk, share, alloc, &Cmd::Lists, granted);
-    assert!(rt; matches!(&told, Reply::Listed(lists) if lists.len() == 1));
-    let told = answer_at_last(rt, &mut desk, share, alloc, &Cmd::Join, granted);
-    assert!(rt; matches!(&told, Reply::Placed(arena) if arena.get() == 1));
-    let told = answer(&mut desk, share, alloc, &Cmd::Leave);
-    assert!(rt; matches!(&told, Ok(Reply::Left(arena)) if arena.get() == 1));
-    let (_chronicle, book) = desk.into_parts();
-    Some(book.gather(shares))
+    comes_and_goes(rt, &mut desk, share, alloc, granted);
+    Some(gathered(desk, shares).1)
 }
 
 #[test]
 fn a_refused_growth_leaves_the_desk(rt: HostRuntime) {
     let counted = grown::<Brand, Brand>(&rt, rt.alloc(), Blank::new(1), Blank::new(1), false);
     if let Some(totals) = counted {
-        assert!(&rt; totals.calls == 6);
-        assert!(&rt; totals.workers == 0);
+        same(&rt, totals.calls, 6);
+        same(&rt, totals.workers, 0);
     }
 }
 
@@ -346,7 +410,7 @@ fn a_granted_growth_is_counted(rt: HostRuntime) {
         calls: 6,
         workers: 0,
     };
-    assert!(&rt; counted == Some(totals));
+    same(&rt, counted, Some(totals));
 }
 
 /// Seat 0 joins and leaves so many times. It is never told that the history is full.
@@ -361,10 +425,17 @@ fn visits<C: Ledger, W: Ledger>(
 {
     for _ in 0..times {
         let joined = answer(desk, share, alloc, &Cmd::Join);
-        assert!(rt; matches!(&joined, Ok(Reply::Placed(arena)) if arena.get() == 1));
+        holds(
+            rt,
+            matches!(&joined, Ok(Reply::Placed(arena)) if arena.get() == 1),
+        );
         let left = answer(desk, share, alloc, &Cmd::Leave);
-        assert!(rt; matches!(&left, Ok(Reply::Left(arena)) if arena.get() == 1));
-        assert!(rt; desk.chronicle().free() == 3);
+        holds(
+            rt,
+            matches!(&left, Ok(Reply::Left(arena)) if arena.get() == 1),
+        );
+        same(rt, desk.chronicle().free(), 3);
+        drop(left);
     }
 }
 
@@ -392,8 +463,7 @@ fn unrecorded<C: Ledger, W: Ledger>(
     let share = &mut shares.as_mut_slice()[0];
     open_one(rt, &mut desk, share, alloc);
     visits(rt, &mut desk, share, alloc, times);
-    let (chronicle, book) = desk.into_parts();
-    (chronicle.len(), book.gather(shares))
+    gathered(desk, shares)
 }
 
 #[test]
@@ -403,5 +473,5 @@ fn an_unrecorded_desk_counts_each_call_and_is_never_full(rt: HostRuntime) {
         calls: 20_002,
         workers: 0,
     };
-    assert!(&rt; counted == (20_002, totals));
+    same(&rt, counted, (20_002, totals));
 }

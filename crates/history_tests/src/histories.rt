@@ -9,6 +9,7 @@ use market_types::{ArenaId, Cmd, ControlId, Level, SeatNo, read_cmd, reply_text}
 use std::alloc::{AllocError, Global};
 use std::process::Abort;
 use std::rt::HostRuntime;
+use test_asserts::{holds, same};
 
 const HEADER: &str = "{\"base\":8,\"hard\":64,\"journal\":2,\"levels\":3,\"seats\":4}\n";
 
@@ -79,7 +80,7 @@ impl Recording {
 
     /// The text that answers a call: that of its reply, or of the fault.
     fn answer(&mut self, rt: &impl Abort, alloc: Global, seat: u8, cmd: Cmd) -> String {
-        assert!(rt; seat < self.chronicle.market().seats());
+        holds(rt, seat < self.chronicle.market().seats());
         let told = match self.chronicle.call(alloc, SeatNo::new(seat), cmd) {
             Ok(reply) => reply_text(alloc, &reply),
             Err(fault) => fault.to_string(alloc),
@@ -93,7 +94,7 @@ impl Recording {
     /// What is written of it.
     fn written(&self, rt: &impl Abort, alloc: Global) -> TestSink {
         let mut sink = new_sink(rt, alloc);
-        assert!(rt; write_journal(alloc, &self.chronicle, &mut sink) == Ok(()));
+        same(rt, write_journal(alloc, &self.chronicle, &mut sink), Ok(()));
         sink
     }
 }
@@ -107,6 +108,7 @@ fn recorded(rt: &impl Abort, alloc: Global, places: u32, calls: &[Answered]) -> 
         };
         let answer = recording.answer(rt, alloc, *seat, cmd);
         assert!(rt; answer.as_str() == *due, "{text}");
+        drop(answer);
     }
     recording
 }
@@ -142,7 +144,7 @@ fn with_another_reply(alloc: Global, journal: &str, wrong: u64) -> Result<String
 
 /// Where the reply of one entry is changed, the journal is found wrong there, and the reply that was given is due.
 fn is_wrong_at(rt: &impl Abort, alloc: Global, recording: &Recording, journal: &str, index: u64) {
-    assert!(rt; index < recording.chronicle.len());
+    holds(rt, index < recording.chronicle.len());
     let Ok(due) = reply_text(alloc, &recording.chronicle.entry(index).reply) else {
         panic!(rt; "no memory");
     };
@@ -154,6 +156,7 @@ fn is_wrong_at(rt: &impl Abort, alloc: Global, recording: &Recording, journal: &
         panic!(rt; "no memory");
     };
     finds(rt, alloc, changed.as_bytes(), &found);
+    drop(found);
 }
 
 /// The calls are answered so, and their journal is written, found legal, and found wrong where a reply is changed.
@@ -163,11 +166,14 @@ fn has_journal(rt: &impl Abort, alloc: Global, places: u32, calls: &[Answered], 
         panic!(rt; "no memory");
     };
     let sink = recording.written(rt, alloc);
-    assert!(rt; sink.taken() == journal.as_bytes());
+    same(rt, sink.taken(), journal.as_bytes());
     finds(rt, alloc, sink.taken(), found);
     for index in 0..recording.chronicle.len() {
         is_wrong_at(rt, alloc, &recording, &journal, index);
     }
+    drop(sink);
+    drop(journal);
+    drop(recording);
 }
 
 #[test]
@@ -252,5 +258,6 @@ fn a_random_history_is_legal_until_a_reply_is_changed(rt: HostRuntime) {
         };
         let index = u64::from(random.below(40));
         is_wrong_at(&rt, alloc, &recording, journal, index);
+        drop(sink);
     }
 }

@@ -10,6 +10,7 @@ use market_types::{ArenaId, Cmd, LastNumber, Level, SeatNo};
 use std::alloc::Global;
 use std::process::Abort;
 use std::rt::HostRuntime;
+use test_asserts::{holds, same};
 
 const JOURNAL: &[u8] = b"\
 {\"base\":8,\"hard\":64,\"journal\":2,\"levels\":3,\"seats\":4}
@@ -38,7 +39,7 @@ fn record(rt: &impl Abort, alloc: Global, chronicle: &mut Chronicle, cmd: Cmd)
 {
     let _ = chronicle.market();
     let answered = chronicle.call(alloc, SeatNo::new(0), cmd);
-    assert!(rt; answered.is_ok());
+    holds(rt, answered.is_ok());
 }
 
 /// An arena is opened, asks for three workers, and is shown.
@@ -78,7 +79,9 @@ pub(crate) fn finds(rt: &impl Abort, alloc: Global, text: &[u8], found: &str) {
     let Ok(told) = verdict.to_string(alloc) else {
         panic!(rt; "no memory");
     };
-    assert!(rt; told.as_str() == found);
+    same(rt, told.as_str(), found);
+    drop(told);
+    drop(verdict);
 }
 
 #[test]
@@ -86,10 +89,13 @@ fn a_journal_has_a_line_for_the_opening_and_one_for_each_call(rt: HostRuntime) {
     let chronicle = recorded(&rt, rt.alloc());
     let mut sink = new_sink(&rt, rt.alloc());
     let written = write_journal(rt.alloc(), &chronicle, &mut sink);
-    assert!(&rt; written == Ok(()));
-    assert!(&rt; sink.taken() == JOURNAL);
+    same(&rt, written, Ok(()));
+    same(&rt, sink.taken(), JOURNAL);
     let found = check(rt.alloc(), sink.taken());
-    assert!(&rt; matches!(&found, Ok(Verdict::Legal(3))));
+    holds(&rt, matches!(&found, Ok(Verdict::Legal(3))));
+    drop(found);
+    drop(sink);
+    drop(chronicle);
 }
 
 #[test]
@@ -99,9 +105,11 @@ fn a_failing_sink_has_a_front_of_the_journal(rt: HostRuntime) {
             let chronicle = recorded(&rt, rt.alloc());
             let mut sink = new_sink(&rt, rt.alloc()).refusing_after(most, refusal);
             let written = write_journal(rt.alloc(), &chronicle, &mut sink);
-            assert!(&rt; written == Err(OutFault::Write));
-            assert!(&rt; JOURNAL.starts_with(sink.taken()));
-            assert!(&rt; sink.taken().len() == most);
+            same(&rt, written, Err(OutFault::Write));
+            holds(&rt, JOURNAL.starts_with(sink.taken()));
+            same(&rt, sink.taken().len(), most);
+            drop(sink);
+            drop(chronicle);
         }
     }
 }
@@ -136,7 +144,25 @@ fn header(extent: Extent) -> Header {
     }
 }
 
-/// The same history as the other, in parts of one entry each, behind the header of a journal of so many entries.
+/// The calls of the other history, each written as a part of one entry behind the header of a journal of so many entries.
+fn write_calls(
+    rt: &impl Abort,
+    alloc: Global,
+    chronicle: &mut Chronicle,
+    extent: Extent,
+    sink: &mut TestSink,
+) -> Result<(), OutFault>
+    requires working { sink.old.failed ≡ false }
+{
+    let open = Cmd::Open(8, 1, Level::from_index(1));
+    let request = Cmd::Request(ArenaId::new(1), 3, 0);
+    write_header(alloc, header(extent), sink)?;
+    write_next(rt, alloc, chronicle, open, sink)?;
+    write_next(rt, alloc, chronicle, request, sink)?;
+    write_next(rt, alloc, chronicle, Cmd::Show(ArenaId::new(1)), sink)
+}
+
+/// The same history as the other, in parts of one entry each.
 fn write_parts(
     rt: &impl Abort,
     alloc: Global,
@@ -157,30 +183,37 @@ fn write_parts(
     let Ok(mut chronicle) = Chronicle::on_terms(alloc, terms) else {
         panic!(rt; "no chronicle");
     };
-    let open = Cmd::Open(8, 1, Level::from_index(1));
-    let request = Cmd::Request(ArenaId::new(1), 3, 0);
-    write_header(alloc, header(extent), sink)?;
-    write_next(rt, alloc, &mut chronicle, open, sink)?;
-    write_next(rt, alloc, &mut chronicle, request, sink)?;
-    write_next(rt, alloc, &mut chronicle, Cmd::Show(ArenaId::new(1)), sink)
+    let written = write_calls(rt, alloc, &mut chronicle, extent, sink);
+    drop(chronicle);
+    written
 }
 
 #[test]
 fn a_history_in_parts_has_the_same_journal(rt: HostRuntime) {
     let mut sink = new_sink(&rt, rt.alloc());
-    assert!(&rt; write_parts(&rt, rt.alloc(), Extent::Limited, &mut sink) == Ok(()));
-    assert!(&rt; sink.taken() == JOURNAL);
+    same(
+        &rt,
+        write_parts(&rt, rt.alloc(), Extent::Limited, &mut sink),
+        Ok(()),
+    );
+    same(&rt, sink.taken(), JOURNAL);
+    drop(sink);
 }
 
 #[test]
 fn an_endless_history_in_parts_has_a_journal_of_version_3(rt: HostRuntime) {
     let mut sink = new_sink(&rt, rt.alloc());
-    assert!(&rt; write_parts(&rt, rt.alloc(), Extent::Endless, &mut sink) == Ok(()));
+    same(
+        &rt,
+        write_parts(&rt, rt.alloc(), Extent::Endless, &mut sink),
+        Ok(()),
+    );
     let Some(entries) = sink.taken().strip_prefix(ENDLESS) else {
         panic!(&rt; "another header");
     };
-    assert!(&rt; JOURNAL.ends_with(entries));
+    holds(&rt, JOURNAL.ends_with(entries));
     finds(&rt, rt.alloc(), sink.taken(), "legal 3");
+    drop(sink);
 }
 
 /// Seat 0 opens an arena.
@@ -220,19 +253,28 @@ fn opened_four(rt: &impl Abort, alloc: Global) -> Chronicle
 fn the_journal_of_another_last_number_is_of_version_3(rt: HostRuntime) {
     let chronicle = opened_four(&rt, rt.alloc());
     let mut sink = new_sink(&rt, rt.alloc());
-    assert!(&rt; write_journal(rt.alloc(), &chronicle, &mut sink) == Ok(()));
-    assert!(&rt; sink.taken() == UP_TO_THREE);
+    same(
+        &rt,
+        write_journal(rt.alloc(), &chronicle, &mut sink),
+        Ok(()),
+    );
+    same(&rt, sink.taken(), UP_TO_THREE);
     finds(&rt, rt.alloc(), sink.taken(), "legal 4");
+    drop(sink);
+    drop(chronicle);
 }
 
 #[test]
 fn a_failing_sink_has_a_front_of_the_parts(rt: HostRuntime) {
     for most in [0, 1, 42, 100, 243] {
         let mut sink = new_sink(&rt, rt.alloc()).refusing_after(most, Refusal::Fault);
-        assert!(&rt;
-            write_parts(&rt, rt.alloc(), Extent::Limited, &mut sink) == Err(OutFault::Write)
+        same(
+            &rt,
+            write_parts(&rt, rt.alloc(), Extent::Limited, &mut sink),
+            Err(OutFault::Write),
         );
-        assert!(&rt; JOURNAL.starts_with(sink.taken()));
-        assert!(&rt; sink.taken().len() == most);
+        holds(&rt, JOURNAL.starts_with(sink.taken()));
+        same(&rt, sink.taken().len(), most);
+        drop(sink);
     }
 }

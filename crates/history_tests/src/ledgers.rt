@@ -6,6 +6,7 @@ use std::marker::Brand;
 use std::process::Abort;
 use std::rt::HostRuntime;
 use std::sync::ledger::{Blank, Ledger};
+use test_asserts::same;
 use worker_ledger::{Book, Totals};
 
 /// A book of two shares: the first counts two calls; the second counts one, and has a worker that comes, and leaves unless it
@@ -47,7 +48,7 @@ fn shares_count_what_the_book_counts(rt: HostRuntime) {
         calls: 3,
         workers: 1,
     };
-    assert!(&rt; counted == (2, totals));
+    same(&rt, counted, (2, totals));
 }
 
 #[test]
@@ -57,5 +58,5 @@ fn a_worker_that_left_is_not_counted(rt: HostRuntime) {
         calls: 3,
         workers: 0,
     };
-    assert!(&rt; counted == (2, totals));
+    same(&rt, counted, (2, totals));
 }

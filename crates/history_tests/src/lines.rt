@@ -6,6 +6,7 @@ use line_engine::{InputFault, LONGEST_INPUT, LineForm, LineTaker, take_lines, ta
 use std::alloc::{AllocError, Global};
 use std::process::Abort;
 use std::rt::HostRuntime;
+use test_asserts::{holds, same};
 
 /// Why the log ends early.
 #[derive(Clone, Copy, Debug, PartialEq, Eq)]
@@ -89,15 +90,16 @@ fn logs(rt: &impl Abort, alloc: Global, input: &[u8], size: usize, log: &[u8])
     let Ok(last) = take_lines(alloc, taker, &mut source, &mut sink) else {
         panic!(rt; "the lines were not taken");
     };
-    assert!(rt; last.text.as_slice() == log);
-    assert!(rt; sink.taken().is_empty());
+    same(rt, last.text.as_slice(), log);
+    holds(rt, sink.taken().is_empty());
     let taker = Log {
         text: Vec::new(alloc),
     };
     let Ok(last) = take_text(alloc, taker, input) else {
         panic!(rt; "the text was not taken");
     };
-    assert!(rt; last.text.as_slice() == log);
+    same(rt, last.text.as_slice(), log);
+    drop(sink);
 }
 
 #[test]
@@ -127,12 +129,19 @@ fn a_taker_stops(rt: HostRuntime) {
             text: Vec::new(rt.alloc()),
         };
         let stopped = take_lines(rt.alloc(), taker, &mut source, &mut sink);
-        assert!(&rt; matches!(&stopped, Err(InputFault::Taker(LogFault::Asked))));
+        holds(
+            &rt,
+            matches!(&stopped, Err(InputFault::Taker(LogFault::Asked))),
+        );
         let taker = Log {
             text: Vec::new(rt.alloc()),
         };
         let stopped = take_text(rt.alloc(), taker, input);
-        assert!(&rt; matches!(&stopped, Err(InputFault::Taker(LogFault::Asked))));
+        holds(
+            &rt,
+            matches!(&stopped, Err(InputFault::Taker(LogFault::Asked))),
+        );
+        drop(sink);
     }
 }
 
@@ -192,11 +201,13 @@ fn lengthens(rt: &impl Abort, alloc: Global, input: &[u8], size: usize, lines: O
     let told = match &taken {
         Ok(last) => Some(last.lines),
         Err(fault) => {
-            assert!(rt; *fault == InputFault::TooLong);
+            same(rt, *fault, InputFault::TooLong);
             None
         }
     };
-    assert!(rt; told == lines);
+    same(rt, told, lines);
+    drop(told);
+    drop(sink);
 }
 
 #[test]
@@ -212,5 +223,6 @@ fn lines_lengthen_an_input(rt: HostRuntime) {
         let told = if size <= 8 { Some(2) } else { None };
         lengthens(&rt, rt.alloc(), &cut[..64], size, told);
         lengthens(&rt, rt.alloc(), &cut, size, None);
+        drop(told);
     }
 }

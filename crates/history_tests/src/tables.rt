@@ -8,6 +8,7 @@ use market_types::{ArenaId, Cmd, Level, SeatNo};
 use std::alloc::{AllocError, Global};
 use std::process::Abort;
 use std::rt::HostRuntime;
+use test_asserts::{holds, same};
 
 /// Five workers for two arenas of three.
 const FIVE: &[u8] = b"\
@@ -114,8 +115,10 @@ fn explains(rt: &impl Abort, alloc: Global, levels: u32, cmds: &[Cmd], text: &[u
     };
     let mut sink = new_sink(rt, alloc);
     let written = explain(alloc, &market, &mut sink);
-    assert!(rt; written == Ok(()));
-    assert!(rt; sink.taken() == text);
+    same(rt, written, Ok(()));
+    same(rt, sink.taken(), text);
+    drop(sink);
+    drop(market);
 }
 
 #[test]
@@ -179,10 +182,12 @@ fn a_failing_sink_has_a_front_of_the_explanation(rt: HostRuntime) {
                 .in_pieces_of(100)
                 .refusing_after(most, refusal);
             let written = explain(rt.alloc(), &market, &mut sink);
-            assert!(&rt; written == Err(OutFault::Write));
-            assert!(&rt; sink.taken() == &FIVE[..most]);
+            same(&rt, written, Err(OutFault::Write));
+            same(&rt, sink.taken(), &FIVE[..most]);
+            drop(sink);
         }
     }
+    drop(market);
 }
 
 /// Where a growth is refused, the explanation is `Memory`, and the next one is whole.
@@ -197,10 +202,12 @@ fn a_refused_growth_writes_nothing(rt: HostRuntime) {
     };
     let mut sink = TestSink::new(memory);
     if let Err(fault) = explain(rt.alloc(), &market, &mut sink) {
-        assert!(&rt; fault == OutFault::Memory);
-        assert!(&rt; sink.taken().is_empty());
+        same(&rt, fault, OutFault::Memory);
+        holds(&rt, sink.taken().is_empty());
         let written = explain(rt.alloc(), &market, &mut sink);
-        assert!(&rt; written == Ok(()));
+        same(&rt, written, Ok(()));
     }
-    assert!(&rt; sink.taken() == FIVE);
+    same(&rt, sink.taken(), FIVE);
+    drop(sink);
+    drop(market);
 }

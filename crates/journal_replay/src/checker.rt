@@ -64,14 +64,25 @@ impl Progress {
     {
         let bad_record = Verdict::BadRecord(entries + 2);
         if extent.is_full(entries) {
+            drop(market);
             return Ok(Progress::Faulty(bad_record, extent));
         }
         let Some(entry) = read_entry(value, market.seats(), market.levels()) else {
+            drop(market);
             return Ok(Progress::Faulty(bad_record, extent));
         };
-        let reply = market.apply(alloc, entry.seat, entry.cmd)?;
-        let due = reply_text(alloc, &reply)?;
+        let Ok(reply) = market.apply(alloc, entry.seat, entry.cmd) else {
+            drop(market);
+            return Err(AllocError);
+        };
+        let text = reply_text(alloc, &reply);
+        drop(reply);
+        let Ok(due) = text else {
+            drop(market);
+            return Err(AllocError);
+        };
         if due.as_str() != entry.reply {
+            drop(market);
             let wrong_reply = Verdict::WrongReply(entries + 2, DueReply::new(due));
             return Ok(Progress::Faulty(wrong_reply, extent));
         }

@@ -93,10 +93,11 @@ fn work_together<Y: Yard + Send + Sync, G: Gate + Sync, R: Threads + Wait + Sync
     match meet(rt, alloc, terms, openers, workers) {
         Ok(meeting) => {
             let Meeting {
-                closed: _,
+                closed,
                 openers,
                 tasks,
             } = meeting;
+            drop(closed);
             for opener in openers {
                 if let Some(fault) = opener.fault {
                     reports.add_fault(fault);
@@ -107,9 +108,10 @@ fn work_together<Y: Yard + Send + Sync, G: Gate + Sync, R: Threads + Wait + Sync
         Err(unmet) => {
             let Unmet {
                 fault: _,
-                openers: _,
+                openers,
                 tasks,
             } = unmet;
+            drop(openers);
             reports.tear();
             relieve(tasks, racks, reports)
         }

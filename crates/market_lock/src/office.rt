@@ -194,6 +194,7 @@ impl<C: Ledger, W: Ledger> Office<C, W> {
     {
         let seats = terms.seats;
         let Ok(mut passes) = Vec::<Pass<C, W>>::with_capacity(alloc, seats as usize) else {
+            drop(chronicle);
             return Err(OpenFault::Memory);
         };
         let Ok(furnished) = furnish::<C, W>(alloc, terms, chronicle, calls, workers) else {

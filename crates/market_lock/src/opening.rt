@@ -40,8 +40,14 @@ pub(crate) fn furnish<C: Ledger, W: Ledger>(
     ensures shares { IfOk result (λ f. vec_len f.shares ≡ terms.now.seats) }
     ensures empty { IfOk result (λ f. All (λ (share : Counted). share ≡ nothing) f.shares.items) }
 {
-    let mut slots = Vec::with_capacity(alloc, 1)?;
-    let (book, shares) = Book::new(alloc, terms.seats, calls, workers)?;
+    let Ok(mut slots) = Vec::with_capacity(alloc, 1) else {
+        drop(chronicle);
+        return Err(AllocError);
+    };
+    let Ok((book, shares)) = Book::new(alloc, terms.seats, calls, workers) else {
+        drop(chronicle);
+        return Err(AllocError);
+    };
     slots.push_reserved(Desk::new(chronicle, book));
     match Table::new(alloc, &[0], slots, terms) {
         Ok((table, seat)) => Ok(Furnished {
@@ -62,7 +68,8 @@ fn clear<C: Ledger, W: Ledger>(slots: Vec<Desk<C, W>>, shares: Vec<Share<C, W>>)
     let Some(desk) = slots.pop() else {
         unreachable!()
     };
-    let (_, book) = desk.into_parts();
+    let (chronicle, book) = desk.into_parts();
+    drop(chronicle);
     let _ = book.gather(shares);
     AllocError
 }

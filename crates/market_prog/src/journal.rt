@@ -72,6 +72,9 @@ pub fn run_journal<R: Source, W: Sink>(
     silence::<RecordingSession>();
     let chronicle = open_chronicle(alloc, options)?;
     let session = take_lines(alloc, RecordingSession::new(alloc, chronicle), source, sink)?;
-    write_journal(alloc, session.chronicle(), sink)?;
-    Ok(session.unread())
+    let written = write_journal(alloc, session.chronicle(), sink);
+    let unread = session.unread();
+    drop(session);
+    written?;
+    Ok(unread)
 }

@@ -8,6 +8,7 @@ use market_prog::{
 };
 use market_types::OpenFault;
 use std::rt::HostRuntime;
+use test_asserts::{holds, same};
 
 const HIRED: &[u8] = b"0 open 8 1 normal\n0 request 1 3 0\n0 show 1\n";
 
@@ -41,7 +42,8 @@ fn each_read_fails_in_turn(rt: HostRuntime) {
                 Ok(0)
             };
             assert!(&rt; told == wanted, "{good} reads of {size} bytes");
-            assert!(&rt; sink.taken() == replies_due(good * size));
+            same(&rt, sink.taken(), replies_due(good * size));
+            drop(sink);
         }
     }
 }
@@ -63,7 +65,8 @@ fn each_write_fails_in_turn(rt: HostRuntime) {
                     Err(RunFault::Write)
                 };
                 assert!(&rt; told == wanted, "room for {room} bytes");
-                assert!(&rt; sink.taken() == &HIRED_REPLIES[..room]);
+                same(&rt, sink.taken(), &HIRED_REPLIES[..room]);
+                drop(sink);
             }
         }
     }
@@ -75,8 +78,9 @@ fn pieces_of_any_size_are_answered_alike(rt: HostRuntime) {
         let mut source = TestSource::new(HIRED).in_pieces_of(size);
         let mut sink = new_sink(&rt, rt.alloc()).in_pieces_of(size);
         let told = run_script(rt.alloc(), MarketOptions::USUAL, &mut source, &mut sink);
-        assert!(&rt; told == Ok(0));
-        assert!(&rt; sink.taken() == HIRED_REPLIES);
+        same(&rt, told, Ok(0));
+        same(&rt, sink.taken(), HIRED_REPLIES);
+        drop(sink);
     }
 }
 
@@ -85,9 +89,10 @@ fn a_script_without_end_is_too_long(rt: HostRuntime) {
     for task in [ScriptTask::Answer, ScriptTask::Journal, ScriptTask::Explain] {
         let mut sink = new_sink(&rt, rt.alloc());
         let told = work_script(rt.alloc(), task, &mut Hashes, &mut sink);
-        assert!(&rt; told == Err(RunFault::TooLong));
-        assert!(&rt; status_of_run(&told) == 3);
-        assert!(&rt; sink.taken().is_empty());
+        same(&rt, told, Err(RunFault::TooLong));
+        same(&rt, status_of_run(&told), 3);
+        holds(&rt, sink.taken().is_empty());
+        drop(sink);
     }
 }
 
@@ -95,9 +100,10 @@ fn a_script_without_end_is_too_long(rt: HostRuntime) {
 fn a_journal_without_end_is_too_long(rt: HostRuntime) {
     let mut sink = new_sink(&rt, rt.alloc());
     let told = run_replay(rt.alloc(), &mut Hashes, &mut sink);
-    assert!(&rt; matches!(&told, Err(RunFault::TooLong)));
-    assert!(&rt; status_of_replay(&told) == 3);
-    assert!(&rt; sink.taken().is_empty());
+    holds(&rt, matches!(&told, Err(RunFault::TooLong)));
+    same(&rt, status_of_replay(&told), 3);
+    holds(&rt, sink.taken().is_empty());
+    drop(sink);
 }
 
 #[test]
@@ -110,7 +116,8 @@ fn a_market_that_cannot_be_opened_reads_nothing(rt: HostRuntime) {
             ..MarketOptions::USUAL
         };
         let told = run_script(rt.alloc(), options, &mut source, &mut sink);
-        assert!(&rt; told == Err(RunFault::Open(OpenFault::BadLevels)));
-        assert!(&rt; sink.taken().is_empty());
+        same(&rt, told, Err(RunFault::Open(OpenFault::BadLevels)));
+        holds(&rt, sink.taken().is_empty());
+        drop(sink);
     }
 }

@@ -12,6 +12,7 @@ use std::process::Abort;
 use std::rt::HostRuntime;
 use std::sync::Wait;
 use std::thread::Threads;
+use test_asserts::{holds, same};
 use worker_main::Gate;
 
 /// Two arenas, and three jobs for them.
@@ -47,9 +48,10 @@ fn ends<R: Threads + Wait + Sync + Abort>(
     let mut source = TestSource::new(plan);
     let mut sink = new_sink(rt, alloc);
     let driven = run_drive(rt, alloc, workers, &mut source, &mut sink);
-    assert!(rt; driven == Ok(end));
-    assert!(rt; sink.taken() == written);
-    assert!(rt; status_of_drive(&driven) == status);
+    same(rt, driven, Ok(end));
+    same(rt, sink.taken(), written);
+    same(rt, status_of_drive(&driven), status);
+    drop(sink);
 }
 
 /// The plan is driven by four workers, and this is its outcome.
@@ -124,9 +126,10 @@ fn a_gate_that_stays_shut_is_told(rt: HostRuntime) {
     let mut source = TestSource::new(PLAN);
     let mut sink = new_sink(&rt, rt.alloc());
     let driven = run_drive_through(&rt, rt.alloc(), 1, &Shut, &mut source, &mut sink);
-    assert!(&rt; driven == Ok(DriveEnd::Refused(DriveFault::Unfinished)));
-    assert!(&rt; sink.taken() == b"G03 unfinished\n".as_slice());
-    assert!(&rt; status_of_drive(&driven) == 1);
+    same(&rt, driven, Ok(DriveEnd::Refused(DriveFault::Unfinished)));
+    same(&rt, sink.taken(), b"G03 unfinished\n".as_slice());
+    same(&rt, status_of_drive(&driven), 1);
+    drop(sink);
 }
 
 #[test]
@@ -135,8 +138,9 @@ fn plans_come_in_pieces_of_any_size(rt: HostRuntime) {
         let mut source = TestSource::new(PLAN).in_pieces_of(size);
         let mut sink = new_sink(&rt, rt.alloc()).in_pieces_of(size);
         let driven = run_drive(&rt, rt.alloc(), 2, &mut source, &mut sink);
-        assert!(&rt; driven == Ok(DriveEnd::Finished));
-        assert!(&rt; sink.taken() == OUTCOME);
+        same(&rt, driven, Ok(DriveEnd::Finished));
+        same(&rt, sink.taken(), OUTCOME);
+        drop(sink);
     }
 }
 
@@ -155,16 +159,18 @@ fn after_each_read_that_fails_nothing_is_written(rt: HostRuntime) {
                 driven == Err(RunFault::Read),
                 "{good} reads of {size} bytes"
             );
-            assert!(&rt; status_of_drive(&driven) == 3);
-            assert!(&rt; sink.taken().is_empty());
+            same(&rt, status_of_drive(&driven), 3);
+            holds(&rt, sink.taken().is_empty());
+            drop(sink);
         }
         let mut source = TestSource::new(PLAN)
             .in_pieces_of(size)
             .failing_after(reads as u64);
         let mut sink = new_sink(&rt, rt.alloc());
         let driven = run_drive(&rt, rt.alloc(), 2, &mut source, &mut sink);
-        assert!(&rt; driven == Ok(DriveEnd::Finished));
-        assert!(&rt; sink.taken() == OUTCOME);
+        same(&rt, driven, Ok(DriveEnd::Finished));
+        same(&rt, sink.taken(), OUTCOME);
+        drop(sink);
     }
 }
 
@@ -186,8 +192,9 @@ fn fails_at_each_write<R: Threads + Wait + Sync + Abort>(
             .refusing_after(room, refusal);
         let driven = run_drive(rt, alloc, 2, &mut source, &mut sink);
         assert!(rt; driven == Err(RunFault::Write), "room for {room} bytes");
-        assert!(rt; status_of_drive(&driven) == 3);
-        assert!(rt; sink.taken() == &written[..room]);
+        same(rt, status_of_drive(&driven), 3);
+        same(rt, sink.taken(), &written[..room]);
+        drop(sink);
     }
 }
 
@@ -207,24 +214,27 @@ fn a_sink_is_not_asked_for_room_where_nothing_is_written(rt: HostRuntime) {
     let mut source = TestSource::new(NO_JOB);
     let mut sink = new_sink(&rt, rt.alloc()).refusing_after(0, Refusal::Fault);
     let driven = run_drive(&rt, rt.alloc(), 2, &mut source, &mut sink);
-    assert!(&rt; driven == Ok(DriveEnd::Finished));
+    same(&rt, driven, Ok(DriveEnd::Finished));
+    drop(sink);
 }
 
 #[test]
 fn a_plan_without_end_is_too_long(rt: HostRuntime) {
     let mut sink = new_sink(&rt, rt.alloc());
     let driven = run_drive(&rt, rt.alloc(), 1, &mut Hashes, &mut sink);
-    assert!(&rt; driven == Err(RunFault::TooLong));
-    assert!(&rt; status_of_drive(&driven) == 3);
-    assert!(&rt; sink.taken().is_empty());
+    holds(&rt, driven == Err(RunFault::TooLong));
+    same(&rt, status_of_drive(&driven), 3);
+    holds(&rt, sink.taken().is_empty());
+    drop(sink);
 }
 
 #[test]
 fn want_of_memory_has_a_status_of_its_own(rt: HostRuntime) {
     let refused = Ok(DriveEnd::Refused(DriveFault::Memory));
-    assert!(&rt; status_of_drive(&refused) == 3);
-    assert!(&rt; status_of_drive(&Err(RunFault::Memory)) == 3);
+    same(&rt, status_of_drive(&refused), 3);
+    same(&rt, status_of_drive(&Err(RunFault::Memory)), 3);
     for fault in [DriveFault::Doubled(2), DriveFault::Missing(3)] {
-        assert!(&rt; status_of_drive(&Ok(DriveEnd::Refused(fault))) == 1);
+        same(&rt, status_of_drive(&Ok(DriveEnd::Refused(fault))), 1);
     }
+    drop(refused);
 }

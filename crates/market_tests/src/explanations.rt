@@ -5,6 +5,7 @@ use byte_devices::{Refusal, TestSource};
 use market_prog::{MarketOptions, RunFault, ScriptTask, explain_script};
 use market_types::OpenFault;
 use std::rt::HostRuntime;
+use test_asserts::{holds, same};
 
 const FIVE: &[u8] = b"0 control 6\n0 open 8 1 normal\n0 open 8 1 normal\n0 open 8 1 normal\n\
     0 request 1 3\n0 request 3 4\n";
@@ -87,6 +88,7 @@ fn no_market_is_explained_that_cannot_be_opened(rt: HostRuntime) {
         ..MarketOptions::USUAL
     };
     let told = explain_script(rt.alloc(), options, &mut source, &mut sink);
-    assert!(&rt; told == Err(RunFault::Open(OpenFault::BadBase)));
-    assert!(&rt; sink.taken().is_empty());
+    same(&rt, told, Err(RunFault::Open(OpenFault::BadBase)));
+    holds(&rt, sink.taken().is_empty());
+    drop(sink);
 }

@@ -6,6 +6,7 @@ use byte_devices::{Refusal, TestSource};
 use market_prog::{MarketOptions, RunFault, ScriptTask, run_journal, status_of_run};
 use market_types::{LastNumber, OpenFault};
 use std::rt::HostRuntime;
+use test_asserts::{holds, same};
 
 const THREE: &[u8] = b"0 open 8\n# three workers\n\n0 fly\n0 request 1 3\n0 show 1\n";
 
@@ -72,6 +73,7 @@ fn a_refused_call_is_recorded(rt: HostRuntime) {
         ..WRITTEN
     };
     refused.is_done(&rt, rt.alloc(), 7);
+    drop(refused);
 }
 
 #[test]
@@ -98,8 +100,9 @@ fn no_journal_is_written_of_a_market_that_cannot_be_opened(rt: HostRuntime) {
         ..MarketOptions::USUAL
     };
     let told = run_journal(rt.alloc(), options, &mut source, &mut sink);
-    assert!(&rt; told == Err(RunFault::Open(OpenFault::BadBase)));
-    assert!(&rt; sink.taken().is_empty());
+    same(&rt, told, Err(RunFault::Open(OpenFault::BadBase)));
+    holds(&rt, sink.taken().is_empty());
+    drop(sink);
 }
 
 #[test]
@@ -114,8 +117,9 @@ fn a_journal_tells_another_last_number(rt: HostRuntime) {
     let mut source = TestSource::new(b"0 control 9\n0 control 9\n0 control 9\n0 control 9\n");
     let mut sink = new_sink(&rt, rt.alloc());
     let told = run_journal(rt.alloc(), options, &mut source, &mut sink);
-    assert!(&rt; told == Ok(0));
-    assert!(&rt; sink.taken() == LAST_IS_THREE);
+    same(&rt, told, Ok(0));
+    same(&rt, sink.taken(), LAST_IS_THREE);
+    drop(sink);
 }
 
 #[test]
@@ -123,9 +127,10 @@ fn a_history_with_a_call_too_many_is_full(rt: HostRuntime) {
     let mut source = Repeated::new(b"0 limit\n", b"0 limit\n", 1_048_576);
     let mut sink = new_sink(&rt, rt.alloc());
     let told = run_journal(rt.alloc(), MarketOptions::USUAL, &mut source, &mut sink);
-    assert!(&rt; told == Err(RunFault::HistoryFull));
-    assert!(&rt; status_of_run(&told) == 3);
-    assert!(&rt; sink.taken().is_empty());
+    same(&rt, told, Err(RunFault::HistoryFull));
+    same(&rt, status_of_run(&told), 3);
+    holds(&rt, sink.taken().is_empty());
+    drop(sink);
 }
 
 #[test]
@@ -133,6 +138,7 @@ fn a_history_has_1_048_576_calls_at_most(rt: HostRuntime) {
     let mut source = Repeated::new(b"0 limit\n", b"0 limit\n", 1_048_575);
     let mut sink = LineCount::new();
     let told = run_journal(rt.alloc(), MarketOptions::USUAL, &mut source, &mut sink);
-    assert!(&rt; told == Ok(0));
-    assert!(&rt; sink.lines() == 1_048_577);
+    same(&rt, told, Ok(0));
+    same(&rt, sink.lines(), 1_048_577);
+    drop(sink);
 }

@@ -10,6 +10,7 @@ use market_types::{
 use std::alloc::{AllocError, Global};
 use std::process::Abort;
 use std::rt::HostRuntime;
+use test_asserts::{holds, same};
 
 /// A market of three levels.
 fn opened(rt: &impl Abort, alloc: Global, base: u32, hard: u32, seats: u8) -> Market
@@ -40,10 +41,16 @@ fn open_asking(
     workers: u16,
 ) {
     let opened = answer(rt, alloc, market, open);
-    assert!(rt; matches!(&opened, Reply::Opened(arena) if arena.get() == number));
+    holds(
+        rt,
+        matches!(&opened, Reply::Opened(arena) if arena.get() == number),
+    );
     let request = Cmd::Request(ArenaId::new(number), i32::from(workers), 0);
     let asked = answer(rt, alloc, market, request);
-    assert!(rt; matches!(&asked, Reply::Requested(total) if *total == u32::from(workers)));
+    holds(
+        rt,
+        matches!(&asked, Reply::Requested(total) if *total == u32::from(workers)),
+    );
 }
 
 fn level(rt: &impl Abort, number: u32) -> Level {
@@ -72,16 +79,18 @@ fn a_thousand_arenas_share_all_workers(rt: HostRuntime) {
             panic!(&rt; "no arena");
         };
         let due = if number == 1024 { 63 } else { 64 };
-        assert!(&rt; view.allot == due);
+        same(&rt, view.allot, due);
     }
     let refused = answer(&rt, rt.alloc(), &mut market, Cmd::Open(65535, 0, normal));
-    assert!(&rt; matches!(refused, Reply::Refused(Fault::TooManyArenas)));
+    holds(&rt, matches!(refused, Reply::Refused(Fault::TooManyArenas)));
     let _ = market.seats();
     let show = Cmd::Show(ArenaId::new(1));
     let Ok((_, visits)) = market.apply_counted(rt.alloc(), SeatNo::new(0), show) else {
         panic!(&rt; "no memory");
     };
-    assert!(&rt; visits >= 1 && visits <= 45);
+    holds(&rt, visits >= 1 && visits <= 45);
+    drop(refused);
+    drop(market);
 }
 
 /// Of 1,024 arenas that ask for one worker each, 64 are allotted one: each sixteenth in order, newest first. A Join finds
@@ -101,18 +110,26 @@ fn joins_pass_over_idle_arenas(rt: HostRuntime) {
         );
     }
     for joined in 0..64_u8 {
-        assert!(&rt; joined < market.seats());
+        holds(&rt, joined < market.seats());
         let seat = SeatNo::new(joined);
         let Ok((reply, visits)) = market.apply_counted(rt.alloc(), seat, Cmd::Join) else {
             panic!(&rt; "no memory");
         };
         let due = 1009 - 16 * u32::from(joined);
-        assert!(&rt; matches!(&reply, Reply::Placed(arena) if arena.get() == due));
+        holds(
+            &rt,
+            matches!(&reply, Reply::Placed(arena) if arena.get() == due),
+        );
         let passed = u64::from(joined) + 1;
-        assert!(&rt; visits >= 2 * passed && visits <= 44 * passed);
+        holds(&rt, visits >= 2 * passed && visits <= 44 * passed);
     }
     let lists = answer(&rt, rt.alloc(), &mut market, Cmd::Lists);
-    assert!(&rt; matches!(&lists, Reply::Listed(lists) if lists.arenas.is_empty()));
+    holds(
+        &rt,
+        matches!(&lists, Reply::Listed(lists) if lists.arenas.is_empty()),
+    );
+    drop(lists);
+    drop(market);
 }
 
 /// A Join that is placed at the last level has looked at every filled arena of the levels before it, and counts them all.
@@ -131,16 +148,20 @@ fn joins_count_the_levels_before(rt: HostRuntime) {
         );
     }
     for joined in 0..12_u8 {
-        assert!(&rt; joined < market.seats());
+        holds(&rt, joined < market.seats());
         let seat = SeatNo::new(joined);
         let Ok((reply, visits)) = market.apply_counted(rt.alloc(), seat, Cmd::Join) else {
             panic!(&rt; "no memory");
         };
         let filled = joined / 2;
         let due = if filled % 2 == 0 { filled + 2 } else { filled };
-        assert!(&rt; matches!(&reply, Reply::Placed(arena) if arena.get() == u32::from(due)));
-        assert!(&rt; visits >= u64::from(filled) + 1);
+        holds(
+            &rt,
+            matches!(&reply, Reply::Placed(arena) if arena.get() == u32::from(due)),
+        );
+        holds(&rt, visits >= u64::from(filled) + 1);
     }
+    drop(market);
 }
 
 #[test]
@@ -149,17 +170,20 @@ fn numbers_run_out(rt: HostRuntime) {
     let normal = level(&rt, 2);
     for number in 1..1_048_577 {
         let opened = answer(&rt, rt.alloc(), &mut market, Cmd::Open(8, 1, normal));
-        assert!(&rt; matches!(opened, Reply::Opened(_)));
+        holds(&rt, matches!(opened, Reply::Opened(_)));
         let closed = answer(
             &rt,
             rt.alloc(),
             &mut market,
             Cmd::Close(ArenaId::new(number)),
         );
-        assert!(&rt; matches!(closed, Reply::Closed));
+        holds(&rt, matches!(closed, Reply::Closed));
+        drop(closed);
     }
     let refused = answer(&rt, rt.alloc(), &mut market, Cmd::Open(8, 1, normal));
-    assert!(&rt; matches!(refused, Reply::Refused(Fault::OutOfNumbers)));
+    holds(&rt, matches!(refused, Reply::Refused(Fault::OutOfNumbers)));
+    drop(refused);
+    drop(market);
 }
 
 #[test]
@@ -167,14 +191,17 @@ fn stamps_run_out(rt: HostRuntime) {
     let mut market = opened(&rt, rt.alloc(), 8, 64, 4);
     let normal = level(&rt, 2);
     let opened = answer(&rt, rt.alloc(), &mut market, Cmd::Open(8, 1, normal));
-    assert!(&rt; matches!(opened, Reply::Opened(_)));
+    holds(&rt, matches!(opened, Reply::Opened(_)));
     let priority = Cmd::Priority(ArenaId::new(1), normal);
     for _ in 0..1_048_575 {
         let moved = answer(&rt, rt.alloc(), &mut market, priority);
-        assert!(&rt; matches!(moved, Reply::Moved));
+        holds(&rt, matches!(moved, Reply::Moved));
+        drop(moved);
     }
     let refused = answer(&rt, rt.alloc(), &mut market, priority);
-    assert!(&rt; matches!(refused, Reply::Refused(Fault::OutOfNumbers)));
+    holds(&rt, matches!(refused, Reply::Refused(Fault::OutOfNumbers)));
+    drop(refused);
+    drop(market);
 }
 
 #[test]
@@ -182,13 +209,20 @@ fn control_numbers_run_out(rt: HostRuntime) {
     let mut market = opened(&rt, rt.alloc(), 8, 64, 4);
     for number in 1..1_048_577 {
         let made = answer(&rt, rt.alloc(), &mut market, Cmd::Control(5));
-        assert!(&rt; matches!(made, Reply::Controlled(control) if control.get() == number));
+        holds(
+            &rt,
+            matches!(made, Reply::Controlled(control) if control.get() == number),
+        );
         let gone = Cmd::Uncontrol(ControlId::new(number));
         let removed = answer(&rt, rt.alloc(), &mut market, gone);
-        assert!(&rt; matches!(removed, Reply::Uncontrolled));
+        holds(&rt, matches!(removed, Reply::Uncontrolled));
+        drop(removed);
+        drop(made);
     }
     let refused = answer(&rt, rt.alloc(), &mut market, Cmd::Control(5));
-    assert!(&rt; matches!(refused, Reply::Refused(Fault::OutOfNumbers)));
+    holds(&rt, matches!(refused, Reply::Refused(Fault::OutOfNumbers)));
+    drop(refused);
+    drop(market);
 }
 
 /// Whether so many arenas are listed, and each needs this correction.
@@ -222,25 +256,31 @@ fn a_thousand_arenas_are_listed(rt: HostRuntime) {
         );
     }
     let lists = answer(&rt, rt.alloc(), &mut market, Cmd::Lists);
-    assert!(&rt; all_need(&lists, Correction::Hire, 1024));
+    holds(&rt, all_need(&lists, Correction::Hire, 1024));
     let Ok(text) = reply_text(rt.alloc(), &lists) else {
         panic!(&rt; "no memory");
     };
     // The 1,024 numbers have 2,989 digits, and each but the last has a comma.
-    assert!(&rt; text.len() == 14 + 2_989 + 2 * 1_024 + 1_023);
-    assert!(&rt; text.as_str().starts_with("recall - hire 1024:1,1023:1,"));
-    assert!(&rt; text.as_str().ends_with(",2:1,1:1"));
+    same(&rt, text.len(), 14 + 2_989 + 2 * 1_024 + 1_023);
+    holds(
+        &rt,
+        text.as_str().starts_with("recall - hire 1024:1,1023:1,"),
+    );
+    holds(&rt, text.as_str().ends_with(",2:1,1:1"));
     for joining in 0..64_u8 {
-        assert!(&rt; joining < market.seats());
+        holds(&rt, joining < market.seats());
         let seat = SeatNo::new(joining);
         let Ok(reply) = market.apply(rt.alloc(), seat, Cmd::Join) else {
             panic!(&rt; "no memory");
         };
-        assert!(&rt; matches!(reply, Reply::Placed(_)));
+        holds(&rt, matches!(reply, Reply::Placed(_)));
+        drop(reply);
     }
     let _ = answer(&rt, rt.alloc(), &mut market, Cmd::Control(1));
     let lists = answer(&rt, rt.alloc(), &mut market, Cmd::Lists);
-    assert!(&rt; all_need(&lists, Correction::Recall, 64));
+    holds(&rt, all_need(&lists, Correction::Recall, 64));
+    drop(lists);
+    drop(market);
 }
 
 #[test]
@@ -248,10 +288,16 @@ fn at_most_256_controls_live(rt: HostRuntime) {
     let mut market = opened(&rt, rt.alloc(), 8, 64, 4);
     for _ in 0..256 {
         let made = answer(&rt, rt.alloc(), &mut market, Cmd::Control(5));
-        assert!(&rt; matches!(made, Reply::Controlled(_)));
+        holds(&rt, matches!(made, Reply::Controlled(_)));
+        drop(made);
     }
     let refused = answer(&rt, rt.alloc(), &mut market, Cmd::Control(5));
-    assert!(&rt; matches!(refused, Reply::Refused(Fault::TooManyControls)));
+    holds(
+        &rt,
+        matches!(refused, Reply::Refused(Fault::TooManyControls)),
+    );
+    drop(refused);
+    drop(market);
 }
 
 #[test]
@@ -268,7 +314,7 @@ fn an_opening_names_its_first_bad_number(rt: HostRuntime) {
     ];
     for (base, hard, seats, levels, due) in bad {
         let opened = Market::new(rt.alloc(), base, hard, seats, levels);
-        assert!(&rt; matches!(opened, Err(fault) if fault == due));
+        holds(&rt, matches!(opened, Err(fault) if fault == due));
     }
 }
 
@@ -277,11 +323,12 @@ fn a_market_tells_what_it_was_opened_with(rt: HostRuntime) {
     let Ok(market) = Market::new(rt.alloc(), 65536, 65535, 64, 8) else {
         panic!(&rt; "no market");
     };
-    assert!(&rt; market.base() == 65536);
-    assert!(&rt; market.hard() == 65535);
-    assert!(&rt; market.seats() == 64);
-    assert!(&rt; market.levels() == 8);
-    assert!(&rt; market.limits().limit == 65535);
+    same(&rt, market.base(), 65536);
+    same(&rt, market.hard(), 65535);
+    same(&rt, market.seats(), 64);
+    same(&rt, market.levels(), 8);
+    same(&rt, market.limits().limit, 65535);
+    drop(market);
 }
 
 #[test]
@@ -306,7 +353,12 @@ fn a_list_of_commands_is_answered_in_order(rt: HostRuntime) {
     let Ok(replies) = apply_all(rt.alloc(), &mut market, &calls) else {
         panic!(&rt; "no memory");
     };
-    assert!(&rt; matches!(&replies[2], Reply::Shown(view) if view.allot == 3 && view.hire == 3));
+    holds(
+        &rt,
+        matches!(&replies[2], Reply::Shown(view) if view.allot == 3 && view.hire == 3),
+    );
+    drop(replies);
+    drop(market);
 }
 
 /// So many calls of seat 3, each for the limits.
@@ -329,7 +381,12 @@ fn a_long_list_of_commands_is_answered(rt: HostRuntime) {
     let Ok(replies) = apply_all(rt.alloc(), &mut market, &calls) else {
         panic!(&rt; "no memory");
     };
-    assert!(&rt; replies.len() == 1_048_576);
+    same(&rt, replies.len(), 1_048_576);
     let last = replies.last();
-    assert!(&rt; matches!(last, Some(Reply::Limits(limits)) if limits.limit == 7));
+    holds(
+        &rt,
+        matches!(last, Some(Reply::Limits(limits)) if limits.limit == 7),
+    );
+    drop(replies);
+    drop(market);
 }

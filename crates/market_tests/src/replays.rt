@@ -8,6 +8,7 @@ use market_prog::{RunFault, run_replay, status_of_replay};
 use std::alloc::Global;
 use std::process::Abort;
 use std::rt::HostRuntime;
+use test_asserts::{holds, same};
 
 const JOURNAL: &[u8] = b"\
 {\"base\":8,\"hard\":64,\"journal\":1,\"seats\":4}
@@ -32,9 +33,10 @@ fn a_legal_journal_is_told_with_its_entries(rt: HostRuntime) {
     let mut source = TestSource::new(JOURNAL);
     let mut sink = new_sink(&rt, rt.alloc());
     let told = run_replay(rt.alloc(), &mut source, &mut sink);
-    assert!(&rt; sink.taken() == LEGAL);
-    assert!(&rt; matches!(&told, Ok(Verdict::Legal(3))));
-    assert!(&rt; status_of_replay(&told) == 0);
+    same(&rt, sink.taken(), LEGAL);
+    holds(&rt, matches!(&told, Ok(Verdict::Legal(3))));
+    same(&rt, status_of_replay(&told), 0);
+    drop(sink);
 }
 
 #[test]
@@ -42,9 +44,10 @@ fn a_changed_journal_is_told_by_its_first_fault(rt: HostRuntime) {
     let mut source = TestSource::new(WITHOUT_ITS_OPEN);
     let mut sink = new_sink(&rt, rt.alloc());
     let told = run_replay(rt.alloc(), &mut source, &mut sink);
-    assert!(&rt; sink.taken() == REFUSED);
-    assert!(&rt; matches!(&told, Ok(Verdict::WrongReply(2, _))));
-    assert!(&rt; status_of_replay(&told) == 1);
+    same(&rt, sink.taken(), REFUSED);
+    holds(&rt, matches!(&told, Ok(Verdict::WrongReply(2, _))));
+    same(&rt, status_of_replay(&told), 1);
+    drop(sink);
 }
 
 /// The line of the verdict of the first bytes of the journal, and its status.
@@ -63,7 +66,7 @@ fn told_of_front(bytes: usize) -> (&'static [u8], u8) {
 
 #[test]
 fn each_front_of_a_journal_is_told(rt: HostRuntime) {
-    assert!(&rt; JOURNAL.len() == 244);
+    same(&rt, JOURNAL.len(), 244);
     for bytes in 0..=JOURNAL.len() {
         let mut source = TestSource::new(&JOURNAL[..bytes]);
         let mut sink = new_sink(&rt, rt.alloc());
@@ -71,6 +74,7 @@ fn each_front_of_a_journal_is_told(rt: HostRuntime) {
         let (line, status) = told_of_front(bytes);
         assert!(&rt; sink.taken() == line, "{bytes} bytes");
         assert!(&rt; status_of_replay(&told) == status, "{bytes} bytes");
+        drop(sink);
     }
 }
 
@@ -85,8 +89,9 @@ fn limits_are_told(rt: &impl Abort, alloc: Global, header: &'static [u8], calls:
     let mut source = Repeated::new(header, call, calls);
     let mut sink = new_sink(rt, alloc);
     let told = run_replay(alloc, &mut source, &mut sink);
-    assert!(rt; told.is_ok());
-    assert!(rt; sink.taken() == line);
+    holds(rt, told.is_ok());
+    same(rt, sink.taken(), line);
+    drop(sink);
 }
 
 #[test]
@@ -116,16 +121,18 @@ fn after_each_read_that_fails_nothing_is_written(rt: HostRuntime) {
                 matches!(&told, Err(RunFault::Read)),
                 "{good} reads of {size} bytes"
             );
-            assert!(&rt; status_of_replay(&told) == 3);
-            assert!(&rt; sink.taken().is_empty());
+            same(&rt, status_of_replay(&told), 3);
+            holds(&rt, sink.taken().is_empty());
+            drop(sink);
         }
         let mut source = TestSource::new(JOURNAL)
             .in_pieces_of(size)
             .failing_after(reads as u64);
         let mut sink = new_sink(&rt, rt.alloc());
         let told = run_replay(rt.alloc(), &mut source, &mut sink);
-        assert!(&rt; sink.taken() == LEGAL);
-        assert!(&rt; status_of_replay(&told) == 0);
+        same(&rt, sink.taken(), LEGAL);
+        same(&rt, status_of_replay(&told), 0);
+        drop(sink);
     }
 }
 
@@ -143,16 +150,18 @@ fn after_each_write_that_fails_a_front_of_the_line_is_written(rt: HostRuntime) {
                     matches!(&told, Err(RunFault::Write)),
                     "room for {room} bytes"
                 );
-                assert!(&rt; status_of_replay(&told) == 3);
-                assert!(&rt; sink.taken() == &REFUSED[..room]);
+                same(&rt, status_of_replay(&told), 3);
+                same(&rt, sink.taken(), &REFUSED[..room]);
+                drop(sink);
             }
             let mut source = TestSource::new(WITHOUT_ITS_OPEN);
             let mut sink = new_sink(&rt, rt.alloc())
                 .in_pieces_of(size)
                 .refusing_after(REFUSED.len(), refusal);
             let told = run_replay(rt.alloc(), &mut source, &mut sink);
-            assert!(&rt; sink.taken() == REFUSED);
-            assert!(&rt; status_of_replay(&told) == 1);
+            same(&rt, sink.taken(), REFUSED);
+            same(&rt, status_of_replay(&told), 1);
+            drop(sink);
         }
     }
 }

@@ -6,6 +6,7 @@ use market_types::LastNumber;
 use std::alloc::Global;
 use std::process::Abort;
 use std::rt::HostRuntime;
+use test_asserts::{holds, same};
 
 /// The script to a market of these options is answered by these replies, with so many of its lines unread.
 fn answers_of(
@@ -19,8 +20,9 @@ fn answers_of(
     let mut source = TestSource::new(script);
     let mut sink = new_sink(rt, alloc);
     let told = run_script(alloc, options, &mut source, &mut sink);
-    assert!(rt; sink.taken() == replies);
-    assert!(rt; told == Ok(unread));
+    same(rt, sink.taken(), replies);
+    same(rt, told, Ok(unread));
+    drop(sink);
 }
 
 /// The same of a usual market.
@@ -131,7 +133,8 @@ fn a_line_of_more_than_256_bytes_is_unread(rt: HostRuntime) {
         let mut source = TestSource::new(&long).in_pieces_of(size);
         let mut sink = new_sink(&rt, rt.alloc());
         let told = run_script(rt.alloc(), MarketOptions::USUAL, &mut source, &mut sink);
-        assert!(&rt; told == Ok(1) && sink.taken() == b"unread\n".as_slice());
+        holds(&rt, told == Ok(1) && sink.taken() == b"unread\n".as_slice());
+        drop(sink);
     }
     long[0] = b'#';
     answers(&rt, rt.alloc(), &long, b"", 0);

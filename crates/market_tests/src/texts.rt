@@ -7,6 +7,7 @@ use market_types::{
 use std::alloc::Global;
 use std::process::Abort;
 use std::rt::HostRuntime;
+use test_asserts::{holds, same};
 
 /// The canonical text of each command.
 const TEXTS: [&str; 13] = [
@@ -34,7 +35,7 @@ fn commands_are_read_and_written(rt: HostRuntime) {
         let Ok(written) = cmd_text(rt.alloc(), &cmd, 3) else {
             panic!(&rt; "no memory");
         };
-        assert!(&rt; written.as_str() == text);
+        same(&rt, written.as_str(), text);
     }
 }
 
@@ -43,8 +44,8 @@ fn a_line_names_its_seat(rt: HostRuntime) {
     let Some((seat, _cmd)) = read_line(b"3 limit", 4, 3) else {
         panic!(&rt; "unread");
     };
-    assert!(&rt; seat.get() == 3);
-    assert!(&rt; read_line(b"4 limit", 4, 3).is_none());
+    same(&rt, seat.get(), 3);
+    holds(&rt, read_line(b"4 limit", 4, 3).is_none());
 }
 
 /// The reply has that text.
@@ -52,10 +53,10 @@ fn is_written(rt: &impl Abort, alloc: Global, reply: &Reply, due: &str) {
     let Ok(text) = reply_text(alloc, reply) else {
         panic!(rt; "no memory");
     };
-    assert!(rt; text.as_str() == due);
+    same(rt, text.as_str(), due);
     let mut out = Vec::new(alloc);
-    assert!(rt; push_reply(&mut out, reply).is_ok());
-    assert!(rt; out.as_slice() == due.as_bytes());
+    holds(rt, push_reply(&mut out, reply).is_ok());
+    same(rt, out.as_slice(), due.as_bytes());
 }
 
 #[test]
@@ -91,7 +92,7 @@ fn lists_are_written(rt: HostRuntime) {
             correction: Correction::Recall,
             count,
         };
-        assert!(&rt; lists.push(imbalance).is_ok());
+        holds(&rt, lists.push(imbalance).is_ok());
     }
     let due = "recall 3:1,1:2 hire -";
     is_written(&rt, rt.alloc(), &Reply::Listed(lists), due);
@@ -101,7 +102,7 @@ fn lists_are_written(rt: HostRuntime) {
 fn faults_are_written(rt: HostRuntime) {
     let busy = Reply::Refused(Fault::Busy(1));
     is_written(&rt, rt.alloc(), &busy, "F06 busy 1");
-    assert!(&rt; open_fault_text(OpenFault::BadLevels) == "O5 bad levels");
+    same(&rt, open_fault_text(OpenFault::BadLevels), "O5 bad levels");
 }
 
 #[test]
@@ -117,6 +118,7 @@ fn faults_of_a_run_have_texts(rt: HostRuntime) {
         let Ok(told) = format!(in rt.alloc(); "{fault}") else {
             panic!(&rt; "no memory");
         };
-        assert!(&rt; told.as_str() == text);
+        same(&rt, told.as_str(), text);
+        drop(told);
     }
 }

@@ -11,6 +11,7 @@ use std::process::Abort;
 use std::rt::HostRuntime;
 use std::sync::Wait;
 use std::thread::Threads;
+use test_asserts::{holds, same};
 
 const SCRIPT: &[u8] = b"0 open 8 1 normal\n0 request 1 3 0\n0 show 1\n";
 
@@ -206,11 +207,15 @@ fn fails_at_each_read<R: Threads + Wait + Sync + Abort>(
         let fault = engine.stops(rt, alloc, &mut source, &mut sink);
         let taken = sink.sink.taken();
         if fault.is_none() {
-            assert!(rt; reads > 2 && taken == due);
+            holds(rt, reads > 2 && taken == due);
             return;
         }
-        assert!(rt; fault == Some(RunFault::Read));
-        assert!(rt; due.starts_with(taken) && (taken.is_empty() || engine == Engine::Run));
+        same(rt, fault, Some(RunFault::Read));
+        holds(
+            rt,
+            due.starts_with(taken) && (taken.is_empty() || engine == Engine::Run),
+        );
+        drop(sink);
     }
     panic!(rt; "an input without end");
 }
@@ -241,8 +246,9 @@ fn fails_at_each_byte<R: Threads + Wait + Sync + Abort>(
         } else {
             None
         };
-        assert!(rt; fault == wanted);
-        assert!(rt; sink.sink.taken() == &due[..room]);
+        same(rt, fault, wanted);
+        same(rt, sink.sink.taken(), &due[..room]);
+        drop(sink);
     }
 }
 

@@ -4,13 +4,14 @@ use market_types::LastNumber;
 use std::alloc::Global;
 use std::process::Abort;
 use std::rt::HostRuntime;
+use test_asserts::same;
 
 /// The words are read as that choice.
 fn choose(rt: &impl Abort, alloc: Global, words: &[&str], due: Choice) {
     let Ok(choice) = read_words(alloc, words) else {
         panic!(rt; "refused");
     };
-    assert!(rt; choice == due);
+    same(rt, choice, due);
 }
 
 #[test]
@@ -99,7 +100,7 @@ fn end(rt: &impl Abort, alloc: Global, words: &[&str], status: i32, text: &str) 
     let Err(error) = read_words(alloc, words) else {
         panic!(rt; "taken");
     };
-    assert!(rt; error.exit_code() == status);
+    same(rt, error.exit_code(), status);
     let Ok(said) = format!(in alloc; "{error}") else {
         panic!(rt; "no memory");
     };

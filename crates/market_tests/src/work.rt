@@ -5,6 +5,7 @@ use byte_devices::{Refusal, Sink, Source, TestSink, TestSource};
 use market_prog::{MarketOptions, RunFault, ScriptTask, explain_script, run_journal, run_script};
 use std::alloc::Global;
 use std::process::Abort;
+use test_asserts::{holds, same};
 
 /// A sink with room for 4,096 bytes.
 pub(crate) fn new_sink(rt: &impl Abort, alloc: Global) -> TestSink
@@ -52,8 +53,9 @@ impl Work {
         let mut source = TestSource::new(self.script).in_pieces_of(size);
         let mut sink = new_sink(rt, alloc).in_pieces_of(size);
         let told = work_script(alloc, self.task, &mut source, &mut sink);
-        assert!(rt; sink.taken() == self.text);
-        assert!(rt; told == Ok(self.unread));
+        same(rt, sink.taken(), self.text);
+        same(rt, told, Ok(self.unread));
+        drop(sink);
     }
 
     /// Each read fails in turn, until none does. Where one fails nothing is written.
@@ -69,15 +71,17 @@ impl Work {
             let mut sink = new_sink(rt, alloc);
             let told = work_script(alloc, self.task, &mut source, &mut sink);
             assert!(rt; told == Err(RunFault::Read), "{good} reads of {size} bytes");
-            assert!(rt; sink.taken().is_empty());
+            holds(rt, sink.taken().is_empty());
+            drop(sink);
         }
         let mut source = TestSource::new(self.script)
             .in_pieces_of(size)
             .failing_after(reads as u64);
         let mut sink = new_sink(rt, alloc);
         let told = work_script(alloc, self.task, &mut source, &mut sink);
-        assert!(rt; told == Ok(self.unread));
-        assert!(rt; sink.taken() == self.text);
+        same(rt, told, Ok(self.unread));
+        same(rt, sink.taken(), self.text);
+        drop(sink);
     }
 
     /// Each byte is refused in turn, until none is. Where one is refused, those before it are written.
@@ -91,14 +95,16 @@ impl Work {
                 .refusing_after(room, refusal);
             let told = work_script(alloc, self.task, &mut source, &mut sink);
             assert!(rt; told == Err(RunFault::Write), "room for {room} bytes");
-            assert!(rt; sink.taken() == &self.text[..room]);
+            same(rt, sink.taken(), &self.text[..room]);
+            drop(sink);
         }
         let mut source = TestSource::new(self.script);
         let mut sink = new_sink(rt, alloc)
             .in_pieces_of(size)
             .refusing_after(self.text.len(), refusal);
         let told = work_script(alloc, self.task, &mut source, &mut sink);
-        assert!(rt; told == Ok(self.unread));
-        assert!(rt; sink.taken() == self.text);
+        same(rt, told, Ok(self.unread));
+        same(rt, sink.taken(), self.text);
+        drop(sink);
     }
 }

@@ -7,6 +7,7 @@ use market_types::{ArenaId, Row};
 use std::alloc::Global;
 use std::process::Abort;
 use std::rt::HostRuntime;
+use test_asserts::same;
 
 /// The row of an arena, which asks for 5.
 fn row(stamp: u32, arena: u32) -> Row
@@ -36,21 +37,22 @@ pub(crate) fn pushed(rt: &impl Abort, alloc: Global, list: &mut LevelList, row: 
 #[test]
 fn lists_newest_first(rt: HostRuntime) {
     let mut list = LevelList::new();
-    assert!(&rt; pushed(&rt, rt.alloc(), &mut list, row(1, 1)) == 1);
+    same(&rt, pushed(&rt, rt.alloc(), &mut list, row(1, 1)), 1);
     pushed(&rt, rt.alloc(), &mut list, row(2, 2));
     pushed(&rt, rt.alloc(), &mut list, row(3, 3));
-    assert!(&rt; list.len() == 3);
-    assert!(&rt; list.demand() == 15);
-    assert!(&rt; list.before(2).0 == 5);
+    same(&rt, list.len(), 3);
+    same(&rt, list.demand(), 15);
+    same(&rt, list.before(2).0, 5);
     for (place, arena) in [(0, 3), (1, 2), (2, 1)] {
-        assert!(&rt; list.walk(place).0 == Some(row(arena, arena)));
+        same(&rt, list.walk(place).0, Some(row(arena, arena)));
     }
-    assert!(&rt; list.first_mandated().0 == None);
+    same(&rt, list.first_mandated().0, None);
     if let Some(taken) = list.take(1).0 {
-        assert!(&rt; taken.row() == row(1, 1));
+        same(&rt, taken.row(), row(1, 1));
         list.put(taken, 4);
     }
-    assert!(&rt; list.walk(0).0 == Some(row(4, 1)));
-    assert!(&rt; list.walk(3).0 == None);
-    assert!(&rt; list.before(2).0 == 10);
+    same(&rt, list.walk(0).0, Some(row(4, 1)));
+    same(&rt, list.walk(3).0, None);
+    same(&rt, list.before(2).0, 10);
+    drop(list);
 }

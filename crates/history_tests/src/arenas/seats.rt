@@ -8,6 +8,7 @@ use recall_hire::{Roster, Sharing, first_in_need, list};
 use std::alloc::Global;
 use std::process::Abort;
 use std::rt::HostRuntime;
+use test_asserts::{holds, same};
 
 /// The row of an arena with the number of its stamp.
 fn row(stamp: u32, request: u32) -> Row
@@ -34,21 +35,22 @@ fn seats_are_counted_at_their_arenas(rt: HostRuntime) {
     // Its slot is that of the other.
     let other = ArenaId::new(1025);
     let mut roster = seats(&rt, rt.alloc(), 2);
-    assert!(&rt; roster.seats() == 2);
+    same(&rt, roster.seats(), 2);
     roster.place(SeatNo::new(0), arena);
-    assert!(&rt; roster.active(arena) == 1);
-    assert!(&rt; roster.active(other) == 0);
+    same(&rt, roster.active(arena), 1);
+    same(&rt, roster.active(other), 0);
     roster.place(SeatNo::new(1), arena);
-    assert!(&rt; roster.active(arena) == 2);
-    assert!(&rt; roster.placed() == 2);
-    assert!(&rt; roster.at(SeatNo::new(1)) == Some(arena));
-    assert!(&rt; roster.unplace(SeatNo::new(0)) == Some(arena));
-    assert!(&rt; roster.unplace(SeatNo::new(0)) == None);
-    assert!(&rt; roster.active(arena) == 1);
-    assert!(&rt; roster.placed() == 1);
+    same(&rt, roster.active(arena), 2);
+    same(&rt, roster.placed(), 2);
+    same(&rt, roster.at(SeatNo::new(1)), Some(arena));
+    same(&rt, roster.unplace(SeatNo::new(0)), Some(arena));
+    same(&rt, roster.unplace(SeatNo::new(0)), None);
+    same(&rt, roster.active(arena), 1);
+    same(&rt, roster.placed(), 1);
     roster.place(SeatNo::new(0), other);
-    assert!(&rt; roster.active(other) == 1);
-    assert!(&rt; roster.placed() == 2);
+    same(&rt, roster.active(other), 1);
+    same(&rt, roster.placed(), 2);
+    drop(roster);
 }
 
 /// Arenas 1, 2 and 3, which ask for 2, 5 and 1 workers.
@@ -84,11 +86,14 @@ fn two_placed(rt: &impl Abort, alloc: Global) -> Roster {
 fn a_worker_goes_to_the_first_arena_in_need(rt: HostRuntime) {
     let roster = seats(&rt, rt.alloc(), 2);
     let rows = three_arenas(&rt, rt.alloc());
-    assert!(&rt; need(&roster, &LevelList::new(), 8) == (None, 0));
-    assert!(&rt; need(&roster, &rows, 0) == (None, 0));
-    assert!(&rt; need(&roster, &rows, 8) == (Some(ArenaId::new(3)), 2));
+    same(&rt, need(&roster, &LevelList::new(), 8), (None, 0));
+    same(&rt, need(&roster, &rows, 0), (None, 0));
+    same(&rt, need(&roster, &rows, 8), (Some(ArenaId::new(3)), 2));
+    drop(roster);
     let roster = two_placed(&rt, rt.alloc());
-    assert!(&rt; need(&roster, &rows, 8) == (Some(ArenaId::new(2)), 2));
+    same(&rt, need(&roster, &rows, 8), (Some(ArenaId::new(2)), 2));
+    drop(roster);
+    drop(rows);
 }
 
 /// What is listed of arenas, where each is allotted all that it asks for, or one worker goes to arena 3.
@@ -111,7 +116,10 @@ fn listed(rt: &impl Abort, alloc: Global, rows: &LevelList, roster: &Roster, all
     };
     let _ = roster.seats();
     let mut unmet = u32::MAX;
-    assert!(rt; list(roster, &rows.whole(), sharing, &mut unmet, &mut lists).is_ok());
+    holds(
+        rt,
+        list(roster, &rows.whole(), sharing, &mut unmet, &mut lists).is_ok(),
+    );
     lists
 }
 
@@ -134,11 +142,15 @@ fn counts_are_listed_in_order(rt: HostRuntime) {
         counted(2, Correction::Hire, 5),
         counted(1, Correction::Hire, 2),
     ];
-    assert!(&rt; lists.arenas.as_slice() == due.as_slice());
-    assert!(&rt; lists.len() == 3);
+    same(&rt, lists.arenas.as_slice(), due.as_slice());
+    same(&rt, lists.len(), 3);
+    drop(lists);
     let lists = listed(&rt, rt.alloc(), &rows, &roster, false);
     let due = [counted(3, Correction::Recall, 1)];
-    assert!(&rt; lists.arenas.as_slice() == due.as_slice());
+    same(&rt, lists.arenas.as_slice(), due.as_slice());
+    drop(lists);
+    drop(roster);
+    drop(rows);
 }
 
 #[test]
@@ -149,5 +161,8 @@ fn an_arena_with_one_worker_of_three_hires_two(rt: HostRuntime) {
     roster.place(SeatNo::new(0), ArenaId::new(1));
     let lists = listed(&rt, rt.alloc(), &rows, &roster, true);
     let due = [counted(1, Correction::Hire, 2)];
-    assert!(&rt; lists.arenas.as_slice() == due.as_slice());
+    same(&rt, lists.arenas.as_slice(), due.as_slice());
+    drop(lists);
+    drop(roster);
+    drop(rows);
 }

@@ -5,6 +5,7 @@ use arena_record::ArenaRecord;
 use arena_store::{Arenas, Change, StoredArena};
 use market_types::{ArenaId, Fault, Level};
 use std::rt::HostRuntime;
+use test_asserts::{holds, same};
 
 /// A new arena of 8 slots, one of them reserved, under a number that is its stamp too.
 fn arena(number: u32, level: Level) -> Result<StoredArena, Fault>
@@ -22,20 +23,27 @@ fn two_arenas_are_told_by_number_and_by_level(rt: HostRuntime) {
     let (Ok(old), Ok(new)) = (arena(1, level), arena(2, level)) else {
         panic!(&rt; "no arena");
     };
-    assert!(&rt; arenas.push(rt.alloc(), old) == Ok(1));
-    assert!(&rt; arenas.push(rt.alloc(), new) == Ok(2));
+    same(&rt, arenas.push(rt.alloc(), old), Ok(1));
+    same(&rt, arenas.push(rt.alloc(), new), Ok(2));
     for (number, workers) in [(1, 3), (2, 2)] {
         let asked = arenas.change(ArenaId::new(number), Change::Add(workers, 1));
-        assert!(&rt; matches!(asked, Ok((claim, _)) if claim.mandatory() == 1));
+        holds(
+            &rt,
+            matches!(asked, Ok((claim, _)) if claim.mandatory() == 1),
+        );
     }
-    assert!(&rt; arenas.len() == 2 && arenas.has_mandatory());
-    assert!(&rt; arenas.demand(level) == 5);
-    assert!(&rt; arenas.before(level, 1).0 == 2 && arenas.whole(level).requests() == 5);
-    assert!(&rt; arenas.first_mandated(level).0 == Some(ArenaId::new(2)));
+    holds(&rt, arenas.len() == 2 && arenas.has_mandatory());
+    same(&rt, arenas.demand(level), 5);
+    holds(
+        &rt,
+        arenas.before(level, 1).0 == 2 && arenas.whole(level).requests() == 5,
+    );
+    same(&rt, arenas.first_mandated(level).0, Some(ArenaId::new(2)));
     let first = arenas.nth_of(level, 0);
-    assert!(&rt; matches!(first, Some(found) if found.stamp() == 2));
-    assert!(&rt; arenas.nth_of(level, 2).is_none());
-    assert!(&rt; arenas.remove(ArenaId::new(1)).is_some());
-    assert!(&rt; arenas.get(ArenaId::new(1)).is_none());
-    assert!(&rt; arenas.demands() == [0, 0, 2, 0, 0, 0, 0, 0]);
+    holds(&rt, matches!(first, Some(found) if found.stamp() == 2));
+    holds(&rt, arenas.nth_of(level, 2).is_none());
+    holds(&rt, arenas.remove(ArenaId::new(1)).is_some());
+    holds(&rt, arenas.get(ArenaId::new(1)).is_none());
+    same(&rt, arenas.demands(), [0, 0, 2, 0, 0, 0, 0, 0]);
+    drop(arenas);
 }

@@ -6,6 +6,7 @@ use prefix_tree::Tree;
 use std::alloc::Global;
 use std::process::Abort;
 use std::rt::HostRuntime;
+use test_asserts::{holds, same};
 
 /// The row of an arena with the number of its stamp.
 fn row(stamp: u32, request: u32, mandated: bool) -> Row
@@ -32,55 +33,63 @@ fn insert(rt: &impl Abort, tree: &mut Tree, alloc: Global, row: Row) -> bool
     if tree.len() >= Tree::MOST_ROWS {
         return false;
     }
-    assert!(rt; tree.insert(alloc, row).is_ok());
+    holds(rt, tree.insert(alloc, row).is_ok());
     true
 }
 
 #[test]
 fn walks_newest_first(rt: HostRuntime) {
     let mut tree = Tree::new();
-    assert!(&rt; tree.sum_before(2) == (0, 0));
-    assert!(&rt; tree.set(2, 1, true) == 0);
-    assert!(&rt; tree.walk(0) == (None, 0));
-    assert!(&rt; tree.first_mandated() == (None, 0));
-    assert!(&rt; tree.take_node(2).1 == 0);
+    same(&rt, tree.sum_before(2), (0, 0));
+    same(&rt, tree.set(2, 1, true), 0);
+    same(&rt, tree.walk(0), (None, 0));
+    same(&rt, tree.first_mandated(), (None, 0));
+    same(&rt, tree.take_node(2).1, 0);
     for stamp in [1, 2, 3] {
-        assert!(&rt; insert(&rt, &mut tree, rt.alloc(), row(stamp, 5, stamp < 3)));
+        holds(
+            &rt,
+            insert(&rt, &mut tree, rt.alloc(), row(stamp, 5, stamp < 3)),
+        );
     }
     for (place, stamp) in [(0, 3), (1, 2), (2, 1)] {
-        assert!(&rt; tree.walk(place).0 == Some(row(stamp, 5, stamp < 3)));
+        same(&rt, tree.walk(place).0, Some(row(stamp, 5, stamp < 3)));
     }
-    assert!(&rt; tree.walk(3).0 == None);
+    same(&rt, tree.walk(3).0, None);
     let mut visits = 0;
     let whole = tree.whole();
-    assert!(&rt; whole.requests() == 15);
+    same(&rt, whole.requests(), 15);
     if let Some(parts) = whole.enter(&mut visits) {
-        assert!(&rt; parts.newer.requests() == 5);
-        assert!(&rt; parts.row.stamp == 2);
-        assert!(&rt; parts.older.requests() == 5);
+        same(&rt, parts.newer.requests(), 5);
+        same(&rt, parts.row.stamp, 2);
+        same(&rt, parts.older.requests(), 5);
     }
-    assert!(&rt; visits == 1);
-    assert!(&rt; tree.sum_before(2).0 == 5);
-    assert!(&rt; tree.total() == 15);
-    assert!(&rt; tree.len() == 3);
-    assert!(&rt; tree.first_mandated().0 == Some(row(2, 5, true)));
+    same(&rt, visits, 1);
+    same(&rt, tree.sum_before(2).0, 5);
+    same(&rt, tree.total(), 15);
+    same(&rt, tree.len(), 3);
+    same(&rt, tree.first_mandated().0, Some(row(2, 5, true)));
+    drop(tree);
 }
 
 #[test]
 fn visits_few_nodes_of_a_full_tree(rt: HostRuntime) {
     let mut tree = Tree::new();
-    assert!(&rt; tree.insert(rt.alloc(), row(1, 65535, false)) == Ok(1));
+    same(&rt, tree.insert(rt.alloc(), row(1, 65535, false)), Ok(1));
     for stamp in 2..=1024u32 {
-        assert!(&rt; insert(&rt, &mut tree, rt.alloc(), row(stamp, 65535, false)));
+        holds(
+            &rt,
+            insert(&rt, &mut tree, rt.alloc(), row(stamp, 65535, false)),
+        );
     }
-    assert!(&rt; tree.len() == Tree::MOST_ROWS);
-    assert!(&rt; tree.total() == 1024 * 65535);
+    same(&rt, tree.len(), Tree::MOST_ROWS);
+    same(&rt, tree.total(), 1024 * 65535);
     for stamp in 1..=1024u32 {
         let (before, visits) = tree.sum_before(stamp);
-        assert!(&rt; before == u64::from(1024 - stamp) * 65535);
-        assert!(&rt; 1 <= visits && visits <= 22);
-        assert!(&rt; tree.set(stamp, 65535, true) <= 22);
+        same(&rt, before, u64::from(1024 - stamp) * 65535);
+        holds(&rt, 1 <= visits && visits <= 22);
+        holds(&rt, tree.set(stamp, 65535, true) <= 22);
     }
+    drop(tree);
 }
 
 /// Numbers that look random, the same each time.
@@ -135,7 +144,7 @@ impl Pair {
         requires { request ≤ 65535 }
     {
         if insert(rt, &mut self.tree, alloc, row(stamp, request, mandated)) {
-            assert!(rt; self.list.push(row(stamp, request, mandated)).is_ok());
+            holds(rt, self.list.push(row(stamp, request, mandated)).is_ok());
         }
     }
 
@@ -158,7 +167,7 @@ impl Pair {
             self.tree.put_node(other, new);
         } else if self.tree.len() < Tree::MOST_ROWS {
             self.tree.put_node(taken, new);
-            assert!(rt; self.list.push(Row { stamp: new, ..old }).is_ok());
+            holds(rt, self.list.push(Row { stamp: new, ..old }).is_ok());
         }
         true
     }
@@ -186,12 +195,12 @@ impl Pair {
     fn compare(&self, rt: &impl Abort, stamp: u32) {
         let (before, newer) = self.above(stamp);
         let (total, rows) = self.above(0);
-        assert!(&rt; self.tree.sum_before(stamp).0 == before);
-        assert!(&rt; self.tree.total() == total);
-        assert!(&rt; self.tree.len() == rows);
-        assert!(&rt; self.tree.first_mandated().0 == self.newest_mandated());
+        same(&rt, self.tree.sum_before(stamp).0, before);
+        same(&rt, self.tree.total(), total);
+        same(&rt, self.tree.len(), rows);
+        same(&rt, self.tree.first_mandated().0, self.newest_mandated());
         if let Some(row) = self.list.iter().find(|row| row.stamp == stamp) {
-            assert!(&rt; self.tree.walk(newer).0 == Some(*row));
+            same(&rt, self.tree.walk(newer).0, Some(*row));
         }
     }
 }
@@ -208,10 +217,10 @@ fn agrees_with_a_plain_list(rt: HostRuntime) {
         match random.below(8) {
             0 | 1 | 2 => pair.insert(&rt, rt.alloc(), stamp, request, random.below(20) == 0),
             3 => pair.take(stamp),
-            4 | 5 => assert!(&rt; pair.take_and_put(&rt, stamp, 1 + random.below(300))),
+            4 | 5 => holds(&rt, pair.take_and_put(&rt, stamp, 1 + random.below(300))),
             _ => pair.set(stamp, request, random.below(20) == 0),
         }
         pair.compare(&rt, 1 + random.below(300));
     }
-    assert!(&rt; pair.tree.len() > 50);
+    holds(&rt, pair.tree.len() > 50);
 }

@@ -8,6 +8,7 @@ use market_types::{ArenaId, Cmd, Level, OpenFault, Reply, SeatNo};
 use std::alloc::Global;
 use std::process::Abort;
 use std::rt::HostRuntime;
+use test_asserts::{holds, same};
 
 const JOURNAL: &[u8] = b"\
 {\"base\":8,\"hard\":64,\"journal\":2,\"levels\":3,\"seats\":4}
@@ -24,7 +25,7 @@ fn opened(rt: &impl Abort, alloc: Global) -> Chronicle
 {
     match Chronicle::new(alloc, 8, 64, 4, 100, 3) {
         Ok(chronicle) => return chronicle,
-        Err(fault) => assert!(rt; fault == OpenFault::Memory),
+        Err(fault) => same(rt, fault, OpenFault::Memory),
     }
     let Ok(chronicle) = Chronicle::new(alloc, 8, 64, 4, 100, 3) else {
         panic!(rt; "no chronicle");
@@ -41,11 +42,15 @@ fn answer(rt: &impl Abort, alloc: Global, chronicle: &mut Chronicle, cmd: &Cmd) 
     let placed = chronicle.market().placed();
     match chronicle.call(alloc, SeatNo::new(0), *cmd) {
         Ok(reply) => return reply,
-        Err(fault) => assert!(rt; fault == CallFault::Memory),
+        Err(fault) => same(rt, fault, CallFault::Memory),
     }
-    assert!(rt; (chronicle.len(), chronicle.places(), chronicle.free()) == before);
-    assert!(rt; chronicle.kept().last().map(|entry| entry.call) == last);
-    assert!(rt; chronicle.market().placed() == placed);
+    same(
+        rt,
+        (chronicle.len(), chronicle.places(), chronicle.free()),
+        before,
+    );
+    same(rt, chronicle.kept().last().map(|entry| entry.call), last);
+    same(rt, chronicle.market().placed(), placed);
     let Ok(reply) = chronicle.call(alloc, SeatNo::new(0), *cmd) else {
         panic!(rt; "no memory");
     };
@@ -63,30 +68,48 @@ fn recorded(rt: &impl Abort, alloc: Global) -> Chronicle
         &mut chronicle,
         &Cmd::Open(8, 1, Level::from_index(1)),
     );
-    assert!(rt; matches!(&told, Reply::Opened(arena) if arena.get() == 1));
+    holds(
+        rt,
+        matches!(&told, Reply::Opened(arena) if arena.get() == 1),
+    );
+    drop(told);
     let told = answer(
         rt,
         alloc,
         &mut chronicle,
         &Cmd::Request(ArenaId::new(1), 3, 0),
     );
-    assert!(rt; matches!(&told, Reply::Requested(3)));
+    holds(rt, matches!(&told, Reply::Requested(3)));
+    drop(told);
     let told = answer(rt, alloc, &mut chronicle, &Cmd::Lists);
-    assert!(rt; matches!(&told, Reply::Listed(lists) if lists.len() == 1));
+    holds(
+        rt,
+        matches!(&told, Reply::Listed(lists) if lists.len() == 1),
+    );
+    drop(told);
     let told = answer(rt, alloc, &mut chronicle, &Cmd::Join);
-    assert!(rt; matches!(&told, Reply::Placed(arena) if arena.get() == 1));
+    holds(
+        rt,
+        matches!(&told, Reply::Placed(arena) if arena.get() == 1),
+    );
+    drop(told);
     // The place and the memory of a Leave are taken already.
     let _ = chronicle.market();
     let left = chronicle.call(alloc, SeatNo::new(0), Cmd::Leave);
-    assert!(rt; matches!(&left, Ok(Reply::Left(arena)) if arena.get() == 1));
+    holds(
+        rt,
+        matches!(&left, Ok(Reply::Left(arena)) if arena.get() == 1),
+    );
+    drop(left);
     chronicle
 }
 
 #[test]
 fn a_refused_growth_leaves_the_chronicle(rt: HostRuntime) {
     let chronicle = recorded(&rt, rt.alloc());
-    assert!(&rt; chronicle.len() == 5);
-    assert!(&rt; chronicle.free() == 95);
+    same(&rt, chronicle.len(), 5);
+    same(&rt, chronicle.free(), 95);
+    drop(chronicle);
 }
 
 /// A sink with room for the journal.
@@ -102,27 +125,34 @@ fn new_sink(rt: &impl Abort, alloc: Global) -> TestSink
     TestSink::new(memory)
 }
 
+/// The journal is written, once more where there was no memory: then a prefix of it was written.
+fn is_written(rt: &impl Abort, alloc: Global, chronicle: &Chronicle)
+    requires { chronicle.now.from ≡ 0 }
+{
+    let mut sink = new_sink(rt, alloc);
+    if let Err(fault) = write_journal(alloc, chronicle, &mut sink) {
+        same(rt, fault, OutFault::Memory);
+        holds(rt, JOURNAL.starts_with(sink.taken()));
+        sink = new_sink(rt, alloc);
+        same(rt, write_journal(alloc, chronicle, &mut sink), Ok(()));
+    }
+    same(rt, sink.taken(), JOURNAL);
+}
+
 #[test]
 fn a_refused_growth_leaves_a_prefix_of_the_journal(rt: HostRuntime) {
     let chronicle = recorded(&rt, rt.alloc());
-    let mut sink = new_sink(&rt, rt.alloc());
-    if let Err(fault) = write_journal(rt.alloc(), &chronicle, &mut sink) {
-        assert!(&rt; fault == OutFault::Memory);
-        assert!(&rt; JOURNAL.starts_with(sink.taken()));
-        let mut sink = new_sink(&rt, rt.alloc());
-        assert!(&rt; write_journal(rt.alloc(), &chronicle, &mut sink) == Ok(()));
-        assert!(&rt; sink.taken() == JOURNAL);
-        return;
-    }
-    assert!(&rt; sink.taken() == JOURNAL);
+    is_written(&rt, rt.alloc(), &chronicle);
+    drop(chronicle);
 }
 
 #[test]
 fn a_refused_growth_leaves_a_journal_to_be_checked(rt: HostRuntime) {
     if let Ok(verdict) = check(rt.alloc(), JOURNAL) {
-        assert!(&rt; matches!(&verdict, Verdict::Legal(5)));
+        holds(&rt, matches!(&verdict, Verdict::Legal(5)));
         return;
     }
     let again = check(rt.alloc(), JOURNAL);
-    assert!(&rt; matches!(&again, Ok(Verdict::Legal(5))));
+    holds(&rt, matches!(&again, Ok(Verdict::Legal(5))));
+    drop(again);
 }

@@ -7,6 +7,7 @@ use market_prog::{MarketOptions, RunFault, explain_script, run_journal, run_repl
 use std::alloc::Global;
 use std::process::Abort;
 use std::rt::HostRuntime;
+use test_asserts::{holds, same};
 
 /// A line of 40 bytes, and the commands that take memory. A piece of 20 bytes ends within a line.
 const SCRIPT: &[u8] =
@@ -70,14 +71,14 @@ impl Engine {
     fn is_told(self, rt: &impl Abort, alloc: Global) {
         let (told, sink) = self.run(rt, alloc);
         if told == Ok(0) {
-            assert!(rt; sink.taken() == self.due());
+            same(rt, sink.taken(), self.due());
             return;
         }
-        assert!(rt; told == Err(RunFault::Memory));
-        assert!(rt; self.due().starts_with(sink.taken()));
+        same(rt, told, Err(RunFault::Memory));
+        holds(rt, self.due().starts_with(sink.taken()));
         let (told, sink) = self.run(rt, alloc);
-        assert!(rt; told == Ok(0));
-        assert!(rt; sink.taken() == self.due());
+        same(rt, told, Ok(0));
+        same(rt, sink.taken(), self.due());
     }
 }
 
@@ -125,14 +126,14 @@ pub(crate) fn replay(
 fn is_replayed(rt: &impl Abort, alloc: Global, journal: &[u8], line: &[u8]) {
     let (told, sink) = replay(rt, alloc, journal);
     if told.is_ok() {
-        assert!(rt; sink.taken() == line);
+        same(rt, sink.taken(), line);
         return;
     }
-    assert!(rt; matches!(&told, Err(RunFault::Memory)));
-    assert!(rt; sink.taken().is_empty());
+    holds(rt, matches!(&told, Err(RunFault::Memory)));
+    holds(rt, sink.taken().is_empty());
     let (told, sink) = replay(rt, alloc, journal);
-    assert!(rt; told.is_ok());
-    assert!(rt; sink.taken() == line);
+    holds(rt, told.is_ok());
+    same(rt, sink.taken(), line);
 }
 
 #[test]

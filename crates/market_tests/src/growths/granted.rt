@@ -12,6 +12,7 @@ use recall_hire::Roster;
 use std::alloc::Global;
 use std::process::Abort;
 use std::rt::HostRuntime;
+use test_asserts::{holds, same};
 
 /// Rows, seats and texts.
 #[test]
@@ -24,13 +25,14 @@ fn what_is_written_is_granted(rt: HostRuntime) {
         request: 5,
         mandated: false,
     };
-    assert!(&rt; rows.push(alloc, row).is_ok());
-    assert!(&rt; Roster::new(alloc, 64).is_ok());
+    holds(&rt, rows.push(alloc, row).is_ok());
+    holds(&rt, Roster::new(alloc, 64).is_ok());
     let request = Cmd::Request(ArenaId::new(1_048_576), -1, -1);
     for _ in 0..9 {
-        assert!(&rt; cmd_text(alloc, &request, 3).is_ok());
-        assert!(&rt; reply_text(alloc, &Reply::Requested(65_535)).is_ok());
+        holds(&rt, cmd_text(alloc, &request, 3).is_ok());
+        holds(&rt, reply_text(alloc, &Reply::Requested(65_535)).is_ok());
     }
+    drop(rows);
 }
 
 /// A call of seat 0 is answered.
@@ -39,7 +41,8 @@ fn call(rt: &impl Abort, alloc: Global, chronicle: &mut Chronicle, cmd: &Cmd)
 {
     let _ = chronicle.market();
     let told = chronicle.call(alloc, SeatNo::new(0), *cmd);
-    assert!(rt; told.is_ok());
+    holds(rt, told.is_ok());
+    drop(told);
 }
 
 fn recorded(rt: &impl Abort, alloc: Global) -> Chronicle
@@ -65,17 +68,23 @@ fn what_is_recorded_is_granted(rt: HostRuntime) {
         panic!(&rt; "no memory");
     };
     let mut sink = TestSink::new(memory);
-    assert!(&rt; write_journal(rt.alloc(), &chronicle, &mut sink) == Ok(()));
+    same(
+        &rt,
+        write_journal(rt.alloc(), &chronicle, &mut sink),
+        Ok(()),
+    );
+    drop(sink);
+    drop(chronicle);
 }
 
 #[test]
 fn what_is_checked_is_granted(rt: HostRuntime) {
-    assert!(&rt; check(rt.alloc(), JOURNAL).is_ok());
+    holds(&rt, check(rt.alloc(), JOURNAL).is_ok());
 }
 
 fn is_granted(rt: &impl Abort, alloc: Global, engine: Engine) {
     let (told, _sink) = engine.run(rt, alloc);
-    assert!(rt; told == Ok(0));
+    same(rt, told, Ok(0));
 }
 
 #[test]
@@ -96,5 +105,5 @@ fn what_is_explained_is_granted(rt: HostRuntime) {
 #[test]
 fn what_is_replayed_is_granted(rt: HostRuntime) {
     let (told, _sink) = replay(&rt, rt.alloc(), JOURNAL);
-    assert!(&rt; told.is_ok());
+    holds(&rt, told.is_ok());
 }

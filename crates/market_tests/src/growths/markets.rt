@@ -6,6 +6,7 @@ use market_types::{
 use std::alloc::Global;
 use std::process::Abort;
 use std::rt::HostRuntime;
+use test_asserts::{holds, same};
 
 /// So many arenas are opened: the table of arenas grows twice on the way.
 const ARENAS: u32 = 6;
@@ -16,7 +17,7 @@ fn opened(rt: &impl Abort, alloc: Global) -> Market {
         Ok(market) => return market,
         Err(fault) => fault,
     };
-    assert!(rt; fault == OpenFault::Memory);
+    same(rt, fault, OpenFault::Memory);
     let Ok(market) = Market::new(alloc, 64, 64, 4, 3) else {
         panic!(rt; "no market");
     };
@@ -65,7 +66,7 @@ fn answer(rt: &impl Abort, alloc: Global, market: &mut Market, cmd: &Cmd) -> Rep
         Ok(reply) => reply,
         Err(_) => {
             let after = what_is_seen(market);
-            assert!(rt; after == before);
+            same(rt, after, before);
             granted(rt, alloc, market, *cmd)
         }
     }
@@ -82,10 +83,15 @@ fn with_arenas(rt: &impl Abort, alloc: Global) -> Market {
             &mut market,
             &Cmd::Open(8, 1, Level::from_index(1)),
         );
-        assert!(rt; matches!(&reply, Reply::Opened(arena) if arena.get() == number));
+        holds(
+            rt,
+            matches!(&reply, Reply::Opened(arena) if arena.get() == number),
+        );
+        drop(reply);
         let asked = Cmd::Request(ArenaId::new(number), 1, 0);
         let reply = answer(rt, alloc, &mut market, &asked);
-        assert!(rt; matches!(reply, Reply::Requested(1)));
+        holds(rt, matches!(&reply, Reply::Requested(1)));
+        drop(reply);
     }
     market
 }
@@ -95,12 +101,21 @@ fn a_refused_growth_leaves_the_market(rt: HostRuntime) {
     let alloc = rt.alloc();
     let mut market = with_arenas(&rt, alloc);
     let lists = answer(&rt, alloc, &mut market, &Cmd::Lists);
-    assert!(&rt; matches!(&lists, Reply::Listed(lists) if lists.len() == 6));
+    holds(
+        &rt,
+        matches!(&lists, Reply::Listed(lists) if lists.len() == 6),
+    );
     for number in 1..6 {
         let made = answer(&rt, alloc, &mut market, &Cmd::Control(64 - number));
-        assert!(&rt; matches!(&made, Reply::Controlled(control) if control.get() == number));
-        assert!(&rt; market.limits().value == 64 - number);
+        holds(
+            &rt,
+            matches!(&made, Reply::Controlled(control) if control.get() == number),
+        );
+        same(&rt, market.limits().value, 64 - number);
+        drop(made);
     }
+    drop(lists);
+    drop(market);
 }
 
 /// The arena is seen so, with one worker at it.
@@ -118,38 +133,62 @@ fn has_one_of_three(reply: &Reply, arena: ArenaId) -> bool {
 }
 
 /// The ten commands that take no memory: none of them is given a second time.
-#[test]
-fn a_refused_growth_is_none_of_ten_commands(rt: HostRuntime) {
-    let alloc = rt.alloc();
-    let mut market = with_arenas(&rt, alloc);
-    let made = answer(&rt, alloc, &mut market, &Cmd::Control(50));
-    assert!(&rt; matches!(&made, Reply::Controlled(control) if control.get() == 1));
+fn ten_are_granted(rt: &impl Abort, alloc: Global, market: &mut Market) {
+    let made = answer(rt, alloc, market, &Cmd::Control(50));
+    holds(
+        rt,
+        matches!(&made, Reply::Controlled(control) if control.get() == 1),
+    );
+    drop(made);
     let arena = ArenaId::new(2);
-    let reply = granted(&rt, alloc, &mut market, Cmd::Request(arena, 3, 0));
-    assert!(&rt; matches!(&reply, Reply::Requested(4)));
+    let reply = granted(rt, alloc, market, Cmd::Request(arena, 3, 0));
+    holds(rt, matches!(&reply, Reply::Requested(4)));
+    drop(reply);
     let reply = granted(
-        &rt,
+        rt,
         alloc,
-        &mut market,
+        market,
         Cmd::Priority(arena, Level::from_index(0)),
     );
-    assert!(&rt; matches!(&reply, Reply::Moved));
-    let reply = granted(&rt, alloc, &mut market, Cmd::Resize(arena, 4, 1));
-    assert!(&rt; matches!(&reply, Reply::Resized(3)));
-    let reply = granted(&rt, alloc, &mut market, Cmd::Join);
-    assert!(&rt; matches!(&reply, Reply::Placed(placed) if *placed == arena));
-    let reply = granted(&rt, alloc, &mut market, Cmd::Stay);
-    assert!(&rt; matches!(&reply, Reply::Stays(stays) if *stays == arena));
-    let reply = granted(&rt, alloc, &mut market, Cmd::Show(arena));
-    assert!(&rt; has_one_of_three(&reply, arena));
-    let reply = granted(&rt, alloc, &mut market, Cmd::Limit);
-    assert!(&rt; matches!(&reply, Reply::Limits(limits) if limits.limit == 49));
-    let reply = granted(&rt, alloc, &mut market, Cmd::Leave);
-    assert!(&rt; matches!(&reply, Reply::Left(left) if *left == arena));
-    let reply = granted(&rt, alloc, &mut market, Cmd::Uncontrol(ControlId::new(1)));
-    assert!(&rt; matches!(&reply, Reply::Uncontrolled));
-    let reply = granted(&rt, alloc, &mut market, Cmd::Close(arena));
-    assert!(&rt; matches!(&reply, Reply::Closed));
+    holds(rt, matches!(&reply, Reply::Moved));
+    drop(reply);
+    let reply = granted(rt, alloc, market, Cmd::Resize(arena, 4, 1));
+    holds(rt, matches!(&reply, Reply::Resized(3)));
+    drop(reply);
+    let reply = granted(rt, alloc, market, Cmd::Join);
+    holds(
+        rt,
+        matches!(&reply, Reply::Placed(placed) if *placed == arena),
+    );
+    drop(reply);
+    let reply = granted(rt, alloc, market, Cmd::Stay);
+    holds(rt, matches!(&reply, Reply::Stays(stays) if *stays == arena));
+    drop(reply);
+    let reply = granted(rt, alloc, market, Cmd::Show(arena));
+    holds(rt, has_one_of_three(&reply, arena));
+    drop(reply);
+    let reply = granted(rt, alloc, market, Cmd::Limit);
+    holds(
+        rt,
+        matches!(&reply, Reply::Limits(limits) if limits.limit == 49),
+    );
+    drop(reply);
+    let reply = granted(rt, alloc, market, Cmd::Leave);
+    holds(rt, matches!(&reply, Reply::Left(left) if *left == arena));
+    drop(reply);
+    let reply = granted(rt, alloc, market, Cmd::Uncontrol(ControlId::new(1)));
+    holds(rt, matches!(&reply, Reply::Uncontrolled));
+    drop(reply);
+    let reply = granted(rt, alloc, market, Cmd::Close(arena));
+    holds(rt, matches!(&reply, Reply::Closed));
+    drop(reply);
+}
+
+#[test]
+fn a_refused_growth_is_none_of_ten_commands(rt: HostRuntime) {
+    let mut market = with_arenas(&rt, rt.alloc());
+    ten_are_granted(&rt, rt.alloc(), &mut market);
+    drop(market);
 }
 
 /// How many nodes a seat's command enters, asked for again where there was no memory: then all was as before.
@@ -160,7 +199,7 @@ fn entered(rt: &impl Abort, alloc: Global, market: &mut Market, cmd: &Cmd) -> u6
         return visits;
     }
     let after = what_is_seen(market);
-    assert!(rt; after == before);
+    same(rt, after, before);
     let _ = market.seats();
     let Ok((_reply, visits)) = market.apply_counted(alloc, SeatNo::new(0), *cmd) else {
         panic!(rt; "no memory");
@@ -174,41 +213,50 @@ fn a_refused_growth_leaves_the_market_that_counts(rt: HostRuntime) {
     let mut market = with_arenas(&rt, alloc);
     let open = Cmd::Open(8, 1, Level::from_index(1));
     let opening = entered(&rt, alloc, &mut market, &open);
-    assert!(&rt; (1..=13).contains(&opening));
-    assert!(&rt; market.view(ArenaId::new(ARENAS + 1)).is_some());
-    assert!(&rt; entered(&rt, alloc, &mut market, &Cmd::Control(5)) == 0);
-    assert!(&rt; market.limits().value == 5);
+    holds(&rt, (1..=13).contains(&opening));
+    holds(&rt, market.view(ArenaId::new(ARENAS + 1)).is_some());
+    same(&rt, entered(&rt, alloc, &mut market, &Cmd::Control(5)), 0);
+    same(&rt, market.limits().value, 5);
     // Each of the arenas but the last one is to hire.
     let listing = entered(&rt, alloc, &mut market, &Cmd::Lists);
-    assert!(&rt; (4..=7).contains(&listing));
+    holds(&rt, (4..=7).contains(&listing));
+    drop(market);
 }
 
 /// The second of two calls opened one arena more.
 fn have_opened(rt: &impl Abort, replies: &[Reply]) {
-    assert!(rt; replies.len() == 2);
-    assert!(rt; matches!(&replies[1], Reply::Opened(arena) if arena.get() == ARENAS + 1));
+    same(rt, replies.len(), 2);
+    holds(
+        rt,
+        matches!(&replies[1], Reply::Opened(arena) if arena.get() == ARENAS + 1),
+    );
+}
+
+/// A list of two calls is answered, once more where there was no memory: then all was as before.
+fn answers_a_list(rt: &impl Abort, alloc: Global, market: &mut Market) {
+    let seat = SeatNo::new(0);
+    let opening = Cmd::Open(8, 1, Level::from_index(1));
+    let calls = [Cmd::Limit, opening].map(|cmd| Call { seat, cmd });
+    let before = what_is_seen(market);
+    let _ = market.seats();
+    if let Ok(replies) = apply_all(alloc, market, &calls) {
+        have_opened(rt, &replies);
+        return;
+    }
+    let after = what_is_seen(market);
+    same(rt, after, before);
+    let _ = market.seats();
+    let Ok(replies) = apply_all(alloc, market, &calls) else {
+        panic!(rt; "no memory");
+    };
+    have_opened(rt, &replies);
 }
 
 #[test]
 fn a_refused_growth_leaves_a_list_of_calls(rt: HostRuntime) {
-    let alloc = rt.alloc();
-    let mut market = with_arenas(&rt, alloc);
-    let seat = SeatNo::new(0);
-    let opening = Cmd::Open(8, 1, Level::from_index(1));
-    let calls = [Cmd::Limit, opening].map(|cmd| Call { seat, cmd });
-    let before = what_is_seen(&market);
-    let _ = market.seats();
-    if let Ok(replies) = apply_all(alloc, &mut market, &calls) {
-        have_opened(&rt, &replies);
-        return;
-    }
-    let after = what_is_seen(&market);
-    assert!(&rt; after == before);
-    let _ = market.seats();
-    let Ok(replies) = apply_all(alloc, &mut market, &calls) else {
-        panic!(&rt; "no memory");
-    };
-    have_opened(&rt, &replies);
+    let mut market = with_arenas(&rt, rt.alloc());
+    answers_a_list(&rt, rt.alloc(), &mut market);
+    drop(market);
 }
 
 /// As long as this fails, a growth of the tests above was refused: all that they ask for and more, never asked for again.
@@ -230,4 +278,5 @@ fn every_growth_is_granted(rt: HostRuntime) {
         granted(&rt, alloc, &mut market, Cmd::Control(64));
     }
     granted(&rt, alloc, &mut market, Cmd::Lists);
+    drop(market);
 }

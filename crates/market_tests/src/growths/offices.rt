@@ -8,6 +8,7 @@ use std::rt::HostRuntime;
 use std::str;
 use std::sync::Wait;
 use std::thread::Threads;
+use test_asserts::{holds, same};
 
 const TERMS: Terms = Terms {
     base: 8,
@@ -33,7 +34,7 @@ fn scripts<'a>(rt: &impl Abort, alloc: Global, cmds: &'a [Cmd]) -> Vec<Script<'a
     for _ in 0..2 {
         if let Ok(mut scripts) = Vec::with_capacity(alloc, 1) {
             if let Ok(script) = Script::new(alloc, cmds) {
-                assert!(rt; scripts.push(script).is_ok());
+                holds(rt, scripts.push(script).is_ok());
                 return scripts;
             }
         }
@@ -49,10 +50,10 @@ fn are_told(rt: &impl Abort, told: &[u8]) {
     let mut due = ANSWERS.iter();
     for line in text.lines() {
         if line != "C1 memory" {
-            assert!(rt; due.next() == Some(&line));
+            same(rt, due.next(), Some(&line));
         }
     }
-    assert!(rt; due.next().is_none());
+    holds(rt, due.next().is_none());
 }
 
 /// A caller follows its script alone, in an office that is opened again where the first growth was refused.
@@ -63,10 +64,10 @@ fn met<'a, R: Threads + Wait + Sync + Abort>(
 ) -> Meeting<Script<'a>, Script<'a>> {
     for _ in 0..2 {
         let scripts = scripts(rt, alloc, cmds);
-        assert!(rt; scripts.len() == 1);
+        same(rt, scripts.len(), 1);
         match meet(rt, alloc, TERMS, Vec::<Script>::new(alloc), scripts) {
             Ok(meeting) => return meeting,
-            Err(unmet) => assert!(rt; unmet.fault == OpenFault::Memory),
+            Err(unmet) => same(rt, unmet.fault, OpenFault::Memory),
         }
     }
     panic!(rt; "no memory")
@@ -75,12 +76,19 @@ fn met<'a, R: Threads + Wait + Sync + Abort>(
 fn is_visited<R: Threads + Wait + Sync + Abort>(rt: &R, alloc: Global, cmds: &[Cmd]) {
     let Meeting {
         closed,
-        openers: _,
+        openers,
         tasks,
     } = met(rt, alloc, cmds);
-    assert!(rt; tasks.len() == 1);
+    drop(openers);
+    same(rt, tasks.len(), 1);
     are_told(rt, tasks[0].told());
-    assert!(rt; (closed.calls, closed.workers, closed.chronicle.len()) == (7, 0, 7));
+    drop(tasks);
+    same(
+        rt,
+        (closed.calls, closed.workers, closed.chronicle.len()),
+        (7, 0, 7),
+    );
+    drop(closed);
 }
 
 /// A worker visits an arena.
@@ -110,17 +118,24 @@ fn is_granted<R: Threads + Wait + Sync + Abort>(rt: &R, alloc: Global, cmds: &[C
     let Ok(script) = Script::new(alloc, cmds) else {
         panic!(rt; "no memory");
     };
-    assert!(rt; scripts.push(script).is_ok());
-    assert!(rt; scripts.len() == 1);
-    let Ok(Meeting { tasks, .. }) = meet(rt, alloc, TERMS, Vec::<Script>::new(alloc), scripts)
-    else {
+    holds(rt, scripts.push(script).is_ok());
+    same(rt, scripts.len(), 1);
+    let Ok(meeting) = meet(rt, alloc, TERMS, Vec::<Script>::new(alloc), scripts) else {
         panic!(rt; "no memory");
     };
-    assert!(rt; tasks.len() == 1);
+    let Meeting {
+        closed,
+        openers,
+        tasks,
+    } = meeting;
+    drop(closed);
+    drop(openers);
+    same(rt, tasks.len(), 1);
     let Ok(text) = str::from_utf8(tasks[0].told()) else {
         panic!(rt; "no text");
     };
-    assert!(rt; text.lines().all(|line| line != "C1 memory"));
+    holds(rt, text.lines().all(|line| line != "C1 memory"));
+    drop(tasks);
 }
 
 #[test]

@@ -11,6 +11,7 @@ use std::process::Abort;
 use std::rt::HostRuntime;
 use std::sync::Wait;
 use std::thread::Threads;
+use test_asserts::{holds, same};
 use worker_main::OpenGate;
 
 const PLAN: &[u8] = b"\
@@ -32,7 +33,7 @@ const UNSERVABLE: &[u8] = b"market 8 64\narena 2 2 normal 5 0\njob 1 sum 10\n";
 fn plan_of(rt: &impl Abort, alloc: Global, text: &[u8]) -> Plan {
     match read_plan(alloc, text) {
         Ok(plan) => return plan,
-        Err(fault) => assert!(rt; fault == PlanFault::Memory),
+        Err(fault) => same(rt, fault, PlanFault::Memory),
     }
     let Ok(plan) = read_plan(alloc, text) else {
         panic!(rt; "no plan");
@@ -44,9 +45,10 @@ fn plan_of(rt: &impl Abort, alloc: Global, text: &[u8]) -> Plan {
 fn a_refused_growth_leaves_a_plan_to_be_read(rt: HostRuntime) {
     let plan = plan_of(&rt, rt.alloc(), PLAN);
     let found = (plan.base(), plan.hard(), plan.levels());
-    assert!(&rt; found == (8, 64, 3));
+    same(&rt, found, (8, 64, 3));
     let found = (plan.arenas().len(), plan.controls(), plan.jobs().len());
-    assert!(&rt; found == (2, [6].as_slice(), 3));
+    same(&rt, found, (2, [6].as_slice(), 3));
+    drop(plan);
 }
 
 /// How many commands make the plan's market, asked again where a growth was refused.
@@ -63,7 +65,8 @@ fn count_commands(rt: &impl Abort, alloc: Global, plan: &Plan) -> usize {
 #[test]
 fn a_refused_growth_leaves_a_plan_s_market_to_be_made(rt: HostRuntime) {
     let plan = plan_of(&rt, rt.alloc(), PLAN);
-    assert!(&rt; count_commands(&rt, rt.alloc(), &plan) == 5);
+    same(&rt, count_commands(&rt, rt.alloc(), &plan), 5);
+    drop(plan);
 }
 
 /// The first arena that is never served, asked again where a growth was refused.
@@ -81,12 +84,12 @@ fn first_unservable(rt: &impl Abort, alloc: Global, text: &[u8]) -> Option<Arena
 #[test]
 fn a_refused_growth_hides_no_unservable_arena(rt: HostRuntime) {
     let found = first_unservable(&rt, rt.alloc(), UNSERVABLE);
-    assert!(&rt; found == Some(ArenaId::new(1)));
+    holds(&rt, found == Some(ArenaId::new(1)));
 }
 
 #[test]
 fn a_refused_growth_invents_no_unservable_arena(rt: HostRuntime) {
-    assert!(&rt; first_unservable(&rt, rt.alloc(), PLAN).is_none());
+    holds(&rt, first_unservable(&rt, rt.alloc(), PLAN).is_none());
 }
 
 /// The plan is driven, again where a growth was refused.
@@ -96,15 +99,15 @@ fn is_driven<R: Threads + Wait + Sync + Abort>(rt: &R, alloc: Global) {
         match drive(rt, alloc, PLAN, 2, &OpenGate) {
             Ok(done) => {
                 let found = done.iter().map(|done| (done.number, done.value));
-                assert!(rt; found.eq([(1, 55), (2, 18), (3, 5050)]));
+                holds(rt, found.eq([(1, 55), (2, 18), (3, 5050)]));
             }
             Err(fault) => {
-                assert!(rt; fault == DriveFault::Memory);
+                same(rt, fault, DriveFault::Memory);
                 wants = wants.saturating_add(1);
             }
         }
     }
-    assert!(rt; wants <= 1);
+    holds(rt, wants <= 1);
 }
 
 #[test]
@@ -150,14 +153,14 @@ fn is_told<R: Threads + Wait + Sync + Abort>(
 ) {
     let (told, sink) = run(rt, alloc, text);
     if ends(&told, end) {
-        assert!(rt; sink.taken() == due);
+        same(rt, sink.taken(), due);
         return;
     }
-    assert!(rt; wants_memory(&told));
-    assert!(rt; sink.taken().is_empty());
+    holds(rt, wants_memory(&told));
+    holds(rt, sink.taken().is_empty());
     let (told, sink) = run(rt, alloc, text);
-    assert!(rt; ends(&told, end));
-    assert!(rt; sink.taken() == due);
+    holds(rt, ends(&told, end));
+    same(rt, sink.taken(), due);
 }
 
 #[test]
@@ -181,8 +184,8 @@ fn a_refused_growth_is_told_and_no_fault_of_the_plan(rt: HostRuntime) {
 /// What a driven plan asks for, once and never again.
 fn is_granted<R: Threads + Wait + Sync + Abort>(rt: &R, alloc: Global) {
     let (told, sink) = run(rt, alloc, PLAN);
-    assert!(rt; ends(&told, &DriveEnd::Finished));
-    assert!(rt; sink.taken() == ANSWERS);
+    holds(rt, ends(&told, &DriveEnd::Finished));
+    same(rt, sink.taken(), ANSWERS);
 }
 
 #[test]

@@ -10,6 +10,7 @@ use recall_hire::{Roster, Sharing, list};
 use std::alloc::{AllocError, Global};
 use std::process::Abort;
 use std::rt::HostRuntime;
+use test_asserts::{holds, same};
 
 /// The row of an arena with the number of its stamp, which asks for 5.
 fn row(stamp: u32) -> Row
@@ -39,7 +40,7 @@ fn insert(rt: &impl Abort, alloc: Global, tree: &mut Tree, stamp: u32)
     if tree.insert(alloc, row(stamp)).is_ok() {
         return;
     }
-    assert!(rt; what_is_in(tree) == before);
+    same(rt, what_is_in(tree), before);
     let Ok(_) = tree.insert(alloc, row(stamp)) else {
         panic!(rt; "no memory");
     };
@@ -52,7 +53,8 @@ fn a_refused_growth_leaves_the_tree(rt: HostRuntime) {
     insert(&rt, rt.alloc(), &mut tree, 3);
     insert(&rt, rt.alloc(), &mut tree, 1);
     let due = [Some(row(3)), Some(row(2)), Some(row(1)), None];
-    assert!(&rt; what_is_in(&tree) == (due, 15));
+    same(&rt, what_is_in(&tree), (due, 15));
+    drop(tree);
 }
 
 /// Pushes the row of a stamp, again where the first growth was refused: then the rows were as before.
@@ -66,7 +68,7 @@ fn push(rt: &impl Abort, alloc: Global, rows: &mut LevelList, stamp: u32)
     if rows.push(alloc, row(stamp)).is_ok() {
         return;
     }
-    assert!(rt; rows.len() == count && rows.demand() == demand);
+    holds(rt, rows.len() == count && rows.demand() == demand);
     let Ok(_) = rows.push(alloc, row(stamp)) else {
         panic!(rt; "no memory");
     };
@@ -84,10 +86,11 @@ fn three_arenas(rt: &impl Abort, alloc: Global) -> LevelList {
 #[test]
 fn a_refused_growth_leaves_the_rows(rt: HostRuntime) {
     let rows = three_arenas(&rt, rt.alloc());
-    assert!(&rt; rows.demand() == 15);
+    same(&rt, rows.demand(), 15);
     for (index, arena) in [(0, 3), (1, 2), (2, 1)] {
-        assert!(&rt; rows.walk(index).0 == Some(row(arena)));
+        same(&rt, rows.walk(index).0, Some(row(arena)));
     }
+    drop(rows);
 }
 
 /// So many seats, none placed.
@@ -108,8 +111,9 @@ fn seats(rt: &impl Abort, alloc: Global, count: u8) -> Roster
 #[test]
 fn a_refused_growth_leaves_a_roster_to_be_made(rt: HostRuntime) {
     let roster = seats(&rt, rt.alloc(), 64);
-    assert!(&rt; roster.seats() == 64);
-    assert!(&rt; roster.placed() == 0);
+    same(&rt, roster.seats(), 64);
+    same(&rt, roster.placed(), 0);
+    drop(roster);
 }
 
 /// Places a seat that the roster has, and that is not placed.
@@ -170,5 +174,8 @@ fn a_refused_growth_leaves_arenas_to_be_listed(rt: HostRuntime) {
         counted(2, Correction::Hire, 5),
         counted(1, Correction::Hire, 5),
     ];
-    assert!(&rt; lists.arenas.as_slice() == due.as_slice());
+    same(&rt, lists.arenas.as_slice(), due.as_slice());
+    drop(lists);
+    drop(roster);
+    drop(rows);
 }

@@ -4,6 +4,7 @@ use market_types::{
 };
 use std::alloc::{AllocError, Global};
 use std::rt::HostRuntime;
+use test_asserts::{holds, same};
 
 /// The longest text of a request's three numbers.
 const ASKED: &str = "request 1048576 -2147483648 -2147483648";
@@ -18,7 +19,7 @@ fn a_refused_growth_leaves_a_command_to_be_written(rt: HostRuntime) -> Result<()
         Ok(text) => text,
         Err(_) => cmd_text(rt.alloc(), &asked(), 3)?,
     };
-    assert!(&rt; text.as_str() == ASKED);
+    same(&rt, text.as_str(), ASKED);
     Ok(())
 }
 
@@ -49,11 +50,12 @@ fn a_refused_growth_leaves_a_reply_to_be_written(rt: HostRuntime) -> Result<(), 
         Ok(text) => text,
         Err(_) => reply_text(rt.alloc(), &reply)?,
     };
-    assert!(&rt;
+    holds(
+        &rt,
         text.as_str()
-            .starts_with("recall - hire 104857:65535,104857:65535,")
+            .starts_with("recall - hire 104857:65535,104857:65535,"),
     );
-    assert!(&rt; text.len() == 14 + 40 * 12 + 39);
+    same(&rt, text.len(), 14 + 40 * 12 + 39);
     Ok(())
 }
 
@@ -62,13 +64,13 @@ fn a_refused_growth_leaves_what_was_written(rt: HostRuntime) -> Result<(), Alloc
     let reply = lists_again(rt.alloc(), 40)?;
     let mut out = Vec::new(rt.alloc());
     if push_reply(&mut out, &Reply::Idle).is_err() {
-        assert!(&rt; out.is_empty());
+        holds(&rt, out.is_empty());
         push_reply(&mut out, &Reply::Idle)?;
     }
     if push_reply(&mut out, &reply).is_err() {
-        assert!(&rt; out.as_slice() == b"idle".as_slice());
+        same(&rt, out.as_slice(), b"idle".as_slice());
         push_reply(&mut out, &reply)?;
     }
-    assert!(&rt; out.len() == 4 + 14 + 40 * 12 + 39);
+    same(&rt, out.len(), 4 + 14 + 40 * 12 + 39);
     Ok(())
 }

@@ -2,6 +2,7 @@
 use clap::error::ErrorKind;
 use market_prog::{Choice, MarketOptions, ScriptTask, read_words};
 use std::rt::HostRuntime;
+use test_asserts::{holds, same};
 
 #[test]
 fn a_refused_growth_leaves_words_to_be_read(rt: HostRuntime) {
@@ -9,7 +10,7 @@ fn a_refused_growth_leaves_words_to_be_read(rt: HostRuntime) {
     let choice = match read_words(rt.alloc(), &words) {
         Ok(choice) => choice,
         Err(error) => {
-            assert!(&rt; error.kind() == ErrorKind::OutOfMemory);
+            same(&rt, error.kind(), ErrorKind::OutOfMemory);
             let Ok(choice) = read_words(rt.alloc(), &words) else {
                 panic!(&rt; "no memory");
             };
@@ -20,7 +21,7 @@ fn a_refused_growth_leaves_words_to_be_read(rt: HostRuntime) {
         seats: 9,
         ..MarketOptions::USUAL
     };
-    assert!(&rt; choice == Choice::Script(ScriptTask::Answer, nine_seats));
+    same(&rt, choice, Choice::Script(ScriptTask::Answer, nine_seats));
 }
 
 #[test]
@@ -33,18 +34,21 @@ fn a_refused_growth_is_told_and_no_mistake(rt: HostRuntime) {
         let Err(error) = read_words(rt.alloc(), &words) else {
             panic!(&rt; "taken");
         };
-        assert!(&rt; error.kind() == ErrorKind::InvalidSubcommand);
+        same(&rt, error.kind(), ErrorKind::InvalidSubcommand);
         return;
     }
-    assert!(&rt; error.kind() == ErrorKind::InvalidSubcommand);
+    same(&rt, error.kind(), ErrorKind::InvalidSubcommand);
 }
 
 /// As long as this fails, a growth was refused.
 #[test]
 fn what_words_ask_for_is_granted(rt: HostRuntime) {
-    assert!(&rt; read_words(rt.alloc(), &["market", "run", "--seats", "9"]).is_ok());
+    holds(
+        &rt,
+        read_words(rt.alloc(), &["market", "run", "--seats", "9"]).is_ok(),
+    );
     let Err(error) = read_words(rt.alloc(), &["market", "fly"]) else {
         panic!(&rt; "taken");
     };
-    assert!(&rt; error.kind() == ErrorKind::InvalidSubcommand);
+    same(&rt, error.kind(), ErrorKind::InvalidSubcommand);
 }

@@ -5,6 +5,7 @@ use market_types::ArenaId;
 use std::alloc::Global;
 use std::process::Abort;
 use std::rt::HostRuntime;
+use test_asserts::{holds, same};
 
 /// The jobs of a plan of two arenas.
 pub(crate) fn planned() -> [PlannedJob; 3] {
@@ -29,7 +30,7 @@ fn answers(rt: &impl Abort, alloc: Global, taken: &[Job]) -> Vec<Done> {
     let mut done = Vec::new(alloc);
     for job in taken {
         let pushed = done.push(job.run());
-        assert!(rt; pushed.is_ok());
+        holds(rt, pushed.is_ok());
     }
     done
 }
@@ -50,21 +51,21 @@ fn refused(rt: &impl Abort, alloc: Global, jobs: &[Job], fault: GatherFault) {
     let Err(found) = gathered else {
         panic!(rt; "the answers are an outcome");
     };
-    assert!(rt; found == fault);
+    same(rt, found, fault);
 }
 
 #[test]
 fn a_task_has_its_value(rt: HostRuntime) {
-    assert!(&rt; Task::Sum(0).run() == 0);
-    assert!(&rt; Task::Sum(1).run() == 1);
-    assert!(&rt; Task::Sum(10).run() == 55);
-    assert!(&rt; Task::Sum(100).run() == 5050);
-    assert!(&rt; Task::Sum(1_000_000).run() == 500_000_500_000);
-    assert!(&rt; Task::Digits(0).run() == 0);
-    assert!(&rt; Task::Digits(9).run() == 9);
-    assert!(&rt; Task::Digits(10).run() == 1);
-    assert!(&rt; Task::Digits(9081).run() == 18);
-    assert!(&rt; Task::Digits(u64::MAX).run() == 87);
+    same(&rt, Task::Sum(0).run(), 0);
+    same(&rt, Task::Sum(1).run(), 1);
+    same(&rt, Task::Sum(10).run(), 55);
+    same(&rt, Task::Sum(100).run(), 5050);
+    same(&rt, Task::Sum(1_000_000).run(), 500_000_500_000);
+    same(&rt, Task::Digits(0).run(), 0);
+    same(&rt, Task::Digits(9).run(), 9);
+    same(&rt, Task::Digits(10).run(), 1);
+    same(&rt, Task::Digits(9081).run(), 18);
+    same(&rt, Task::Digits(u64::MAX).run(), 87);
 }
 
 #[test]
@@ -74,10 +75,10 @@ fn answers_come_out_in_order_of_number(rt: HostRuntime) {
         panic!(&rt; "the answers are no outcome");
     };
     for (done, due) in gathered.iter().zip([(1, 55), (2, 18), (3, 5050)]) {
-        assert!(&rt; done.number == due.0);
-        assert!(&rt; done.value == due.1);
+        same(&rt, done.number, due.0);
+        same(&rt, done.value, due.1);
     }
-    assert!(&rt; gathered.len() == 3);
+    same(&rt, gathered.len(), 3);
 }
 
 #[test]
@@ -85,7 +86,7 @@ fn a_plan_without_jobs_has_no_answers(rt: HostRuntime) {
     let Ok(gathered) = gather_done(&[], Vec::new(rt.alloc())) else {
         panic!(&rt; "no answers are no outcome");
     };
-    assert!(&rt; gathered.is_empty());
+    holds(&rt, gathered.is_empty());
 }
 
 #[test]

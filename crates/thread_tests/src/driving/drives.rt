@@ -11,6 +11,7 @@ use std::rt::HostRuntime;
 use std::sync::Wait;
 use std::sync::atomic::{AtomicU64, Ordering};
 use std::thread::Threads;
+use test_asserts::{holds, same};
 use worker_main::{Ended, Gate, OpenGate};
 
 const PLAN: &[u8] = b"\
@@ -106,10 +107,11 @@ fn is_answered<R: Threads + Wait + Sync + Abort>(
     let Ok(done) = drive(rt, alloc, text, workers, &OpenGate) else {
         panic!(rt; "no answers");
     };
-    assert!(rt; done.len() == due.len());
+    same(rt, done.len(), due.len());
     for (done, due) in done.iter().zip(due.iter()) {
-        assert!(rt; (done.number, done.value) == *due);
+        same(rt, (done.number, done.value), *due);
     }
+    drop(done);
 }
 
 /// So many workers give no answers to the plan, for this reason.
@@ -126,7 +128,7 @@ fn is_refused<G: Gate + Sync, R: Threads + Wait + Sync + Abort>(
     let Err(fault) = drive(rt, alloc, text, workers, gate) else {
         panic!(rt; "answers");
     };
-    assert!(rt; fault == due);
+    same(rt, fault, due);
 }
 
 #[test]
@@ -145,8 +147,13 @@ fn meet<R: Threads + Wait + Sync + Abort>(rt: &R, alloc: Global, text: &[u8]) {
     let Ok(done) = drive(rt, alloc, text, 2, &gate) else {
         panic!(rt; "the jobs did not meet");
     };
-    assert!(rt; done.len() == 2);
-    assert!(rt; (done[0].number, done[0].value, done[1].number, done[1].value) == (1, 55, 2, 18));
+    same(rt, done.len(), 2);
+    same(
+        rt,
+        (done[0].number, done[0].value, done[1].number, done[1].value),
+        (1, 55, 2, 18),
+    );
+    drop(done);
 }
 
 /// This refuses a worker that holds the lock through its job, one thread that runs all jobs, and an end that is always told as want of
@@ -255,11 +262,11 @@ fn sixteen_workers_answer_65_536_jobs_as_one_does(rt: HostRuntime) {
     let Ok(sixteen) = drive(&rt, rt.alloc(), &text, 16, &OpenGate) else {
         panic!(&rt; "sixteen workers have no answers");
     };
-    assert!(&rt; one.len() == 65_536 && sixteen.len() == 65_536);
+    holds(&rt, one.len() == 65_536 && sixteen.len() == 65_536);
     for (one, other) in one.iter().zip(sixteen.iter()) {
-        assert!(&rt; (one.number, one.value) == (other.number, other.value));
+        same(&rt, (one.number, one.value), (other.number, other.value));
     }
-    assert!(&rt; (one[9_081].number, one[9_081].value) == (9_082, 18));
+    same(&rt, (one[9_081].number, one[9_081].value), (9_082, 18));
 }
 
 /// The plan of the text.
@@ -284,7 +291,7 @@ fn answers<R: Abort>(rt: &R, alloc: Global, numbers: &[u32]) -> Vec<Done> {
             task,
         };
         let pushed = done.push(job.run());
-        assert!(rt; pushed.is_ok());
+        holds(rt, pushed.is_ok());
     }
     done
 }
@@ -295,7 +302,8 @@ fn comes_to<R: Abort>(rt: &R, alloc: Global, numbers: &[u32], ended: &[Ended], d
     let Err(fault) = gather_done(&plan, answers(rt, alloc, numbers), ended) else {
         panic!(rt; "an outcome");
     };
-    assert!(rt; fault == due);
+    same(rt, fault, due);
+    drop(plan);
 }
 
 /// The worker took job 2, and the gate stayed shut.
@@ -314,10 +322,11 @@ fn answers_of_idle_workers_are_put_in_order(rt: HostRuntime) {
         panic!(&rt; "no outcome");
     };
     for (done, due) in gathered.iter().zip([(1, 55), (2, 18), (3, 5050)]) {
-        assert!(&rt; done.number == due.0);
-        assert!(&rt; done.value == due.1);
+        same(&rt, done.number, due.0);
+        same(&rt, done.value, due.1);
     }
-    assert!(&rt; gathered.len() == 3);
+    same(&rt, gathered.len(), 3);
+    drop(plan);
 }
 
 #[test]

@@ -5,6 +5,7 @@ use plan_market::{plan_commands, unservable};
 use std::alloc::Global;
 use std::process::Abort;
 use std::rt::HostRuntime;
+use test_asserts::same;
 
 /// Two arenas at levels of their own, both of which workers come to.
 const TWO_ARENAS: &str = "market 8 64\narena 8 1 normal 2 0\narena 8 1 low 1 0\n\
@@ -31,7 +32,7 @@ fn is_made_by(rt: &impl Abort, alloc: Global, text: &str, due: &[Cmd]) {
     let Ok(commands) = plan_commands(alloc, &plan(rt, alloc, text)) else {
         panic!(rt; "no memory for the commands");
     };
-    assert!(rt; commands.as_slice() == due);
+    same(rt, commands.as_slice(), due);
 }
 
 /// The text is a plan, and no worker would ever come to this arena of it, the first such.
@@ -39,7 +40,7 @@ fn is_unservable(rt: &impl Abort, alloc: Global, text: &str, arena: u32) {
     let Ok(found) = unservable(alloc, &plan(rt, alloc, text)) else {
         panic!(rt; "no memory for the market");
     };
-    assert!(rt; found == Some(ArenaId::new(arena)));
+    same(rt, found, Some(ArenaId::new(arena)));
 }
 
 /// The text is a plan, and some worker may come to each of its arenas that has a job.
@@ -47,7 +48,7 @@ fn is_servable(rt: &impl Abort, alloc: Global, text: &str) {
     let Ok(found) = unservable(alloc, &plan(rt, alloc, text)) else {
         panic!(rt; "no memory for the market");
     };
-    assert!(rt; found == None);
+    same(rt, found, None);
 }
 
 #[test]
@@ -129,6 +130,7 @@ fn the_least_arena_that_has_a_job_is_told(rt: HostRuntime) {
     ] {
         is_unservable(&rt, alloc, &with_jobs(&rt, alloc, market, jobs), arena);
     }
+    drop(market);
 }
 
 /// The other arena would take the one worker, but may ask for none later.

@@ -6,6 +6,7 @@ use market_types::{ArenaId, Level};
 use std::alloc::{AllocError, Global};
 use std::process::Abort;
 use std::rt::HostRuntime;
+use test_asserts::{holds, same};
 
 const PLAN: &[u8] = b"\
 market 8 64
@@ -47,7 +48,7 @@ fn is_bad(rt: &impl Abort, alloc: Global, text: &[u8], line: u64) {
     let Err(fault) = read_plan(alloc, text) else {
         panic!(rt; "a plan");
     };
-    assert!(rt; fault == PlanFault::BadPlan(line));
+    same(rt, fault, PlanFault::BadPlan(line));
 }
 
 /// The first of the lines that does not fit is this one.
@@ -61,9 +62,9 @@ fn lines_are_bad(rt: &impl Abort, alloc: Global, lines: &[&str], line: u64) {
 #[test]
 fn a_plan_is_read(rt: HostRuntime) {
     let plan = plan_of(&rt, rt.alloc(), PLAN);
-    assert!(&rt; plan.base() == 8);
-    assert!(&rt; plan.hard() == 64);
-    assert!(&rt; plan.levels() == 3);
+    same(&rt, plan.base(), 8);
+    same(&rt, plan.hard(), 64);
+    same(&rt, plan.levels(), 3);
     let first = PlannedArena {
         slots: 8,
         reserved: 1,
@@ -78,10 +79,11 @@ fn a_plan_is_read(rt: HostRuntime) {
         wanted: 1,
         mandatory: 0,
     };
-    assert!(&rt; plan.arenas() == [first, second].as_slice());
-    assert!(&rt; plan.controls().is_empty());
+    same(&rt, plan.arenas(), [first, second].as_slice());
+    holds(&rt, plan.controls().is_empty());
     let jobs = planned();
-    assert!(&rt; plan.jobs() == jobs.as_slice());
+    same(&rt, plan.jobs(), jobs.as_slice());
+    drop(plan);
 }
 
 #[test]
@@ -100,20 +102,21 @@ fn each_kind_of_line_is_read(rt: HostRuntime) {
         "job 1 digits 18446744073709551615",
     ];
     let plan = plan_of_lines(&rt, rt.alloc(), &lines);
-    assert!(&rt; plan.base() == 65_536);
-    assert!(&rt; plan.hard() == 65_535);
-    assert!(&rt; plan.levels() == 8);
-    assert!(&rt; plan.arenas().len() == 2);
-    assert!(&rt; plan.arenas()[0].level.get() == 8);
-    assert!(&rt; plan.arenas()[0].reserved == 65_535);
-    assert!(&rt; plan.arenas()[1].reserved == 0);
-    assert!(&rt; plan.controls() == [1, 65_536].as_slice());
+    same(&rt, plan.base(), 65_536);
+    same(&rt, plan.hard(), 65_535);
+    same(&rt, plan.levels(), 8);
+    same(&rt, plan.arenas().len(), 2);
+    same(&rt, plan.arenas()[0].level.get(), 8);
+    same(&rt, plan.arenas()[0].reserved, 65_535);
+    same(&rt, plan.arenas()[1].reserved, 0);
+    same(&rt, plan.controls(), [1, 65_536].as_slice());
     let last = PlannedJob {
         arena: ArenaId::new(1),
         task: Task::Digits(u64::MAX),
     };
-    assert!(&rt; plan.jobs().len() == 3);
-    assert!(&rt; plan.jobs()[2] == last);
+    same(&rt, plan.jobs().len(), 3);
+    same(&rt, plan.jobs()[2], last);
+    drop(plan);
 }
 
 #[test]
@@ -123,13 +126,14 @@ fn a_last_line_without_lf_is_read(rt: HostRuntime) {
         rt.alloc(),
         b"market 8 64\narena 2 1 high 1 0\njob 1 sum 3",
     );
-    assert!(&rt; plan.jobs().len() == 1);
+    same(&rt, plan.jobs().len(), 1);
     is_bad(
         &rt,
         rt.alloc(),
         b"market 8 64\narena 2 1 high 1 0\njob 1 sum",
         3,
     );
+    drop(plan);
 }
 
 #[test]
@@ -280,6 +284,7 @@ fn lines_out_of_order_are_wrong(rt: HostRuntime) {
     lines_are_bad(&rt, rt.alloc(), &[market, arena, job, arena], 4);
     lines_are_bad(&rt, rt.alloc(), &[market, arena, job, "control 1"], 4);
     lines_are_bad(&rt, rt.alloc(), &[market, arena, job, market], 4);
+    drop(market);
 }
 
 /// A market, an arena, and so many times the line.
@@ -299,7 +304,7 @@ fn is_most(rt: &impl Abort, alloc: Global, line: &str, times: u32) {
     };
     let _plan = plan_of(rt, alloc, &text);
     let added = text.extend_from_slice(line.as_bytes());
-    assert!(rt; added.is_ok());
+    holds(rt, added.is_ok());
     is_bad(rt, alloc, &text, u64::from(times) + 3);
 }
 
@@ -327,10 +332,11 @@ fn a_line_of_more_than_256_bytes_begins_with_a_hash(rt: HostRuntime) {
             panic!(&rt; "no memory");
         };
         let plan = plan_of(&rt, rt.alloc(), &text);
-        assert!(&rt; plan.arenas().len() == 1);
+        same(&rt, plan.arenas().len(), 1);
         let Ok(text) = with_long_line(rt.alloc(), "control 1", bytes) else {
             panic!(&rt; "no memory");
         };
         is_bad(&rt, rt.alloc(), &text, 3);
+        drop(plan);
     }
 }

@@ -16,6 +16,7 @@ use std::rt::HostRuntime;
 use std::sync::Wait;
 use std::sync::atomic::{AtomicU64, Ordering};
 use std::sync::ledger::{Blank, Ledger};
+use test_asserts::{holds, same};
 use worker_main::{Ended, Gate, OpenGate, Report, Station, work};
 
 const FIRST: Job = Job {
@@ -122,8 +123,8 @@ fn stock_of<R: Wait + Abort>(
     };
     takers.destroy_empty();
     for job in jobs {
-        assert!(rt; feeder.room() > 0);
-        assert!(rt; queue.push(rt, &mut feeder, *job).is_ok());
+        holds(rt, feeder.room() > 0);
+        holds(rt, queue.push(rt, &mut feeder, *job).is_ok());
     }
     feeders.push_reserved(feeder);
     Stocked {
@@ -215,7 +216,7 @@ fn tell<C: Ledger, W: Ledger, R: Wait + Abort>(
         return;
     }
     let again = office.call(rt, alloc, pass, *cmd);
-    assert!(rt; again.is_ok());
+    holds(rt, again.is_ok());
 }
 
 /// The arenas are opened, and ask for their workers.
@@ -311,7 +312,7 @@ fn opened<C: Ledger, W: Ledger, G: Gate, R: Wait + Abort>(
     ) {
         Ok(opened) => opened,
         Err(fault) => {
-            assert!(rt; fault == OpenFault::Memory);
+            same(rt, fault, OpenFault::Memory);
             return None;
         }
     };
@@ -361,26 +362,45 @@ fn are_empty(closed: &Closed) -> bool {
 fn are_first(rt: &impl Abort, done: &[Done]) {
     let due = [(1, 55), (2, 18), (3, 5_050)];
     let told = done.iter().map(|done| (done.number, done.value));
-    assert!(rt; told.eq(due.into_iter().take(done.len())));
+    holds(rt, told.eq(due.into_iter().take(done.len())));
 }
 
 /// All jobs are done.
 fn is_whole(rt: &impl Abort, left: &Left) {
-    assert!(rt; left.ended == Ended::Idle);
-    assert!(rt; left.done.len() == 3);
+    same(rt, left.ended, Ended::Idle);
+    same(rt, left.done.len(), 3);
     are_first(rt, &left.done);
     // Four calls before, five at arena 1, four at arena 2, and the last Join.
-    assert!(rt; (left.closed.calls, left.closed.workers) == (14, 0));
-    assert!(rt; are_empty(&left.closed));
-    assert!(rt; (left.first, left.second) == (Ok(()), Ok(())));
+    same(rt, (left.closed.calls, left.closed.workers), (14, 0));
+    holds(rt, are_empty(&left.closed));
+    same(rt, (left.first, left.second), (Ok(()), Ok(())));
 }
 
 #[test]
 fn a_worker_does_all_jobs(rt: HostRuntime) {
-    is_whole(&rt, &left_by(&rt, rt.alloc(), 100, &OpenGate));
+    let left = left_by(&rt, rt.alloc(), 100, &OpenGate);
+    is_whole(&rt, &left);
+    drop(left);
 }
 
 /// A worker that wants memory in vain has left its arena, and has an answer for each job that it took.
+fn wants_memory(rt: &impl Abort, left: &Left) {
+    holds(
+        rt,
+        left.ended == Ended::Memory || left.ended == Ended::Call(CallFault::Memory),
+    );
+    same(rt, left.closed.workers, 0);
+    holds(rt, are_empty(&left.closed));
+    are_first(rt, &left.done);
+    let oldest = match left.done.len() {
+        0 => (Err(FIRST), Err(THIRD)),
+        1 => (Err(SECOND), Err(THIRD)),
+        2 => (Ok(()), Err(THIRD)),
+        _ => (Ok(()), Ok(())),
+    };
+    same(rt, (left.first, left.second), oldest);
+}
+
 #[test]
 fn a_refused_growth_ends_the_worker(rt: HostRuntime) {
     let Some(left) = left_if_opened(&rt, rt.alloc(), 100, &OpenGate) else {
@@ -388,19 +408,10 @@ fn a_refused_growth_ends_the_worker(rt: HostRuntime) {
     };
     if left.ended == Ended::Idle {
         is_whole(&rt, &left);
-        return;
+    } else {
+        wants_memory(&rt, &left);
     }
-    assert!(&rt; left.ended == Ended::Memory || left.ended == Ended::Call(CallFault::Memory));
-    assert!(&rt; left.closed.workers == 0);
-    assert!(&rt; are_empty(&left.closed));
-    are_first(&rt, &left.done);
-    let oldest = match left.done.len() {
-        0 => (Err(FIRST), Err(THIRD)),
-        1 => (Err(SECOND), Err(THIRD)),
-        2 => (Ok(()), Err(THIRD)),
-        _ => (Ok(()), Ok(())),
-    };
-    assert!(&rt; (left.first, left.second) == oldest);
+    drop(left);
 }
 
 #[test]
@@ -410,41 +421,46 @@ fn each_job_is_told_once(rt: HostRuntime) {
         told: AtomicU64::new(0),
     };
     let left = left_by(&rt, rt.alloc(), 100, &gate);
-    assert!(&rt; left.ended == Ended::Idle);
-    assert!(&rt; gate.told.load(Ordering::SeqCst) == 111);
+    same(&rt, left.ended, Ended::Idle);
+    same(&rt, gate.told.load(Ordering::SeqCst), 111);
+    drop(left);
 }
 
 #[test]
 fn a_gate_that_stays_shut_ends_the_worker(rt: HostRuntime) {
     let left = left_by(&rt, rt.alloc(), 100, &UpTo(1));
-    assert!(&rt; left.ended == Ended::GateShut(FIRST));
-    assert!(&rt; left.done.is_empty());
-    assert!(&rt; (left.closed.calls, left.closed.workers) == (6, 0));
-    assert!(&rt; are_empty(&left.closed));
-    assert!(&rt; (left.first, left.second) == (Err(SECOND), Err(THIRD)));
+    same(&rt, left.ended, Ended::GateShut(FIRST));
+    holds(&rt, left.done.is_empty());
+    same(&rt, (left.closed.calls, left.closed.workers), (6, 0));
+    holds(&rt, are_empty(&left.closed));
+    same(&rt, (left.first, left.second), (Err(SECOND), Err(THIRD)));
+    drop(left);
 }
 
 #[test]
 fn a_shut_gate_names_its_job(rt: HostRuntime) {
     let left = left_by(&rt, rt.alloc(), 100, &UpTo(2));
-    assert!(&rt; left.ended == Ended::GateShut(SECOND));
-    assert!(&rt; left.done.len() == 1);
-    assert!(&rt; (left.closed.calls, left.closed.workers) == (7, 0));
-    assert!(&rt; (left.first, left.second) == (Ok(()), Err(THIRD)));
+    same(&rt, left.ended, Ended::GateShut(SECOND));
+    same(&rt, left.done.len(), 1);
+    same(&rt, (left.closed.calls, left.closed.workers), (7, 0));
+    same(&rt, (left.first, left.second), (Ok(()), Err(THIRD)));
+    drop(left);
 }
 
 #[test]
 fn a_full_history_ends_the_worker(rt: HostRuntime) {
     // The Join is the fifth entry, and the last place is for the Leave.
     let left = left_by(&rt, rt.alloc(), 6, &OpenGate);
-    assert!(&rt; left.ended == Ended::Call(CallFault::HistoryFull));
-    assert!(&rt; left.done.len() == 1);
-    assert!(&rt; (left.closed.calls, left.closed.workers) == (6, 0));
-    assert!(&rt; (left.first, left.second) == (Err(SECOND), Err(THIRD)));
+    same(&rt, left.ended, Ended::Call(CallFault::HistoryFull));
+    same(&rt, left.done.len(), 1);
+    same(&rt, (left.closed.calls, left.closed.workers), (6, 0));
+    same(&rt, (left.first, left.second), (Err(SECOND), Err(THIRD)));
+    drop(left);
     let left = left_by(&rt, rt.alloc(), 5, &OpenGate);
-    assert!(&rt; left.ended == Ended::Call(CallFault::HistoryFull));
-    assert!(&rt; left.done.is_empty());
-    assert!(&rt; (left.closed.calls, left.closed.workers) == (4, 0));
+    same(&rt, left.ended, Ended::Call(CallFault::HistoryFull));
+    holds(&rt, left.done.is_empty());
+    same(&rt, (left.closed.calls, left.closed.workers), (4, 0));
+    drop(left);
 }
 
 /// The same without stations.
@@ -472,7 +488,7 @@ fn left_without_stations<C: Ledger, W: Ledger, R: Wait + Abort>(
         ended,
     } = work(rt, alloc, &office, pass, &[], Vec::new(alloc), &OpenGate, 3);
     takers.destroy_empty();
-    assert!(rt; done.is_empty());
+    holds(rt, done.is_empty());
     passes.push_reserved(pass);
     let closed = office.close(passes, Vec::<Placed<C, W>>::new(alloc));
     (closed, ended)
@@ -486,7 +502,7 @@ fn an_arena_without_a_station_ends_the_worker(rt: HostRuntime) {
         Blank::new(1),
         Blank::new(1),
     );
-    assert!(&rt; ended == Ended::NoStation(ArenaId::new(1)));
-    assert!(&rt; (closed.calls, closed.workers) == (6, 0));
-    assert!(&rt; are_empty(&closed));
+    same(&rt, ended, Ended::NoStation(ArenaId::new(1)));
+    same(&rt, (closed.calls, closed.workers), (6, 0));
+    holds(&rt, are_empty(&closed));
 }

@@ -9,6 +9,7 @@ use std::process::Abort;
 use std::rt::HostRuntime;
 use std::sync::Wait;
 use std::thread::Threads;
+use test_asserts::{holds, same};
 
 const TERMS: Terms = Terms {
     base: 8,
@@ -39,7 +40,7 @@ fn scripts_of<'a>(rt: &impl Abort, alloc: Global, lists: &[&'a [Cmd]]) -> Vec<Sc
         let Ok(script) = Script::new(alloc, *cmds) else {
             panic!(rt; "no memory");
         };
-        assert!(rt; scripts.push(script).is_ok());
+        holds(rt, scripts.push(script).is_ok());
     }
     scripts
 }
@@ -61,13 +62,14 @@ fn is_told<R: Threads + Wait + Sync + Abort>(
     totals: (u64, u64),
 ) {
     let scripts = scripts_of(rt, alloc, &[cmds]);
-    assert!(rt; scripts.len() == 1);
+    same(rt, scripts.len(), 1);
     let Ok(meeting) = meet(rt, alloc, terms, nobody(alloc), scripts) else {
         panic!(rt; "no office");
     };
-    assert!(rt; meeting.tasks.iter().all(|script| script.told() == due));
-    assert!(rt; (meeting.closed.calls, meeting.closed.workers) == totals);
-    assert!(rt; meeting.closed.chronicle.len() == totals.0);
+    holds(rt, meeting.tasks.iter().all(|script| script.told() == due));
+    same(rt, (meeting.closed.calls, meeting.closed.workers), totals);
+    same(rt, meeting.closed.chronicle.len(), totals.0);
+    drop(meeting);
 }
 
 #[test]
@@ -122,7 +124,7 @@ fn is_seen_next<R: Threads + Wait + Sync + Abort>(rt: &R, alloc: Global, cmds: &
 {
     let openers = scripts_of(rt, alloc, &[&cmds[..2]]);
     let tasks = scripts_of(rt, alloc, &[&cmds[2..]]);
-    assert!(rt; openers.len() == 1 && tasks.len() == 1);
+    holds(rt, openers.len() == 1 && tasks.len() == 1);
     let Ok(meeting) = meet(rt, alloc, TERMS, openers, tasks) else {
         panic!(rt; "no office");
     };
@@ -132,10 +134,23 @@ fn is_seen_next<R: Threads + Wait + Sync + Abort>(rt: &R, alloc: Global, cmds: &
         tasks,
     } = meeting;
     let seen = b"arena 1 request 3 allot 3 top yes active 0 recall 0 hire 3\n";
-    assert!(rt; openers.iter().all(|script| script.told() == b"arena 1\nrequest 3\n".as_slice()));
-    assert!(rt; tasks.iter().all(|script| script.told() == seen.as_slice()));
-    assert!(rt; (openers.len(), tasks.len()) == (1, 1));
-    assert!(rt; (closed.calls, closed.workers, closed.chronicle.len()) == (3, 0, 3));
+    holds(
+        rt,
+        openers.iter().all(|script| script.told() == b"arena 1\nrequest 3\n".as_slice()),
+    );
+    holds(
+        rt,
+        tasks.iter().all(|script| script.told() == seen.as_slice()),
+    );
+    same(rt, (openers.len(), tasks.len()), (1, 1));
+    same(
+        rt,
+        (closed.calls, closed.workers, closed.chronicle.len()),
+        (3, 0, 3),
+    );
+    drop(tasks);
+    drop(openers);
+    drop(closed);
 }
 
 #[test]
@@ -156,26 +171,34 @@ fn are_told_the_limit<R: Threads + Wait + Sync + Abort>(rt: &R, alloc: Global, c
         ..TERMS
     };
     let scripts = scripts_of(rt, alloc, &[cmds, cmds]);
-    assert!(rt; scripts.len() == 2);
+    same(rt, scripts.len(), 2);
     let Ok(meeting) = meet(rt, alloc, terms, nobody(alloc), scripts) else {
         panic!(rt; "no office");
     };
     let Meeting {
         closed,
-        openers: _,
+        openers,
         tasks,
     } = meeting;
+    drop(openers);
     let line = b"value 8 limit 7 effective 7\n";
     for script in tasks.iter() {
-        assert!(rt; script.told().len() == 1_000 * line.len());
-        assert!(rt;
+        same(rt, script.told().len(), 1_000 * line.len());
+        holds(
+            rt,
             script
                 .told()
                 .chunks(line.len())
-                .all(|told| told == line.as_slice())
+                .all(|told| told == line.as_slice()),
         );
     }
-    assert!(rt; (closed.calls, closed.workers, closed.chronicle.len()) == (2_000, 0, 2_000));
+    same(
+        rt,
+        (closed.calls, closed.workers, closed.chronicle.len()),
+        (2_000, 0, 2_000),
+    );
+    drop(tasks);
+    drop(closed);
 }
 
 #[test]
@@ -188,8 +211,8 @@ fn told_in(rt: &impl Abort, alloc: Global, chronicle: &Chronicle, seat: SeatNo) 
     let mut told = Vec::new(alloc);
     for entry in chronicle.kept() {
         if entry.call.seat == seat {
-            assert!(rt; push_reply(&mut told, &entry.reply).is_ok());
-            assert!(rt; told.push(b'\n').is_ok());
+            holds(rt, push_reply(&mut told, &entry.reply).is_ok());
+            holds(rt, told.push(b'\n').is_ok());
         }
     }
     told
@@ -201,7 +224,7 @@ fn come_back_in_order<R: Threads + Wait + Sync + Abort>(rt: &R, alloc: Global, c
 {
     let openers = scripts_of(rt, alloc, &[&cmds[..1], &cmds[1..2]]);
     let tasks = scripts_of(rt, alloc, &[&cmds[2..]]);
-    assert!(rt; openers.len() == 2 && tasks.len() == 1);
+    holds(rt, openers.len() == 2 && tasks.len() == 1);
     let Ok(meeting) = meet(rt, alloc, TERMS, openers, tasks) else {
         panic!(rt; "no office");
     };
@@ -210,13 +233,21 @@ fn come_back_in_order<R: Threads + Wait + Sync + Abort>(rt: &R, alloc: Global, c
         openers,
         tasks,
     } = meeting;
-    assert!(rt; openers.len() == 2 && tasks.len() == 1);
-    assert!(rt; openers[0].told() == b"arena 1\n".as_slice());
-    assert!(rt; openers[1].told() == b"arena 2\n".as_slice());
-    assert!(rt; tasks[0].told() == b"request 3\n".as_slice());
+    holds(rt, openers.len() == 2 && tasks.len() == 1);
+    same(rt, openers[0].told(), b"arena 1\n".as_slice());
+    same(rt, openers[1].told(), b"arena 2\n".as_slice());
+    same(rt, tasks[0].told(), b"request 3\n".as_slice());
     let told = told_in(rt, alloc, &closed.chronicle, SeatNo::new(1));
-    assert!(rt; told.as_slice() == b"arena 2\n".as_slice());
-    assert!(rt; (closed.calls, closed.workers, closed.chronicle.len()) == (3, 0, 3));
+    same(rt, told.as_slice(), b"arena 2\n".as_slice());
+    same(
+        rt,
+        (closed.calls, closed.workers, closed.chronicle.len()),
+        (3, 0, 3),
+    );
+    drop(told);
+    drop(tasks);
+    drop(openers);
+    drop(closed);
 }
 
 #[test]
@@ -235,23 +266,39 @@ fn one_visits_and_one_stays<R: Threads + Wait + Sync + Abort>(rt: &R, alloc: Glo
 {
     let openers = scripts_of(rt, alloc, &[&cmds[..2]]);
     let tasks = scripts_of(rt, alloc, &[&cmds[2..5], &cmds[5..]]);
-    assert!(rt; openers.len() == 1 && tasks.len() == 2);
+    holds(rt, openers.len() == 1 && tasks.len() == 2);
     let Ok(meeting) = meet(rt, alloc, TERMS, openers, tasks) else {
         panic!(rt; "no office");
     };
     let Meeting {
         closed,
-        openers: _,
+        openers,
         tasks,
     } = meeting;
-    assert!(rt; tasks.len() == 2);
-    assert!(rt; tasks[0].told() == b"placed 1\nstays 1\nleft 1\n".as_slice());
-    assert!(rt; tasks[1].told() == b"placed 1\n".as_slice());
-    assert!(rt; (closed.calls, closed.workers, closed.chronicle.len()) == (6, 1, 6));
+    drop(openers);
+    same(rt, tasks.len(), 2);
+    same(
+        rt,
+        tasks[0].told(),
+        b"placed 1\nstays 1\nleft 1\n".as_slice(),
+    );
+    same(rt, tasks[1].told(), b"placed 1\n".as_slice());
+    same(
+        rt,
+        (closed.calls, closed.workers, closed.chronicle.len()),
+        (6, 1, 6),
+    );
     let told = told_in(rt, alloc, &closed.chronicle, SeatNo::new(1));
-    assert!(rt; told.as_slice() == b"placed 1\nstays 1\nleft 1\n".as_slice());
+    same(
+        rt,
+        told.as_slice(),
+        b"placed 1\nstays 1\nleft 1\n".as_slice(),
+    );
     let view = closed.chronicle.market().view(ArenaId::new(1));
-    assert!(rt; matches!(view, Some(arena) if arena.active == 1));
+    holds(rt, matches!(view, Some(arena) if arena.active == 1));
+    drop(told);
+    drop(tasks);
+    drop(closed);
 }
 
 #[test]

@@ -14,6 +14,7 @@ use std::rt::HostRuntime;
 use std::sync::{Mutex, Wait};
 use std::thread::Threads;
 use std::time::Duration;
+use test_asserts::{holds, same};
 
 /// The market gives the entry's reply to its command.
 fn answers(
@@ -22,7 +23,7 @@ fn answers(
     market: &mut Market,
     entry: &Entry,
 ) -> Result<bool, AllocError> {
-    assert!(rt; entry.call.seat.get() < market.seats());
+    holds(rt, entry.call.seat.get() < market.seats());
     let due = market.apply(alloc, entry.call.seat, entry.call.cmd)?;
     let (mut due_text, mut told_text) = (Vec::new(alloc), Vec::new(alloc));
     push_reply(&mut due_text, &due)?;
@@ -30,7 +31,24 @@ fn answers(
     Ok(due_text.as_slice() == told_text.as_slice())
 }
 
-/// A market of one thread answers each call of the chronicle as it was answered.
+/// The market answers each call of the chronicle as it was answered.
+fn are_answered_alike(
+    rt: &impl Abort,
+    alloc: Global,
+    market: &mut Market,
+    chronicle: &Chronicle,
+) -> Result<bool, AllocError>
+    requires whole { chronicle.now.from ≡ 0 }
+{
+    for index in 0..chronicle.len() {
+        if !answers(rt, alloc, market, chronicle.entry(index))? {
+            return Ok(false);
+        }
+    }
+    Ok(true)
+}
+
+/// So does a market of one thread.
 fn is_answered_alike(
     rt: &impl Abort,
     alloc: Global,
@@ -43,12 +61,9 @@ fn is_answered_alike(
     let Ok(mut market) = Market::new(alloc, base, hard, asked.seats(), asked.levels()) else {
         panic!(rt; "no market");
     };
-    for index in 0..chronicle.len() {
-        if !answers(rt, alloc, &mut market, chronicle.entry(index))? {
-            return Ok(false);
-        }
-    }
-    Ok(true)
+    let alike = are_answered_alike(rt, alloc, &mut market, chronicle);
+    drop(market);
+    alike
 }
 
 /// So many callers meet in one history.
@@ -65,10 +80,14 @@ fn meets<R: Threads + Wait + Sync + Abort>(
         panic!(rt; "no office");
     };
     let chronicle = &outcome.closed.chronicle;
-    assert!(rt; outcome.closed.calls == chronicle.len());
-    assert!(rt; outcome.closed.workers == u64::from(chronicle.market().placed()));
-    assert!(rt; outcome.agreeing == callers);
-    assert!(rt; is_answered_alike(rt, alloc, chronicle) == Ok(true));
+    same(rt, outcome.closed.calls, chronicle.len());
+    same(
+        rt,
+        outcome.closed.workers,
+        u64::from(chronicle.market().placed()),
+    );
+    same(rt, outcome.agreeing, callers);
+    same(rt, is_answered_alike(rt, alloc, chronicle), Ok(true));
     outcome
 }
 
@@ -76,14 +95,16 @@ fn meets<R: Threads + Wait + Sync + Abort>(
 fn few_and_many_callers_meet(rt: HostRuntime) {
     for callers in [1_u8, 2, 8, 64] {
         let outcome = meets(&rt, rt.alloc(), TERMS, callers, 2_000);
-        assert!(&rt; outcome.closed.calls == 2_000 * u64::from(callers));
+        same(&rt, outcome.closed.calls, 2_000 * u64::from(callers));
+        drop(outcome);
     }
 }
 
 #[test]
 fn sixteen_callers_make_nearly_a_million_calls(rt: HostRuntime) {
     let outcome = meets(&rt, rt.alloc(), TERMS, 16, 60_000);
-    assert!(&rt; outcome.closed.calls == 960_000);
+    same(&rt, outcome.closed.calls, 960_000);
+    drop(outcome);
 }
 
 /// The last places are for placed workers to leave.
@@ -95,15 +116,21 @@ fn a_history_fills_up(rt: HostRuntime) {
     };
     let outcome = meets(&rt, rt.alloc(), terms, 8, 500);
     let taken = outcome.closed.calls.saturating_add(outcome.closed.workers);
-    assert!(&rt; taken == 599 || taken == 600);
-    assert!(&rt; u64::from(outcome.closed.chronicle.free()) == 600_u64.saturating_sub(taken));
+    holds(&rt, taken == 599 || taken == 600);
+    same(
+        &rt,
+        u64::from(outcome.closed.chronicle.free()),
+        600_u64.saturating_sub(taken),
+    );
+    drop(outcome);
 }
 
 #[test]
 fn an_office_without_calls_is_closed(rt: HostRuntime) {
     let outcome = meets(&rt, rt.alloc(), TERMS, 64, 0);
-    assert!(&rt; outcome.closed.calls == 0);
-    assert!(&rt; outcome.closed.workers == 0);
+    same(&rt, outcome.closed.calls, 0);
+    same(&rt, outcome.closed.workers, 0);
+    drop(outcome);
 }
 
 /// Each caller looks at the clock behind some calls for the first time.
@@ -115,11 +142,16 @@ fn callers_call_until_the_time_is_over(rt: HostRuntime) {
         panic!(&rt; "no office");
     };
     let closed = &lasted.closed;
-    assert!(&rt; closed.calls >= 4_096);
-    assert!(&rt; closed.chronicle.len() == closed.calls);
-    assert!(&rt; closed.chronicle.kept().is_empty());
-    assert!(&rt; closed.workers == u64::from(closed.chronicle.market().placed()));
-    assert!(&rt; lasted.time >= time && lasted.rate() > 0);
+    holds(&rt, closed.calls >= 4_096);
+    same(&rt, closed.chronicle.len(), closed.calls);
+    holds(&rt, closed.chronicle.kept().is_empty());
+    same(
+        &rt,
+        closed.workers,
+        u64::from(closed.chronicle.market().placed()),
+    );
+    holds(&rt, lasted.time >= time && lasted.rate() > 0);
+    drop(lasted);
 }
 
 /// A device that has room for so many bytes more, and keeps none.
@@ -164,7 +196,8 @@ fn a_journal_goes_on_until_its_device_is_full(rt: HostRuntime) {
     };
     let time = Duration::from_secs(50);
     let ended = last(&rt, &rt, rt.alloc(), time, 4, Record::Journal, device);
-    assert!(&rt; matches!(&ended, Err(DemoFault::Write)));
+    holds(&rt, matches!(&ended, Err(DemoFault::Write)));
+    drop(ended);
 }
 
 /// A device whose text stands when the device is gone.
@@ -217,11 +250,16 @@ fn is_written<R: Threads + Wait + Sync + Abort>(
         panic!(rt; "no journal");
     };
     let journal = text.into_inner();
-    assert!(rt; journal.as_slice().starts_with(header));
+    holds(rt, journal.as_slice().starts_with(header));
     let Ok(verdict) = check(alloc, journal.as_slice()) else {
         panic!(rt; "no memory");
     };
-    assert!(rt; matches!(&verdict, Verdict::Legal(entries) if *entries == lasted.closed.calls));
+    holds(
+        rt,
+        matches!(&verdict, Verdict::Legal(entries) if *entries == lasted.closed.calls),
+    );
+    drop(verdict);
+    drop(lasted);
 }
 
 /// The last part is what callers do after the writer's last cut. It may be empty by chance, so that several rounds are made.

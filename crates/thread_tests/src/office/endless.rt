@@ -13,6 +13,8 @@ use std::process::Abort;
 use std::rt::HostRuntime;
 use std::sync::Wait;
 use std::sync::ledger::Ledger;
+use std::thread::Threads;
+use test_asserts::{holds, same};
 
 /// Twenty places are soon full.
 const IN_PARTS: Terms = Terms {
@@ -155,36 +157,37 @@ fn nobody(alloc: Global) -> Vec<Guest>
 /// Two that ask so many times each, and no more.
 fn askers(rt: &impl Abort, alloc: Global, times: u64) -> Vec<Guest> {
     let mut guests = Vec::new(alloc);
-    assert!(rt; guests.push(Guest::Asker(times)).is_ok());
-    assert!(rt; guests.push(Guest::Asker(times)).is_ok());
+    holds(rt, guests.push(Guest::Asker(times)).is_ok());
+    holds(rt, guests.push(Guest::Asker(times)).is_ok());
     guests
 }
 
 /// All calls are counted, no worker is placed, and no entry is kept.
 fn has_answered(rt: &impl Abort, closed: &Closed, calls: u64) {
-    assert!(rt; (closed.calls, closed.workers) == (calls, 0));
-    assert!(rt; closed.chronicle.len() == calls);
-    assert!(rt; closed.chronicle.kept().is_empty());
+    same(rt, (closed.calls, closed.workers), (calls, 0));
+    same(rt, closed.chronicle.len(), calls);
+    holds(rt, closed.chronicle.kept().is_empty());
 }
 
 #[test]
 fn an_unrecorded_crew_makes_more_calls_than_a_history_has_places(rt: HostRuntime) {
     let alloc = rt.alloc();
     let guests = askers(&rt, alloc, 600_000);
-    assert!(&rt; guests.len() == 2);
+    same(&rt, guests.len(), 2);
     let Ok(meeting) = meet(&rt, alloc, UNRECORDED, nobody(alloc), guests) else {
         panic!(&rt; "no office");
     };
     has_answered(&rt, &meeting.closed, 1_200_000);
-    assert!(&rt; (meeting.openers.len(), meeting.tasks.len()) == (0, 2));
+    same(&rt, (meeting.openers.len(), meeting.tasks.len()), (0, 2));
+    drop(meeting);
 }
 
 /// The parts are told by the clerk alone.
 fn is_written(rt: &impl Abort, guests: &[Guest], due: u64) {
     for guest in guests {
         match guest {
-            Guest::Asker(times) => assert!(rt; *times == 5_000),
-            Guest::Clerk(clerk) => assert!(rt; clerk.goes_on && clerk.next == due),
+            Guest::Asker(times) => same(rt, *times, 5_000),
+            Guest::Clerk(clerk) => holds(rt, clerk.goes_on && clerk.next == due),
         }
     }
 }
@@ -196,36 +199,44 @@ fn parts_that_are_cut_while_others_call_begin_where_the_last_ended(rt: HostRunti
     let Ok(clerk) = Clerk::new(alloc, 10_000) else {
         panic!(&rt; "no memory");
     };
-    assert!(&rt; guests.push(Guest::Clerk(clerk)).is_ok());
-    assert!(&rt; guests.len() == 3);
+    holds(&rt, guests.push(Guest::Clerk(clerk)).is_ok());
+    same(&rt, guests.len(), 3);
     let Ok(meeting) = meet(&rt, alloc, IN_PARTS, nobody(alloc), guests) else {
         panic!(&rt; "no office");
     };
     has_answered(&rt, &meeting.closed, 10_000);
-    assert!(&rt; (meeting.openers.len(), meeting.tasks.len()) == (0, 3));
+    same(&rt, (meeting.openers.len(), meeting.tasks.len()), (0, 3));
     is_written(&rt, &meeting.tasks, 10_000);
+    drop(meeting);
+}
+
+/// No office opens on these terms, for this reason, and both guests come back.
+fn come_back<R: Threads + Wait + Sync + Abort>(
+    rt: &R,
+    alloc: Global,
+    terms: Terms,
+    due: OpenFault,
+) {
+    let guests = askers(rt, alloc, 1);
+    same(rt, guests.len(), 2);
+    let Err(unmet) = meet(rt, alloc, terms, nobody(alloc), guests) else {
+        panic!(rt; "an office");
+    };
+    same(rt, unmet.fault, due);
+    same(rt, unmet.tasks.len(), 2);
+    drop(unmet);
 }
 
 #[test]
 fn guests_come_back_from_an_office_that_does_not_open(rt: HostRuntime) {
-    let alloc = rt.alloc();
-    let some = askers(&rt, alloc, 1);
-    let others = askers(&rt, alloc, 1);
-    assert!(&rt; some.len() == 2 && others.len() == 2);
-    let terms = Terms {
+    let no_places = Terms {
         places: 0,
         ..IN_PARTS
     };
-    let Err(unmet) = meet(&rt, alloc, terms, nobody(alloc), some) else {
-        panic!(&rt; "an office of no places");
-    };
-    assert!(&rt; unmet.fault == OpenFault::BadPlaces && unmet.tasks.len() == 2);
-    let terms = Terms {
+    come_back(&rt, rt.alloc(), no_places, OpenFault::BadPlaces);
+    let no_base = Terms {
         base: 0,
         ..UNRECORDED
     };
-    let Err(unmet) = meet(&rt, alloc, terms, nobody(alloc), others) else {
-        panic!(&rt; "an office of base 0");
-    };
-    assert!(&rt; unmet.fault == OpenFault::BadBase && unmet.tasks.len() == 2);
+    come_back(&rt, rt.alloc(), no_base, OpenFault::BadBase);
 }

@@ -5,6 +5,7 @@ use queue_crew::{Exchanged, exchange};
 use std::alloc::Global;
 use std::process::Abort;
 use std::rt::HostRuntime;
+use test_asserts::{holds, same};
 
 /// Marks each job that a taker took, and tells whether each was one of those that were stored, was not marked before, and came
 /// after the earlier ones of its feeder.
@@ -55,8 +56,8 @@ fn two_producers_and_two_consumers_meet(rt: HostRuntime) {
     let Ok(Exchanged { got, settled }) = exchange(&rt, alloc, 2, 2, 1000) else {
         panic!(&rt; "no memory");
     };
-    assert!(&rt; settled == Ok(()));
-    assert!(&rt; each_once(&rt, alloc, &got, 2, 1000));
+    same(&rt, settled, Ok(()));
+    holds(&rt, each_once(&rt, alloc, &got, 2, 1000));
 }
 
 #[test]
@@ -65,6 +66,6 @@ fn sixteen_threads_lose_and_double_nothing(rt: HostRuntime) {
     let Ok(Exchanged { got, settled }) = exchange(&rt, alloc, 16, 8, 125_000) else {
         panic!(&rt; "no memory");
     };
-    assert!(&rt; settled == Ok(()));
-    assert!(&rt; each_once(&rt, alloc, &got, 8, 125_000));
+    same(&rt, settled, Ok(()));
+    holds(&rt, each_once(&rt, alloc, &got, 8, 125_000));
 }

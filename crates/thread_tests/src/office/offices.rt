@@ -11,6 +11,7 @@ use std::process::Abort;
 use std::rt::HostRuntime;
 use std::sync::Wait;
 use std::sync::ledger::{Blank, Ledger};
+use test_asserts::{holds, same};
 
 /// The worker stays where it may, and leaves then.
 fn stay_and_leave<C: Ledger, W: Ledger, R: Wait>(
@@ -132,11 +133,15 @@ fn three_callers_meet(rt: HostRuntime) {
     let Ok(closed) = answer else {
         panic!(&rt; "no office");
     };
-    assert!(&rt; closed.calls == 6);
-    assert!(&rt; closed.workers == 1);
-    assert!(&rt; closed.chronicle.len() == 6);
+    same(&rt, closed.calls, 6);
+    same(&rt, closed.workers, 1);
+    same(&rt, closed.chronicle.len(), 6);
     let view = closed.chronicle.market().view(ArenaId::new(1));
-    assert!(&rt; matches!(view, Some(arena) if arena.active == 1 && arena.hire == 1));
+    holds(
+        &rt,
+        matches!(view, Some(arena) if arena.active == 1 && arena.hire == 1),
+    );
+    drop(closed);
 }
 
 /// The caller joins, stays and leaves so many times.
@@ -218,11 +223,15 @@ fn an_unrecorded_office_answers_more_calls_than_a_history_has_places(rt: HostRun
         panic!(&rt; "no office");
     };
     // Each visit is three calls: it joins, stays and leaves.
-    assert!(&rt; closed.calls == 3_000_002);
-    assert!(&rt; closed.workers == 0);
-    assert!(&rt; closed.chronicle.len() == 3_000_002);
+    same(&rt, closed.calls, 3_000_002);
+    same(&rt, closed.workers, 0);
+    same(&rt, closed.chronicle.len(), 3_000_002);
     let view = closed.chronicle.market().view(ArenaId::new(1));
-    assert!(&rt; matches!(view, Some(arena) if arena.active == 0 && arena.hire == 1));
+    holds(
+        &rt,
+        matches!(view, Some(arena) if arena.active == 0 && arena.hire == 1),
+    );
+    drop(closed);
 }
 
 /// Gives a command, once more where a growth was refused.
@@ -339,14 +348,18 @@ fn a_refused_growth_spares_the_leaves_after_a_cut(rt: HostRuntime) {
     let closed = match answer {
         Ok(closed) => closed,
         Err(fault) => {
-            assert!(&rt; fault == OpenFault::Memory);
+            same(&rt, fault, OpenFault::Memory);
             return;
         }
     };
-    assert!(&rt; (closed.calls, closed.workers) == (6, 0));
+    same(&rt, (closed.calls, closed.workers), (6, 0));
     // The entries before the cut are out, unless the spare vector had no room.
     let kept = closed.chronicle.kept().len();
-    assert!(&rt; kept == 2 || kept == 6);
+    holds(&rt, kept == 2 || kept == 6);
     let view = closed.chronicle.market().view(ArenaId::new(1));
-    assert!(&rt; matches!(view, Some(arena) if arena.active == 0 && arena.hire == 2));
+    holds(
+        &rt,
+        matches!(view, Some(arena) if arena.active == 0 && arena.hire == 2),
+    );
+    drop(closed);
 }

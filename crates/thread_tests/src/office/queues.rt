@@ -6,6 +6,7 @@ use std::alloc::Global;
 use std::process::Abort;
 use std::rt::HostRuntime;
 use std::sync::Wait;
+use test_asserts::holds;
 
 /// What is asked of a queue with one feeder and one taker.
 #[derive(Drop, Copy, Clone)]
@@ -103,13 +104,14 @@ fn full_queue_gives_the_job_back(rt: HostRuntime) {
         (Step::Pop, Answer::Empty),
     ];
     let (so, settled) = ran(&rt, rt.alloc(), &rows);
-    assert!(&rt; so && settled == Ok(()));
+    holds(&rt, so && settled == Ok(()));
+    drop(rows);
 }
 
 #[test]
 fn settling_gives_what_is_left(rt: HostRuntime) {
     let (so, settled) = ran(&rt, rt.alloc(), &[(Step::Push(4), Answer::Stored)]);
-    assert!(&rt; so && settled == Err(4));
+    holds(&rt, so && settled == Err(4));
     let rows = [
         (Step::Push(5), Answer::Stored),
         (Step::Push(6), Answer::Stored),
@@ -117,7 +119,8 @@ fn settling_gives_what_is_left(rt: HostRuntime) {
         (Step::Push(7), Answer::Stored),
     ];
     let (so, settled) = ran(&rt, rt.alloc(), &rows);
-    assert!(&rt; so && settled == Err(6));
+    holds(&rt, so && settled == Err(6));
+    drop(rows);
 }
 
 #[test]
@@ -128,5 +131,6 @@ fn pop_that_always_answers_none_is_told(rt: HostRuntime) {
         (Step::Pop, Answer::Got(8)),
     ];
     let (so, settled) = ran(&rt, rt.alloc(), &rows);
-    assert!(&rt; so && settled == Ok(()));
+    holds(&rt, so && settled == Ok(()));
+    drop(rows);
 }

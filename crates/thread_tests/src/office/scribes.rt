@@ -13,6 +13,7 @@ use std::process::Abort;
 use std::rt::HostRuntime;
 use std::sync::Wait;
 use std::sync::ledger::{Blank, Ledger};
+use test_asserts::{holds, same};
 
 /// The worker stays where it may, and leaves then.
 fn stay_and_leave<C: Ledger, W: Ledger, R: Wait>(
@@ -69,11 +70,11 @@ fn is_due(due: &Reply, reply: &Reply) -> bool {
 fn replay(rt: &impl Abort, alloc: Global, market: &mut Market, part: &Part) {
     for entry in part.entries.iter() {
         let seat = entry.call.seat;
-        assert!(rt; seat.get() < market.seats());
+        holds(rt, seat.get() < market.seats());
         let Ok(due) = market.apply(alloc, seat, entry.call.cmd) else {
             panic!(rt; "no memory");
         };
-        assert!(rt; is_due(&due, &entry.reply));
+        holds(rt, is_due(&due, &entry.reply));
     }
 }
 
@@ -173,10 +174,10 @@ fn an_office_of_a_thousand_places_answers_three_million_calls(rt: HostRuntime) {
         panic!(&rt; "no office");
     };
     // Each visit is three calls: it joins, stays and leaves.
-    assert!(&rt; written == 3_000_602);
-    assert!(&rt; closed.calls == 3_000_602);
-    assert!(&rt; closed.chronicle.len() == 3_000_602);
-    assert!(&rt; closed.chronicle.kept().len() == 0);
+    same(&rt, written, 3_000_602);
+    same(&rt, closed.calls, 3_000_602);
+    same(&rt, closed.chronicle.len(), 3_000_602);
+    same(&rt, closed.chronicle.kept().len(), 0);
 }
 
 /// The scribe is told of a part that begins behind so many entries.
@@ -191,7 +192,10 @@ fn misses<C: Ledger, W: Ledger, R: Wait + Abort>(
     ensures { scribe.new.pass.table ≡ office.now.table }
 {
     let missed = scribe.cut(rt, office, spare);
-    assert!(rt; matches!(&missed, Err(Missed::Elsewhere(part)) if part.from == from));
+    holds(
+        rt,
+        matches!(&missed, Err(Missed::Elsewhere(part)) if part.from == from),
+    );
 }
 
 /// Two scribes on one office: the second is told that its part begins behind the first one's.
@@ -216,13 +220,13 @@ fn two_scribes<C: Ledger, W: Ledger, R: Wait + Abort>(
     let Ok(part) = first.cut(rt, &office, Vec::new(alloc)) else {
         panic!(rt; "no part");
     };
-    assert!(rt; part.from == 0 && part.entries.len() == 1);
+    holds(rt, part.from == 0 && part.entries.len() == 1);
     drop(first.call(rt, alloc, &office, Cmd::Lists));
     misses(rt, &office, &mut second, part.entries, 1);
-    assert!(rt; second.written() == 0);
+    same(rt, second.written(), 0);
     // The entry that the second scribe was told of is out, so that the first one misses it.
     misses(rt, &office, &mut first, Vec::new(alloc), 2);
-    assert!(rt; first.written() == 1);
+    same(rt, first.written(), 1);
     put(&office, &mut passes, first.into_pass());
     put(&office, &mut passes, second.into_pass());
     office.close(passes, Vec::new(alloc))
@@ -247,5 +251,6 @@ fn a_second_scribe_is_told_what_it_missed(rt: HostRuntime) {
     let Ok(closed) = answer else {
         panic!(&rt; "no office");
     };
-    assert!(&rt; closed.calls == 2);
+    same(&rt, closed.calls, 2);
+    drop(closed);
 }

@@ -24,17 +24,17 @@ returns-in_err-session-clause-stops g c = λ opened.
     rw (p.1, p.2) (journal-stops (c.silence.ensures (λ now line. refl)) begun.result.chronicle (opening_of a.options) begun.result.unread (g.R.Source.left a.source.now) (g.R.Source.left ran.source) (g.W.Sink.taken a.sink.now) (g.W.Sink.taken ran.sink) (g.R.Source.failed ran.source) (g.W.Sink.failed ran.sink)
     c.in_err-session.field-0.0 (begun.ensures.chronicle ∙ c.in_ok-chronicle.ensures.opened) begun.ensures.unread c.in_err-session.ensures.stops)
 
-pub returns-in_err-write_journal-clause-stops : goal.returns-in_err-write_journal-clause-stops
-returns-in_err-write_journal-clause-stops g c = λ opened.
-    let p = err_from_is_err_and c.from_residual-in_err-write_journal.result c.from_residual-in_err-write_journal.ensures.1 in
+pub returns-in_err-written-clause-stops : goal.returns-in_err-written-clause-stops
+returns-in_err-written-clause-stops g c = λ opened.
+    let p = err_from_is_err_and c.from_residual-in_err-written.result c.from_residual-in_err-written.ensures.1 in
     let a = c.args in
     let begun = c.new in
     let ran = c.take_lines.new in
     let last = c.in_ok-session.session in
-    let front : WritesFront (g.W.Sink.taken ran.sink) (g.W.Sink.taken c.write_journal.new.sink) (journal_told last.chronicle) =
-    subst (λ (x : Chronicled). WritesFront (g.W.Sink.taken ran.sink) (g.W.Sink.taken c.write_journal.new.sink) (journal_told x)) c.chronicle.ensures c.in_err-write_journal.ensures.prefix in
-    rw (p.1, p.2) (journal-breaks (c.silence.ensures (λ now line. refl)) begun.result.chronicle (opening_of a.options) begun.result.unread (last.chronicle, last.unread) (g.R.Source.left a.source.now) (g.R.Source.left ran.source) (g.W.Sink.taken a.sink.now) (g.W.Sink.taken ran.sink) (g.W.Sink.taken c.write_journal.new.sink) (g.R.Source.failed ran.source) (g.W.Sink.failed c.write_journal.new.sink)
-    c.in_err-write_journal.field-0.0 (begun.ensures.chronicle ∙ c.in_ok-chronicle.ensures.opened) begun.ensures.unread c.in_ok-session.ensures.all c.in_ok-session.ensures.working.0 front c.in_err-write_journal.ensures.cause)
+    let front : WritesFront (g.W.Sink.taken ran.sink) (g.W.Sink.taken c.write_journal-written.new.sink) (journal_told last.chronicle) =
+    subst (λ (x : Chronicled). WritesFront (g.W.Sink.taken ran.sink) (g.W.Sink.taken c.write_journal-written.new.sink) (journal_told x)) c.chronicle.ensures c.in_err-written.ensures.prefix in
+    rw (p.1, p.2) (journal-breaks (c.silence.ensures (λ now line. refl)) begun.result.chronicle (opening_of a.options) begun.result.unread (last.chronicle, last.unread) (g.R.Source.left a.source.now) (g.R.Source.left ran.source) (g.W.Sink.taken a.sink.now) (g.W.Sink.taken ran.sink) (g.W.Sink.taken c.write_journal-written.new.sink) (g.R.Source.failed ran.source) (g.W.Sink.failed c.write_journal-written.new.sink)
+    c.in_err-written.field-0.0 (begun.ensures.chronicle ∙ c.in_ok-chronicle.ensures.opened) begun.ensures.unread c.in_ok-session.ensures.all c.in_ok-session.ensures.working.0 front c.in_err-written.ensures.cause)
 
 pub returns-clause-journals : goal.returns-clause-journals
 returns-clause-journals g c =
@@ -42,13 +42,13 @@ returns-clause-journals g c =
     let begun = c.new in
     let ran = c.take_lines.new in
     let last = c.in_ok-session.session in
-    let all : Appends (g.W.Sink.taken ran.sink) (g.W.Sink.taken c.write_journal.new.sink) (journal_told last.chronicle) =
-    subst (λ (x : Chronicled). Appends (g.W.Sink.taken ran.sink) (g.W.Sink.taken c.write_journal.new.sink) (journal_told x)) c.chronicle.ensures c.in_ok-write_journal.ensures.all in
-    rw c.unread.ensures (journal-answers (c.silence.ensures (λ now line. refl)) begun.result.chronicle (opening_of a.options) begun.result.unread (last.chronicle, last.unread) (g.R.Source.left a.source.now) (g.R.Source.left ran.source) (g.W.Sink.taken a.sink.now) (g.W.Sink.taken ran.sink) (g.W.Sink.taken c.write_journal.new.sink)
+    let all : Appends (g.W.Sink.taken ran.sink) (g.W.Sink.taken c.write_journal-written.new.sink) (journal_told last.chronicle) =
+    subst (λ (x : Chronicled). Appends (g.W.Sink.taken ran.sink) (g.W.Sink.taken c.write_journal-written.new.sink) (journal_told x)) c.chronicle.ensures c.in_ok-written.ensures.all in
+    rw c.unread-unread.ensures (journal-answers (c.silence.ensures (λ now line. refl)) begun.result.chronicle (opening_of a.options) begun.result.unread (last.chronicle, last.unread) (g.R.Source.left a.source.now) (g.R.Source.left ran.source) (g.W.Sink.taken a.sink.now) (g.W.Sink.taken ran.sink) (g.W.Sink.taken c.write_journal-written.new.sink)
     (begun.ensures.chronicle ∙ c.in_ok-chronicle.ensures.opened) begun.ensures.unread c.in_ok-session.ensures.all all)
 
-pub write_journal-requires : goal.write_journal-requires
-write_journal-requires g c =
+pub write_journal-written-requires : goal.write_journal-written-requires
+write_journal-written-requires g c =
     let a = c.args in
     let begun = c.new in
     let ran = c.take_lines.new in
