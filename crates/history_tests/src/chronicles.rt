@@ -332,6 +332,5 @@ fn a_fault_has_its_text(rt: HostRuntime) {
             panic!(&rt; "no memory");
         };
         same(&rt, told.as_str(), text);
-        drop(told);
     }
 }

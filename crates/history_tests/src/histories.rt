@@ -108,7 +108,6 @@ fn recorded(rt: &impl Abort, alloc: Global, places: u32, calls: &[Answered]) -> 
         };
         let answer = recording.answer(rt, alloc, *seat, cmd);
         assert!(rt; answer.as_str() == *due, "{text}");
-        drop(answer);
     }
     recording
 }
@@ -156,7 +155,6 @@ fn is_wrong_at(rt: &impl Abort, alloc: Global, recording: &Recording, journal: &
         panic!(rt; "no memory");
     };
     finds(rt, alloc, changed.as_bytes(), &found);
-    drop(found);
 }
 
 /// The calls are answered so, and their journal is written, found legal, and found wrong where a reply is changed.

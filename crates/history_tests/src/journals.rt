@@ -80,7 +80,6 @@ pub(crate) fn finds(rt: &impl Abort, alloc: Global, text: &[u8], found: &str) {
         panic!(rt; "no memory");
     };
     same(rt, told.as_str(), found);
-    drop(told);
     drop(verdict);
 }
 

@@ -206,7 +206,6 @@ fn lengthens(rt: &impl Abort, alloc: Global, input: &[u8], size: usize, lines: O
         }
     };
     same(rt, told, lines);
-    drop(told);
     drop(sink);
 }
 
@@ -223,6 +222,5 @@ fn lines_lengthen_an_input(rt: HostRuntime) {
         let told = if size <= 8 { Some(2) } else { None };
         lengthens(&rt, rt.alloc(), &cut[..64], size, told);
         lengthens(&rt, rt.alloc(), &cut, size, None);
-        drop(told);
     }
 }

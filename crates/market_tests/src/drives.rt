@@ -236,5 +236,4 @@ fn want_of_memory_has_a_status_of_its_own(rt: HostRuntime) {
     for fault in [DriveFault::Doubled(2), DriveFault::Missing(3)] {
         same(&rt, status_of_drive(&Ok(DriveEnd::Refused(fault))), 1);
     }
-    drop(refused);
 }

@@ -73,7 +73,6 @@ fn a_refused_call_is_recorded(rt: HostRuntime) {
         ..WRITTEN
     };
     refused.is_done(&rt, rt.alloc(), 7);
-    drop(refused);
 }
 
 #[test]
@@ -140,5 +139,4 @@ fn a_history_has_1_048_576_calls_at_most(rt: HostRuntime) {
     let told = run_journal(rt.alloc(), MarketOptions::USUAL, &mut source, &mut sink);
     same(&rt, told, Ok(0));
     same(&rt, sink.lines(), 1_048_577);
-    drop(sink);
 }

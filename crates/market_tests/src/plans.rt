@@ -43,7 +43,6 @@ fn is_bad<R: Threads + Wait + Sync + Abort>(rt: &R, alloc: Global, text: &[u8], 
         panic!(rt; "no memory");
     };
     is_refused(rt, alloc, text, DriveFault::BadPlan(line), told.as_bytes());
-    drop(told);
 }
 
 /// Behind the first lines each of the others is the first that does not fit.
@@ -258,5 +257,4 @@ fn arguments_at_the_ends_of_their_ranges_have_values(rt: HostRuntime) {
         # the last line has no line end\njob 1 digits 18446744073709551615";
     let outcome = b"job 1 0\njob 2 500000500000\njob 3 0\njob 4 87\n";
     is_driven(&rt, rt.alloc(), plan, outcome);
-    drop(plan);
 }

@@ -119,6 +119,5 @@ fn faults_of_a_run_have_texts(rt: HostRuntime) {
             panic!(&rt; "no memory");
         };
         same(&rt, told.as_str(), text);
-        drop(told);
     }
 }

@@ -130,7 +130,6 @@ fn the_least_arena_that_has_a_job_is_told(rt: HostRuntime) {
     ] {
         is_unservable(&rt, alloc, &with_jobs(&rt, alloc, market, jobs), arena);
     }
-    drop(market);
 }
 
 /// The other arena would take the one worker, but may ask for none later.

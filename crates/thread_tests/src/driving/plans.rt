@@ -284,7 +284,6 @@ fn lines_out_of_order_are_wrong(rt: HostRuntime) {
     lines_are_bad(&rt, rt.alloc(), &[market, arena, job, arena], 4);
     lines_are_bad(&rt, rt.alloc(), &[market, arena, job, "control 1"], 4);
     lines_are_bad(&rt, rt.alloc(), &[market, arena, job, market], 4);
-    drop(market);
 }
 
 /// A market, an arena, and so many times the line.

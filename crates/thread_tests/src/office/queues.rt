@@ -105,7 +105,6 @@ fn full_queue_gives_the_job_back(rt: HostRuntime) {
     ];
     let (so, settled) = ran(&rt, rt.alloc(), &rows);
     holds(&rt, so && settled == Ok(()));
-    drop(rows);
 }
 
 #[test]
@@ -120,7 +119,6 @@ fn settling_gives_what_is_left(rt: HostRuntime) {
     ];
     let (so, settled) = ran(&rt, rt.alloc(), &rows);
     holds(&rt, so && settled == Err(6));
-    drop(rows);
 }
 
 #[test]
@@ -132,5 +130,4 @@ fn pop_that_always_answers_none_is_told(rt: HostRuntime) {
     ];
     let (so, settled) = ran(&rt, rt.alloc(), &rows);
     holds(&rt, so && settled == Ok(()));
-    drop(rows);
 }
