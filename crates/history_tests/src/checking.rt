@@ -1,4 +1,5 @@
 //! Journals that are checked: cut off, in pieces, with long lines and failing reads. Others stand in the data of `example_scripts`.
+use crate::asserts::{holds, same};
 use crate::journals::finds;
 use byte_devices::TestSource;
 use journal_replay::{Verdict, check_source};
@@ -6,7 +7,6 @@ use line_engine::InputFault;
 use std::alloc::Global;
 use std::process::Abort;
 use std::rt::HostRuntime;
-use test_asserts::{holds, same};
 
 const HEADER: &str = "{\"base\":8,\"hard\":64,\"journal\":1,\"seats\":4}";
 

@@ -1,10 +1,10 @@
 //! Histories that fill up, and what a chronicle answers at its bounds.
+use crate::asserts::{holds, same};
 use edit_history::{CallFault, Chronicle, Keeping, MOST_FORGOTTEN, Terms};
 use market_types::{ArenaId, Cmd, Entry, LastNumber, Level, OpenFault, Reply, SeatNo, reply_text};
 use std::alloc::Global;
 use std::process::Abort;
 use std::rt::HostRuntime;
-use test_asserts::{holds, same};
 
 /// What a caller is told for want of places.
 const FULL: &str = "C2 history full";

@@ -1,4 +1,5 @@
 //! What no clause says: that the market answers at all where memory is ample.
+use crate::asserts::{holds, same};
 use market_core::{Market, apply_all};
 use market_types::{
     ArenaId, Call, Cmd, ControlId, Fault, LastNumber, Level, LimitView, OpenFault, Reply, SeatNo,
@@ -7,7 +8,6 @@ use market_types::{
 use std::alloc::Global;
 use std::process::Abort;
 use std::rt::HostRuntime;
-use test_asserts::{holds, same};
 
 /// What the first three arenas are allotted.
 fn allots(market: &Market) -> [u32; 3] {

@@ -3,6 +3,7 @@ ghost use Rattle.std.specs.Prelude.{◌≡◌, vec_len};
 ghost use Rattle.market_types.specs.History.{place_in};
 ghost use Rattle.market_desk.specs.Workers.{workers_at};
 
+use crate::asserts::{holds, same};
 use edit_history::{CallFault, Chronicle, Keeping, Terms};
 use market_desk::Desk;
 use market_types::{ArenaId, Cmd, LastNumber, Level, OpenFault, Reply, SeatNo};
@@ -11,7 +12,6 @@ use std::marker::Brand;
 use std::process::Abort;
 use std::rt::HostRuntime;
 use std::sync::ledger::{Blank, Ledger};
-use test_asserts::{holds, same};
 use worker_ledger::{Book, Share, Totals};
 
 /// A base of 8, a hard limit of 64, one seat, three levels, the usual last number, and so many places.

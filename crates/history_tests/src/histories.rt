@@ -1,6 +1,7 @@
 //! Histories, worked ones and random ones: their journals are written, found legal, and found wrong where a reply is changed.
 ghost use Rattle.std.specs.Prelude.{◌≡◌, ◌<◌};
 
+use crate::asserts::{holds, same};
 use crate::journals::{finds, new_sink};
 use byte_devices::TestSink;
 use edit_history::Chronicle;
@@ -9,7 +10,6 @@ use market_types::{ArenaId, Cmd, ControlId, Level, SeatNo, read_cmd, reply_text}
 use std::alloc::{AllocError, Global};
 use std::process::Abort;
 use std::rt::HostRuntime;
-use test_asserts::{holds, same};
 
 const HEADER: &str = "{\"base\":8,\"hard\":64,\"journal\":2,\"levels\":3,\"seats\":4}\n";
 

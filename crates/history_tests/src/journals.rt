@@ -1,6 +1,7 @@
 //! The journal of a short history, what is found of it, and what a failing sink has of it.
 ghost use Rattle.std.specs.Prelude.{◌≡◌, false, OnOk};
 
+use crate::asserts::{holds, same};
 use byte_devices::{Refusal, TestSink};
 use edit_history::{Chronicle, Keeping, Terms};
 use journal_replay::{
@@ -10,7 +11,6 @@ use market_types::{ArenaId, Cmd, LastNumber, Level, SeatNo};
 use std::alloc::Global;
 use std::process::Abort;
 use std::rt::HostRuntime;
-use test_asserts::{holds, same};
 
 const JOURNAL: &[u8] = b"\
 {\"base\":8,\"hard\":64,\"journal\":2,\"levels\":3,\"seats\":4}

@@ -1,12 +1,12 @@
 //! Books with their shares, counted and gathered.
 ghost use Rattle.std.specs.Prelude.{◌≡◌};
 
+use crate::asserts::same;
 use std::alloc::Global;
 use std::marker::Brand;
 use std::process::Abort;
 use std::rt::HostRuntime;
 use std::sync::ledger::{Blank, Ledger};
-use test_asserts::same;
 use worker_ledger::{Book, Totals};
 
 /// A book of two shares: the first counts two calls; the second counts one, and has a worker that comes, and leaves unless it

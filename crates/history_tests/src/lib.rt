@@ -5,6 +5,8 @@
 #[cfg(test)]
 mod arenas;
 #[cfg(test)]
+mod asserts;
+#[cfg(test)]
 mod checking;
 #[cfg(test)]
 mod chronicles;

@@ -1,12 +1,12 @@
 //! A taker that keeps a log of how its lines came, and says nothing of them.
 ghost use Rattle.std.specs.Prelude.{◌<◌};
 
+use crate::asserts::{holds, same};
 use byte_devices::{TestSink, TestSource};
 use line_engine::{InputFault, LONGEST_INPUT, LineForm, LineTaker, take_lines, take_text};
 use std::alloc::{AllocError, Global};
 use std::process::Abort;
 use std::rt::HostRuntime;
-use test_asserts::{holds, same};
 
 /// Why the log ends early.
 #[derive(Clone, Copy, Debug, PartialEq, Eq)]

@@ -1,6 +1,7 @@
 //! Explanations worked out by hand, and what a failing sink has of one.
 ghost use Rattle.std.specs.Prelude.{◌≡◌, false};
 
+use crate::asserts::{holds, same};
 use byte_devices::{OutFault, Refusal, TestSink};
 use explainer::explain;
 use market_core::Market;
@@ -8,7 +9,6 @@ use market_types::{ArenaId, Cmd, Level, SeatNo};
 use std::alloc::{AllocError, Global};
 use std::process::Abort;
 use std::rt::HostRuntime;
-use test_asserts::{holds, same};
 
 /// Five workers for two arenas of three.
 const FIVE: &[u8] = b"\

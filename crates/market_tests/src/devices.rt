@@ -1,5 +1,6 @@
 //! Devices that fail, give their bytes in pieces, or never end; and what is asked before any byte is read.
 
+use crate::asserts::{holds, same};
 use crate::endless::Hashes;
 use crate::work::{new_sink, work_script};
 use byte_devices::{Refusal, TestSource};
@@ -8,7 +9,6 @@ use market_prog::{
 };
 use market_types::OpenFault;
 use std::rt::HostRuntime;
-use test_asserts::{holds, same};
 
 const HIRED: &[u8] = b"0 open 8 1 normal\n0 request 1 3 0\n0 show 1\n";
 

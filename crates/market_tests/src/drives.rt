@@ -1,6 +1,7 @@
 //! Plans that are driven, with what is written and the exit status, over devices that give them in pieces and fail.
 ghost use Rattle.std.specs.Prelude.{◌<◌, ◌≤◌};
 
+use crate::asserts::{holds, same};
 use crate::endless::Hashes;
 use crate::work::new_sink;
 use byte_devices::{Refusal, TestSource};
@@ -12,7 +13,6 @@ use std::process::Abort;
 use std::rt::HostRuntime;
 use std::sync::Wait;
 use std::thread::Threads;
-use test_asserts::{holds, same};
 use worker_main::Gate;
 
 /// Two arenas, and three jobs for them.

@@ -1,11 +1,11 @@
 //! Scripts whose markets are explained.
 
+use crate::asserts::{holds, same};
 use crate::work::{Work, new_sink};
 use byte_devices::{Refusal, TestSource};
 use market_prog::{MarketOptions, RunFault, ScriptTask, explain_script};
 use market_types::OpenFault;
 use std::rt::HostRuntime;
-use test_asserts::{holds, same};
 
 const FIVE: &[u8] = b"0 control 6\n0 open 8 1 normal\n0 open 8 1 normal\n0 open 8 1 normal\n\
     0 request 1 3\n0 request 3 4\n";

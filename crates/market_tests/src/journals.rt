@@ -1,12 +1,12 @@
 //! Scripts whose journals are written.
 
+use crate::asserts::{holds, same};
 use crate::endless::{LineCount, Repeated};
 use crate::work::{Work, new_sink};
 use byte_devices::{Refusal, TestSource};
 use market_prog::{MarketOptions, RunFault, ScriptTask, run_journal, status_of_run};
 use market_types::{LastNumber, OpenFault};
 use std::rt::HostRuntime;
-use test_asserts::{holds, same};
 
 const THREE: &[u8] = b"0 open 8\n# three workers\n\n0 fly\n0 request 1 3\n0 show 1\n";
 

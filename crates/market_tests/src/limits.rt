@@ -3,6 +3,7 @@ ghost use Rattle.std.specs.Prelude.{◌≡◌, ◌<◌, length, IfOk};
 ghost use Rattle.std.specs.List.{All};
 ghost use Rattle.market_types.specs.declared.command.Call.{Call};
 
+use crate::asserts::{holds, same};
 use market_core::{Market, apply_all};
 use market_types::{
     ArenaId, Call, Cmd, ControlId, Correction, Fault, Level, OpenFault, Reply, SeatNo, reply_text,
@@ -10,7 +11,6 @@ use market_types::{
 use std::alloc::{AllocError, Global};
 use std::process::Abort;
 use std::rt::HostRuntime;
-use test_asserts::{holds, same};
 
 /// A market of three levels.
 fn opened(rt: &impl Abort, alloc: Global, base: u32, hard: u32, seats: u8) -> Market

@@ -1,5 +1,6 @@
 //! Journals that are replayed, with their statuses, over devices that give them in pieces and fail.
 
+use crate::asserts::{holds, same};
 use crate::endless::Repeated;
 use crate::work::new_sink;
 use byte_devices::{Refusal, TestSource};
@@ -8,7 +9,6 @@ use market_prog::{RunFault, run_replay, status_of_replay};
 use std::alloc::Global;
 use std::process::Abort;
 use std::rt::HostRuntime;
-use test_asserts::{holds, same};
 
 const JOURNAL: &[u8] = b"\
 {\"base\":8,\"hard\":64,\"journal\":1,\"seats\":4}

@@ -1,4 +1,5 @@
 //! Scripts and their replies, beside those of `example_scripts`.
+use crate::asserts::{holds, same};
 use crate::work::new_sink;
 use byte_devices::TestSource;
 use market_prog::{MarketOptions, run_script};
@@ -6,7 +7,6 @@ use market_types::LastNumber;
 use std::alloc::Global;
 use std::process::Abort;
 use std::rt::HostRuntime;
-use test_asserts::{holds, same};
 
 /// The script to a market of these options is answered by these replies, with so many of its lines unread.
 fn answers_of(

@@ -1,4 +1,5 @@
 //! Texts of commands and replies.
+use crate::asserts::{holds, same};
 use market_prog::RunFault;
 use market_types::{
     ArenaId, ArenaView, Correction, Fault, Imbalance, LimitView, Lists, OpenFault, Reply, cmd_text,
@@ -7,7 +8,6 @@ use market_types::{
 use std::alloc::Global;
 use std::process::Abort;
 use std::rt::HostRuntime;
-use test_asserts::{holds, same};
 
 /// The canonical text of each command.
 const TEXTS: [&str; 13] = [

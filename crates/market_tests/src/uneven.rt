@@ -1,6 +1,7 @@
 //! Inputs that come in pieces of uneven sizes, outputs that go in such pieces, and each read and each byte written failing in turn.
 ghost use Rattle.std.specs.Prelude.{◌≡◌, ◌<◌, ◌≤◌, false};
 
+use crate::asserts::{holds, same};
 use crate::work::new_sink;
 use byte_devices::{DeviceFault, Refusal, Sink, Source, TestSink, TestSource};
 use market_prog::{
@@ -11,7 +12,6 @@ use std::process::Abort;
 use std::rt::HostRuntime;
 use std::sync::Wait;
 use std::thread::Threads;
-use test_asserts::{holds, same};
 
 const SCRIPT: &[u8] = b"0 open 8 1 normal\n0 request 1 3 0\n0 show 1\n";
 

@@ -1,10 +1,10 @@
 //! Command lines, and what is said of them.
+use crate::asserts::same;
 use market_prog::{Choice, DriveOptions, MarketOptions, ScriptTask, read_words};
 use market_types::LastNumber;
 use std::alloc::Global;
 use std::process::Abort;
 use std::rt::HostRuntime;
-use test_asserts::same;
 
 /// The words are read as that choice.
 fn choose(rt: &impl Abort, alloc: Global, words: &[&str], due: Choice) {

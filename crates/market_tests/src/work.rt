@@ -1,11 +1,11 @@
 //! Engines that work a script of a usual market, over devices that give it in pieces and fail.
 ghost use Rattle.std.specs.Prelude.{◌≡◌, ◌<◌, false};
 
+use crate::asserts::{holds, same};
 use byte_devices::{Refusal, Sink, Source, TestSink, TestSource};
 use market_prog::{MarketOptions, RunFault, ScriptTask, explain_script, run_journal, run_script};
 use std::alloc::Global;
 use std::process::Abort;
-use test_asserts::{holds, same};
 
 /// A sink with room for 4,096 bytes.
 pub(crate) fn new_sink(rt: &impl Abort, alloc: Global) -> TestSink

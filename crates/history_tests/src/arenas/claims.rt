@@ -1,8 +1,8 @@
 //! What an arena asks for.
+use crate::asserts::{holds, same};
 use arena_record::ArenaRecord;
 use market_types::Fault;
 use std::rt::HostRuntime;
-use test_asserts::{holds, same};
 
 #[test]
 fn signed_totals_are_not_forgotten(rt: HostRuntime) {

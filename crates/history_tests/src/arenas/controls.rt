@@ -1,9 +1,9 @@
 //! Rows worked out by hand, and the ends of the ranges.
+use crate::asserts::same;
 use control_set::ControlSet;
 use market_types::{ControlId, Fault, LastNumber};
 use std::process::Abort;
 use std::rt::HostRuntime;
-use test_asserts::same;
 
 /// What making a control of this value gives, where there is memory.
 fn made(

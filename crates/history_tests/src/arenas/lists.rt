@@ -2,12 +2,12 @@
 ghost use Rattle.std.specs.Prelude.{◌≡◌, ◌<◌, ◌≤◌, ◌∷◌, length, false};
 ghost use Rattle.std.specs.List.{All};
 
+use crate::asserts::same;
 use level_list::LevelList;
 use market_types::{ArenaId, Row};
 use std::alloc::Global;
 use std::process::Abort;
 use std::rt::HostRuntime;
-use test_asserts::same;
 
 /// The row of an arena, which asks for 5.
 fn row(stamp: u32, arena: u32) -> Row

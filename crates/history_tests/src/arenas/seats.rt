@@ -2,13 +2,13 @@
 ghost use Rattle.std.specs.Prelude.{◌≡◌, ◌≤◌, None, replicate};
 
 use super::lists::pushed;
+use crate::asserts::{holds, same};
 use level_list::LevelList;
 use market_types::{ArenaId, Correction, Imbalance, Lists, Row, SeatNo};
 use recall_hire::{Roster, Sharing, first_in_need, list};
 use std::alloc::Global;
 use std::process::Abort;
 use std::rt::HostRuntime;
-use test_asserts::{holds, same};
 
 /// The row of an arena with the number of its stamp.
 fn row(stamp: u32, request: u32) -> Row

@@ -1,7 +1,7 @@
 //! Workers that arenas and levels share.
+use crate::asserts::{holds, same};
 use allotment::{assign, carry_share, mandatory_pick, share, top_level};
 use market_types::{ArenaId, Level};
-use test_asserts::{holds, same};
 
 #[test]
 fn three_arenas_share_seven_workers(rt: HostRuntime) {

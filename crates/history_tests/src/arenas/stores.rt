@@ -1,11 +1,11 @@
 //! What no clause says: that the store answers at all where memory is ample.
 ghost use Rattle.std.specs.Prelude.{◌≡◌, IfOk};
 
+use crate::asserts::{holds, same};
 use arena_record::ArenaRecord;
 use arena_store::{Arenas, Change, StoredArena};
 use market_types::{ArenaId, Fault, Level};
 use std::rt::HostRuntime;
-use test_asserts::{holds, same};
 
 /// A new arena of 8 slots, one of them reserved, under a number that is its stamp too.
 fn arena(number: u32, level: Level) -> Result<StoredArena, Fault>

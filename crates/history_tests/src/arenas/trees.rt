@@ -1,12 +1,12 @@
 //! What no clause says: worked rows, bounds at a full tree, and a long random run beside a plain list.
 ghost use Rattle.std.specs.Prelude.{◌≡◌, ◌≤◌, ◌<◌};
 
+use crate::asserts::{holds, same};
 use market_types::{ArenaId, Row};
 use prefix_tree::Tree;
 use std::alloc::Global;
 use std::process::Abort;
 use std::rt::HostRuntime;
-use test_asserts::{holds, same};
 
 /// The row of an arena with the number of its stamp.
 fn row(stamp: u32, request: u32, mandated: bool) -> Row

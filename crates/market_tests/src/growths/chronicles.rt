@@ -1,6 +1,7 @@
 //! A market whose calls are recorded, and its journal.
 ghost use Rattle.std.specs.Prelude.{◌≡◌, false};
 
+use crate::asserts::{holds, same};
 use byte_devices::TestSink;
 use edit_history::{CallFault, Chronicle};
 use journal_replay::{OutFault, Verdict, check, write_journal};
@@ -8,7 +9,6 @@ use market_types::{ArenaId, Cmd, Level, OpenFault, Reply, SeatNo};
 use std::alloc::Global;
 use std::process::Abort;
 use std::rt::HostRuntime;
-use test_asserts::{holds, same};
 
 const JOURNAL: &[u8] = b"\
 {\"base\":8,\"hard\":64,\"journal\":2,\"levels\":3,\"seats\":4}

@@ -1,13 +1,13 @@
 //! The engines.
 ghost use Rattle.std.specs.Prelude.{◌≡◌, false};
 
+use crate::asserts::{holds, same};
 use byte_devices::{TestSink, TestSource};
 use journal_replay::Verdict;
 use market_prog::{MarketOptions, RunFault, explain_script, run_journal, run_replay, run_script};
 use std::alloc::Global;
 use std::process::Abort;
 use std::rt::HostRuntime;
-use test_asserts::{holds, same};
 
 /// A line of 40 bytes, and the commands that take memory. A piece of 20 bytes ends within a line.
 const SCRIPT: &[u8] =

@@ -3,6 +3,7 @@
 ghost use Rattle.std.specs.Prelude.{◌≡◌};
 
 use super::engines::{Engine, JOURNAL, replay};
+use crate::asserts::{holds, same};
 use byte_devices::TestSink;
 use edit_history::Chronicle;
 use journal_replay::{check, write_journal};
@@ -12,7 +13,6 @@ use recall_hire::Roster;
 use std::alloc::Global;
 use std::process::Abort;
 use std::rt::HostRuntime;
-use test_asserts::{holds, same};
 
 /// Rows, seats and texts.
 #[test]

@@ -1,4 +1,5 @@
 //! Commands of a market, and lists of them.
+use crate::asserts::{holds, same};
 use market_core::{Market, apply_all};
 use market_types::{
     ArenaId, ArenaView, Call, Cmd, ControlId, Level, LimitView, OpenFault, Reply, SeatNo,
@@ -6,7 +7,6 @@ use market_types::{
 use std::alloc::Global;
 use std::process::Abort;
 use std::rt::HostRuntime;
-use test_asserts::{holds, same};
 
 /// So many arenas are opened: the table of arenas grows twice on the way.
 const ARENAS: u32 = 6;

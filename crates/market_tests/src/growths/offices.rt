@@ -1,4 +1,5 @@
 //! Calls through an office.
+use crate::asserts::{holds, same};
 use edit_history::Keeping;
 use market_types::{ArenaId, Cmd, LastNumber, Level, OpenFault};
 use office_crew::{Meeting, Script, Terms, meet};
@@ -8,7 +9,6 @@ use std::rt::HostRuntime;
 use std::str;
 use std::sync::Wait;
 use std::thread::Threads;
-use test_asserts::{holds, same};
 
 const TERMS: Terms = Terms {
     base: 8,

@@ -1,5 +1,6 @@
 //! Plans that are read, asked about and driven.
 use super::engines::new_sink;
+use crate::asserts::{holds, same};
 use byte_devices::{TestSink, TestSource};
 use drive_plan::{Plan, PlanFault, read_plan};
 use market_drive::{DriveFault, drive};
@@ -11,7 +12,6 @@ use std::process::Abort;
 use std::rt::HostRuntime;
 use std::sync::Wait;
 use std::thread::Threads;
-use test_asserts::{holds, same};
 use worker_main::OpenGate;
 
 const PLAN: &[u8] = b"\

@@ -3,6 +3,7 @@ ghost use Rattle.std.specs.Prelude.{◌≡◌, ◌<◌, ◌≤◌, ◌∷◌, le
 ghost use Rattle.std.specs.List.{All};
 ghost use Rattle.prefix_tree.specs.Rows.{IsAbsent, insert_row};
 
+use crate::asserts::{holds, same};
 use level_list::LevelList;
 use market_types::{ArenaId, Correction, Imbalance, Lists, Row, SeatNo};
 use prefix_tree::Tree;
@@ -10,7 +11,6 @@ use recall_hire::{Roster, Sharing, list};
 use std::alloc::{AllocError, Global};
 use std::process::Abort;
 use std::rt::HostRuntime;
-use test_asserts::{holds, same};
 
 /// The row of an arena with the number of its stamp, which asks for 5.
 fn row(stamp: u32) -> Row

@@ -1,10 +1,10 @@
 //! Texts of commands and replies.
+use crate::asserts::{holds, same};
 use market_types::{
     ArenaId, Cmd, Correction, Imbalance, Lists, Reply, cmd_text, push_reply, reply_text,
 };
 use std::alloc::{AllocError, Global};
 use std::rt::HostRuntime;
-use test_asserts::{holds, same};
 
 /// The longest text of a request's three numbers.
 const ASKED: &str = "request 1048576 -2147483648 -2147483648";

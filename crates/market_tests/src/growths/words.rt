@@ -1,8 +1,8 @@
 //! The words of a command line.
+use crate::asserts::{holds, same};
 use clap::error::ErrorKind;
 use market_prog::{Choice, MarketOptions, ScriptTask, read_words};
 use std::rt::HostRuntime;
-use test_asserts::{holds, same};
 
 #[test]
 fn a_refused_growth_leaves_words_to_be_read(rt: HostRuntime) {

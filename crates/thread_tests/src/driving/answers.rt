@@ -1,11 +1,11 @@
 //! What tasks are worth, and answers that are gathered.
 
+use crate::asserts::{holds, same};
 use drive_plan::{Done, GatherFault, Job, PlannedJob, Task, gather_done};
 use market_types::ArenaId;
 use std::alloc::Global;
 use std::process::Abort;
 use std::rt::HostRuntime;
-use test_asserts::{holds, same};
 
 /// The jobs of a plan of two arenas.
 pub(crate) fn planned() -> [PlannedJob; 3] {

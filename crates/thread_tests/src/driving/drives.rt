@@ -1,6 +1,7 @@
 //! Plans that workers drive, each in a thread of its own.
 ghost use Rattle.std.specs.Prelude.{◌<◌, ◌≤◌};
 
+use crate::asserts::{holds, same};
 use drive_plan::{Done, Job, Plan, Task, read_plan};
 use edit_history::CallFault;
 use market_drive::{DriveFault, drive, gather_done};
@@ -11,7 +12,6 @@ use std::rt::HostRuntime;
 use std::sync::Wait;
 use std::sync::atomic::{AtomicU64, Ordering};
 use std::thread::Threads;
-use test_asserts::{holds, same};
 use worker_main::{Ended, Gate, OpenGate};
 
 const PLAN: &[u8] = b"\

@@ -1,11 +1,11 @@
 //! What no clause says: that these plans are answered at all where memory is ample, and what.
+use crate::asserts::same;
 use drive_plan::{Plan, read_plan};
 use market_types::{ArenaId, Cmd, Level};
 use plan_market::{plan_commands, unservable};
 use std::alloc::Global;
 use std::process::Abort;
 use std::rt::HostRuntime;
-use test_asserts::same;
 
 /// Two arenas at levels of their own, both of which workers come to.
 const TWO_ARENAS: &str = "market 8 64\narena 8 1 normal 2 0\narena 8 1 low 1 0\n\

@@ -1,12 +1,12 @@
 //! Plans that are read, and each line that a plan can't have.
 
 use super::answers::planned;
+use crate::asserts::{holds, same};
 use drive_plan::{Plan, PlanFault, PlannedArena, PlannedJob, Task, read_plan};
 use market_types::{ArenaId, Level};
 use std::alloc::{AllocError, Global};
 use std::process::Abort;
 use std::rt::HostRuntime;
-use test_asserts::{holds, same};
 
 const PLAN: &[u8] = b"\
 market 8 64

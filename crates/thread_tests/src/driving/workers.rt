@@ -4,6 +4,7 @@ ghost use Rattle.std.specs.Prelude.{◌≡◌, ◌≢◌, ◌≤◌, ◌∷◌, 
 ghost use Rattle.job_queue.specs.Seen.{AreAllOf, fresh_feeder, fresh_taker};
 ghost use Rattle.market_types.specs.Commands.{moves_seat};
 
+use crate::asserts::{holds, same};
 use drive_plan::{Done, Job, Task};
 use edit_history::CallFault;
 use job_queue::{Feeder, JobQueue, Taker};
@@ -16,7 +17,6 @@ use std::rt::HostRuntime;
 use std::sync::Wait;
 use std::sync::atomic::{AtomicU64, Ordering};
 use std::sync::ledger::{Blank, Ledger};
-use test_asserts::{holds, same};
 use worker_main::{Ended, Gate, OpenGate, Report, Station, work};
 
 const FIRST: Job = Job {

@@ -1,6 +1,7 @@
 //! Callers that follow scripts.
 ghost use Rattle.std.specs.Prelude.{◌≡◌, length, vec_len};
 
+use crate::asserts::{holds, same};
 use edit_history::{Chronicle, Keeping};
 use market_types::{ArenaId, Cmd, LastNumber, Level, SeatNo, push_reply};
 use office_crew::{Meeting, Script, Terms, ask, meet};
@@ -9,7 +10,6 @@ use std::process::Abort;
 use std::rt::HostRuntime;
 use std::sync::Wait;
 use std::thread::Threads;
-use test_asserts::{holds, same};
 
 const TERMS: Terms = Terms {
     base: 8,

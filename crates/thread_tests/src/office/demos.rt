@@ -1,6 +1,7 @@
 //! Callers in threads of their own: each finds its own calls in the one history, which a market of one thread answers alike.
 ghost use Rattle.std.specs.Prelude.{◌≡◌, ◌≤◌};
 
+use crate::asserts::{holds, same};
 use byte_devices::{DeviceFault, Sink, TestSink};
 use demo_callers::{DemoFault, Outcome, Record, TERMS, last, work};
 use edit_history::Chronicle;
@@ -14,7 +15,6 @@ use std::rt::HostRuntime;
 use std::sync::{Mutex, Wait};
 use std::thread::Threads;
 use std::time::Duration;
-use test_asserts::{holds, same};
 
 /// The market gives the entry's reply to its command.
 fn answers(

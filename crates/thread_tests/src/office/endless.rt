@@ -3,6 +3,7 @@ ghost use Rattle.std.specs.Prelude.{◌≡◌, vec_len};
 ghost use Rattle.market_lock.specs.Seen.{IsSamePass};
 ghost use Rattle.office_crew.specs.Callers.{who_is};
 
+use crate::asserts::{holds, same};
 use edit_history::{Keeping, Part};
 use market_lock::{Closed, Office, Pass, Placed};
 use market_types::{Cmd, Entry, LastNumber, OpenFault};
@@ -14,7 +15,6 @@ use std::rt::HostRuntime;
 use std::sync::Wait;
 use std::sync::ledger::Ledger;
 use std::thread::Threads;
-use test_asserts::{holds, same};
 
 /// Twenty places are soon full.
 const IN_PARTS: Terms = Terms {

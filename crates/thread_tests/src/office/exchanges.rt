@@ -1,11 +1,11 @@
 //! Many threads at one small queue.
 ghost use Rattle.std.specs.Prelude.{◌<◌, ◌≤◌};
 
+use crate::asserts::{holds, same};
 use queue_crew::{Exchanged, exchange};
 use std::alloc::Global;
 use std::process::Abort;
 use std::rt::HostRuntime;
-use test_asserts::{holds, same};
 
 /// Marks each job that a taker took, and tells whether each was one of those that were stored, was not marked before, and came
 /// after the earlier ones of its feeder.

@@ -3,6 +3,7 @@ ghost use Rattle.std.specs.Prelude.{◌≡◌, ◌<◌, ◌+◌, vec_len, vec_ca
 ghost use Rattle.market_types.specs.Commands.{moves_seat};
 ghost use Rattle.market_lock.specs.Seen.{OfPass, OfPlaced};
 
+use crate::asserts::{holds, same};
 use market_lock::{Closed, Joined, Office, Pass, Placed, Stayed};
 use market_types::{ArenaId, Cmd, Level, OpenFault};
 use std::alloc::Global;
@@ -11,7 +12,6 @@ use std::process::Abort;
 use std::rt::HostRuntime;
 use std::sync::Wait;
 use std::sync::ledger::{Blank, Ledger};
-use test_asserts::{holds, same};
 
 /// The worker stays where it may, and leaves then.
 fn stay_and_leave<C: Ledger, W: Ledger, R: Wait>(

@@ -1,12 +1,12 @@
 //! Jobs through a queue: worked rows on one thread.
 ghost use Rattle.std.specs.Prelude.{◌≡◌};
 
+use crate::asserts::holds;
 use job_queue::{Feeder, JobQueue, Taker};
 use std::alloc::Global;
 use std::process::Abort;
 use std::rt::HostRuntime;
 use std::sync::Wait;
-use test_asserts::holds;
 
 /// What is asked of a queue with one feeder and one taker.
 #[derive(Drop, Copy, Clone)]

@@ -2,6 +2,7 @@
 ghost use Rattle.std.specs.Prelude.{◌≡◌, ◌+◌, ◌<◌, vec_len, vec_capacity, All};
 ghost use Rattle.market_lock.specs.Seen.{OfPass};
 
+use crate::asserts::{holds, same};
 use edit_history::Part;
 use market_core::Market;
 use market_lock::{Closed, Joined, Office, Pass, Placed, Stayed};
@@ -13,7 +14,6 @@ use std::process::Abort;
 use std::rt::HostRuntime;
 use std::sync::Wait;
 use std::sync::ledger::{Blank, Ledger};
-use test_asserts::{holds, same};
 
 /// The worker stays where it may, and leaves then.
 fn stay_and_leave<C: Ledger, W: Ledger, R: Wait>(
