@@ -1,6 +1,6 @@
 //! The words of the command line.
 ghost use Rattle.std.specs.Prelude.{◌≡◌, ◌≤◌, ◌<◌, IfOk, codes, false, map};
-ghost use Rattle.clap.specs.Words.{FailsBy, app_of, fault_of, found_of, rows_of, rule_of};
+ghost use Rattle.clap.specs.Words.{App, FailsBy, app_of, fault_of, found_of, rows_of, rule_of, with_subcommand};
 ghost use Rattle.market_prog.specs.Words.{Chooses, IsChoiceOf, IsDriveOf, IsNumberOf, IsMarketOf, asks, drive_app, flag_rule, market_app, number_rule, replay_app, run_app, script_app};
 ghost use Rattle.market_prog.specs.Command.{IsCommandOf};
 ghost use Rattle.market_prog.specs.Passed.{HasNumber, HasMarketNumbers, NamesSubcommand};
@@ -174,6 +174,18 @@ fn run_command<'a>(alloc: Global) -> Result<Command<'a>, AllocError>
     ))
 }
 
+/// The subcommand `explain`.
+fn explain_command<'a>(alloc: Global) -> Result<Command<'a>, AllocError>
+    ensures { IfOk result (λ c. IsCommandOf c (script_app (codes "explain"))) }
+{
+    script_command(
+        alloc,
+        "explain",
+        "Explains how workers are divided after a script of commands",
+        help::OF_EXPLAIN,
+    )
+}
+
 /// The subcommand `replay`.
 fn replay_command<'a>(alloc: Global) -> Command<'a>
     ensures { IsCommandOf result replay_app }
@@ -198,30 +210,33 @@ fn drive_command<'a>(alloc: Global) -> Result<Command<'a>, AllocError>
         ))
 }
 
+/// A command with one more subcommand, where there was memory to make it.
+fn with_made<'a>(
+    command: Command<'a>,
+    subcommand: Result<Command<'a>, AllocError>,
+) -> Result<Command<'a>, AllocError>
+    ensures { (app below : App) → IsCommandOf command.entry app → IfOk subcommand.entry (λ c. IsCommandOf c below)
+        → IfOk result (λ c. IsCommandOf c (with_subcommand app below.top)) }
+{
+    command.subcommand(subcommand?)
+}
+
 /// The program's command.
 fn market_command<'a>(alloc: Global) -> Result<Command<'a>, AllocError>
     ensures { IfOk result (λ c. app_of c ≡ market_app) }
 {
-    let run = run_command(alloc)?;
-    let explain = script_command(
-        alloc,
-        "explain",
-        "Explains how workers are divided after a script of commands",
-        help::OF_EXPLAIN,
-    )?;
-    let drive = drive_command(alloc)?;
-    Command::new(alloc, "market")
+    let command = Command::new(alloc, "market")
         .about(
             "The worker market of a task runtime: who gets how many workers, by priority and demand",
         )
         .version(VERSION)
         .after_help(help::OF_MARKET)
         .arg_required_else_help(true)
-        .subcommand_required(true)
-        .subcommand(run)?
-        .subcommand(explain)?
-        .subcommand(replay_command(alloc))?
-        .subcommand(drive)
+        .subcommand_required(true);
+    let command = with_made(command, run_command(alloc))?;
+    let command = with_made(command, explain_command(alloc))?;
+    let command = command.subcommand(replay_command(alloc))?;
+    with_made(command, drive_command(alloc))
 }
 
 /// The market's options in matches that clap has passed.

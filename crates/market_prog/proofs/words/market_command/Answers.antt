@@ -12,8 +12,8 @@ returns c =
     let version = command_with_setting _ _ _ (on_top (λ s. record s { has_version = true })) _ c.version.ensures refl refl about in
     let after = command_with_setting _ _ _ (λ a. a) _ c.after_help.ensures refl refl version in
     let help = command_with_help_asked _ _ _ c.arg_required_else_help.ensures after in
-    let asked = command_with_subcommand_asked _ _ _ c.subcommand_required.ensures help in
-    let run = command_with_subcommand _ _ _ _ _ c.in_ok-subcommand.ensures c.in_ok-run.ensures asked in
-    let explain = command_with_subcommand _ _ _ _ _ c.in_ok-subcommand-2.ensures c.in_ok-explain.ensures run in
-    let replay = command_with_subcommand _ _ _ _ _ c.in_ok-subcommand-3.ensures c.replay_command.ensures explain in
-    IfOk-weaker c.subcommand-4.result _ _ (λ r adds. (command_with_subcommand _ _ r _ _ adds c.in_ok-drive.ensures replay).is) c.subcommand-4.ensures
+    let asked = command_with_subcommand_asked _ _ _ c.subcommand_required-command.ensures help in
+    let run = c.in_ok-command.ensures _ _ asked c.run_command.ensures in
+    let explain = c.in_ok-command-2.ensures _ _ run c.explain_command.ensures in
+    let replay = command_with_subcommand _ _ _ _ _ c.in_ok-command-3.ensures c.replay_command.ensures explain in
+    IfOk-weaker c.with_made-3.result _ _ (λ r is. is.is) (c.with_made-3.ensures _ _ replay c.drive_command.ensures)

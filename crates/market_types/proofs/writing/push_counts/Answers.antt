@@ -1,5 +1,8 @@
-use Rattle.std.proofs.Common.{◌++◌, ◌∙◌, sym, ap}
-use Rattle.market_types.specs.Written.{counts_left}
+use Rattle.std.proofs.Common.{◌++◌, ◌∙◌, sym, ap, drop, append-nil, arith}
+use Rattle.std.proofs.lemmas.List.{drop_all}
+use Rattle.market_types.specs.Corrections.{counts_to}
+use Rattle.market_types.specs.Texts.{counts_text}
+use Rattle.market_types.specs.Written.{counts_left, more_counts_text}
 use Rattle.market_types.proofs.Corrections.{counts_here, counts_past}
 use Rattle.market_types.proofs.Counts.{counts-step}
 use Rattle.market_types.proofs.Written.{extends_trans}
@@ -30,3 +33,27 @@ loop-arena-preserved c =
             kept = rw w.out-is c.loop-arena.invariant.kept;
           }
     ]
+
+pub returns-in_err-push_text-clause-grows : goal.returns-in_err-push_text-clause-grows
+returns-in_err-push_text-clause-grows c = extends_trans c.loop-arena.invariant.kept c.push_text.ensures.grows
+
+pub returns-in_err-push_count-clause-grows : goal.returns-in_err-push_count-clause-grows
+returns-in_err-push_count-clause-grows c =
+    extends_trans c.loop-arena.invariant.kept (extends_trans c.push_text.ensures.grows c.push_count.ensures.grows)
+
+pub returns-then-begun-clause-ok : goal.returns-then-begun-clause-ok
+returns-then-begun-clause-ok c =
+    let out = c.loop-arena.out.items in
+    let left = drop c.loop-arena.arena-index c.args.arenas.now in
+    let none = ap (counts_to c.args.correction) (drop_all c.loop-arena.arena-index c.args.arenas.now (omega (arith, c.loop-arena-test.false))) in
+    sym (append-nil out) ∙ ap (λ es. out ++ more_counts_text es) (sym none)
+    ∙ ap (λ begun. out ++ counts_left begun (counts_to c.args.correction left)) (sym c.if-begun.true) ∙ c.loop-arena.invariant.left
+
+pub returns-else-begun-clause-ok : goal.returns-else-begun-clause-ok
+returns-else-begun-clause-ok c =
+    let out = c.loop-arena.out.items in
+    let left = drop c.loop-arena.arena-index c.args.arenas.now in
+    let none = ap (counts_to c.args.correction) (drop_all c.loop-arena.arena-index c.args.arenas.now (omega (arith, c.loop-arena-test.false))) in
+    let whole = ap (λ es. out ++ counts_text es) (sym none)
+    ∙ ap (λ begun. out ++ counts_left begun (counts_to c.args.correction left)) (sym c.if-begun.false) ∙ c.loop-arena.invariant.left in
+    rw (← whole) c.push_text-else-begun.ensures.ok

@@ -1,6 +1,6 @@
 use Rattle.std.proofs.Common.{◌++◌, codes, decimal, ap, ◌∙◌, to_z-of_z}
 use Rattle.std.specs.Fmt.{signed_decimal}
-use Rattle.market_types.proofs.Written.{in-three}
+use Rattle.market_types.proofs.Written.{extends_trans, in-three}
 use Rattle.market_types.proofs.writing.push_request.Goals as goal
 
 pub returns-clause-ok : goal.returns-clause-ok
@@ -10,3 +10,9 @@ returns-clause-ok c =
     c.in_ok-push_part.ensures.ok
     (c.in_ok-push_signed.ensures.ok ∙ ap (λ n. c.push_part.new.out.items ++ (codes " " ++ signed_decimal n)) (to_z-of_z c.ranges.workers)) in
     rw (← whole, ← to_z-of_z c.ranges.mandatory) c.push_signed-2.ensures.ok
+
+pub returns-in_err-push_signed-clause-grows : goal.returns-in_err-push_signed-clause-grows
+returns-in_err-push_signed-clause-grows c = extends_trans c.push_part.ensures.grows c.push_signed.ensures.grows
+
+pub returns-clause-grows : goal.returns-clause-grows
+returns-clause-grows c = extends_trans c.push_part.ensures.grows (extends_trans c.push_signed.ensures.grows c.push_signed-2.ensures.grows)

@@ -2,7 +2,7 @@ use Rattle.std.proofs.Common.{[], ◌∷◌, ◌++◌, refl, ap, ◌∙◌, appe
 use Rattle.std.proofs.lemmas.Option.{IfSome_then}
 use Rattle.worker_main.specs.Books.{results}
 use Rattle.worker_main.proofs.Takers.{popped_nothing, popped_one, popped_none}
-use Rattle.worker_main.proofs.Calls.{goes_on, goes_further, called, just_inside, stayed_on, was_recalled, was_emptied, if_none_then, fault_holds, fault_breaks}
+use Rattle.worker_main.proofs.Calls.{goes_on, goes_further, called, failed, just_inside, stayed_on, was_recalled, was_emptied, if_none_then, fault_holds, fault_breaks}
 use Rattle.worker_main.proofs.turn.take_turn.Goals as goal
 
 pub loop-init : goal.loop-init
@@ -64,3 +64,16 @@ returns-in-Empty-clause-turn g c =
 
 pub returns-in-Empty-clause-ended : goal.returns-in-Empty-clause-ended
 returns-in-Empty-clause-ended g c = IfSome_then c.give_back.result.1 c.give_back.ensures.fault fault_breaks
+
+pub returns-in-Shut-clause-same : goal.returns-in-Shut-clause-same
+returns-in-Shut-clause-same g c =
+    goes_further c.args.placed.who c.loop.placed.who c.leave.result c.loop.invariant.0 (called _ _ _ _ c.leave.ensures.exact)
+
+pub returns-in-NoRoom-clause-same : goal.returns-in-NoRoom-clause-same
+returns-in-NoRoom-clause-same g c =
+    goes_further c.args.placed.who c.loop.placed.who c.leave-in-NoRoom.result c.loop.invariant.0 (called _ _ _ _ c.leave-in-NoRoom.ensures.exact)
+
+pub returns-in-Failed-clause-same : goal.returns-in-Failed-clause-same
+returns-in-Failed-clause-same g c =
+    goes_further c.args.placed.who c.loop.placed.who c.leave-in-Failed.result c.loop.invariant.0
+    (goes_further c.loop.placed.who c.in-Failed.worker.who c.leave-in-Failed.result (failed _ _ _ _ c.in-Failed.ensures.exact.1) (called _ _ _ _ c.leave-in-Failed.ensures.exact))

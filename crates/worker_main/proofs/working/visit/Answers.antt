@@ -1,11 +1,13 @@
-use Rattle.std.proofs.Common.{[], ◌∷◌, ◌++◌, ap, sym, ◌∙◌, arith}
+use Rattle.std.proofs.Common.{[], ◌∷◌, ◌++◌, ap, sym, subst, ◌∙◌, append-nil, arith}
 use Rattle.market_types.specs.declared.command.Cmd.TheVariants.{Join}
 use Rattle.market_types.specs.declared.reply.Reply.TheVariants.{Placed}
 use Rattle.edit_history.specs.Chronicled.{entry}
+use Rattle.worker_main.specs.Books.{results}
+use Rattle.worker_main.specs.Steps.{HasEarned}
 use Rattle.worker_main.specs.Stations.{IsTakerOf}
 use Rattle.worker_main.proofs.Lists.{zip_read, zip_within, contains_at}
-use Rattle.worker_main.proofs.Takers.{takers_self, takers_at, earned_at}
-use Rattle.worker_main.proofs.Calls.{if_none_then}
+use Rattle.worker_main.proofs.Takers.{takers_self, takers_at, earned_at, earned_nothing}
+use Rattle.worker_main.proofs.Calls.{called, failed, goes_further, if_none_then}
 use Rattle.worker_main.proofs.Steps.{turned}
 use Rattle.worker_main.proofs.working.visit.Goals as goal
 
@@ -50,3 +52,32 @@ returns-clause-turn g c =
     if_none_then c.take_turn.result.1
     (turned c.args.stations.now c.args.takers.now.items c.in-Some.place c.in-Some.station.now c.index_mut.result.now c.take_turn.new.taker c.args.pass c.in-Placed.placed.who c.take_turn.result.0 c.requires.arenas
     (contains_at c.args.stations.now c.in-Some.place c.in-Some.station.now s.0) s.0 at.0 j.0.2 (j.2.3 ∙ ap (λ a. c.args.pass.mine ++ entry c.args.pass.seat Join (Placed a) ∷ []) arena)) c.take_turn.ensures.turn
+
+pub returns-in-Idle-clause-same : goal.returns-in-Idle-clause-same
+returns-in-Idle-clause-same g c = called _ _ _ _ c.in-Idle.ensures.exact
+
+pub returns-in-Failed-clause-same : goal.returns-in-Failed-clause-same
+returns-in-Failed-clause-same g c = failed _ _ _ _ c.in-Failed.ensures.exact
+
+pub returns-in_default-clause-same : goal.returns-in_default-clause-same
+returns-in_default-clause-same g c =
+    goes_further c.args.pass c.in-Placed.placed.who c.leave.result (called _ _ _ _ c.in-Placed.ensures.exact) (called _ _ _ _ c.leave.ensures.exact)
+
+pub returns-clause-same : goal.returns-clause-same
+returns-clause-same g c =
+    goes_further c.args.pass c.in-Placed.placed.who c.take_turn.result.0 (called _ _ _ _ c.in-Placed.ensures.exact) c.take_turn.ensures.same
+
+pub returns-in-Idle-clause-jobs : goal.returns-in-Idle-clause-jobs
+returns-in-Idle-clause-jobs g c =
+    let ran = results c.args.done.now.items in
+    subst (λ l. HasEarned c.args.takers.now.items ran c.args.takers.now.items l) (sym (append-nil ran)) (earned_nothing c.args.takers.now.items ran)
+
+pub returns-in-Failed-clause-jobs : goal.returns-in-Failed-clause-jobs
+returns-in-Failed-clause-jobs g c =
+    let ran = results c.args.done.now.items in
+    subst (λ l. HasEarned c.args.takers.now.items ran c.args.takers.now.items l) (sym (append-nil ran)) (earned_nothing c.args.takers.now.items ran)
+
+pub returns-in_default-clause-jobs : goal.returns-in_default-clause-jobs
+returns-in_default-clause-jobs g c =
+    let ran = results c.args.done.now.items in
+    subst (λ l. HasEarned c.args.takers.now.items ran c.args.takers.now.items l) (sym (append-nil ran)) (earned_nothing c.args.takers.now.items ran)

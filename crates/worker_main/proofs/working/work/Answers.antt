@@ -57,3 +57,11 @@ returns-in-Some-ended-clause-turns g c =
     let next = c.visit-next.result.0 in
     let last = subst (λ o. IfSome o (λ e. IfIdle e (HasAdded IsLastJoin c.args.stations.now mid new c.loop.pass next))) c.in-Some-ended.is c.visit-next.ensures.idle in
     if_idle_then c.in-Some-ended.ended (ends_idle c.args.stations.now old mid new c.args.pass c.loop.pass next i.1 i.0.0.2 i.3) last
+
+pub returns-in-Some-ended-clause-same : goal.returns-in-Some-ended-clause-same
+returns-in-Some-ended-clause-same g c =
+    (goes_further c.args.pass c.loop.pass c.visit-next.result.0 c.loop.invariant.0 c.visit-next.ensures.same).0
+
+pub returns-in-Some-ended-clause-seen : goal.returns-in-Some-ended-clause-seen
+returns-in-Some-ended-clause-seen g c =
+    (goes_further c.args.pass c.loop.pass c.visit-next.result.0 c.loop.invariant.0 c.visit-next.ensures.same).1
