@@ -6,9 +6,13 @@ use market_core::Market;
 use market_types::{ArenaId, Cmd, Level, SeatNo, reply_text};
 
 fn main(rt: HostRuntime) -> Result<()> {
-    let alloc = rt.alloc();
     // Base 8 (seven workers), hard limit 64, four seats, three levels.
-    let mut market = Market::new(alloc, 8, 64, 4, 3)?;
+    let mut market = Market::new(rt.alloc(), 8, 64, 4, 3)?;
+    place_one(&rt, &mut market)
+}
+
+/// Seat 0 opens an arena, asks for three workers there, and is placed; each reply is printed.
+fn place_one(rt: &HostRuntime, market: &mut Market) -> Result<()> {
     let arena = ArenaId::new(1);
     let commands = [
         Cmd::Open(8, 1, Level::from_index(1)),
@@ -18,8 +22,8 @@ fn main(rt: HostRuntime) -> Result<()> {
     for cmd in commands {
         // That each market has a seat 0 is what this call promises.
         let _ = market.seats();
-        let reply = market.apply(alloc, SeatNo::new(0), cmd)?;
-        println!(rt; "{}", reply_text(alloc, &reply)?)?;
+        let reply = market.apply(rt.alloc(), SeatNo::new(0), cmd)?;
+        println!(rt; "{}", reply_text(rt.alloc(), &reply)?)?;
     }
     if let Some(view) = market.view(arena) {
         println!(rt; "{} allotted, {} more to hire", view.allot, view.hire)?;
