@@ -5,7 +5,7 @@ use rand::{RngExt, SeedableRng};
 use rand_xoshiro::SplitMix64;
 
 /// Numbers at random, the same ones for the same seed.
-#[derive(Debug, Drop)]
+#[derive(Drop)]
 pub(crate) struct Dice {
     random: SplitMix64,
 }

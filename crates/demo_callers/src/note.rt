@@ -12,7 +12,7 @@ use std::marker::Model;
 pub(crate) const LEVELS: u32 = 3;
 
 /// A line for each call that was answered.
-#[derive(Debug, Drop)]
+#[derive(Drop)]
 pub(crate) struct Notes {
     text: Vec<u8>,
     /// There was no memory for some call's line.

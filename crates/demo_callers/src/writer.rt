@@ -24,7 +24,7 @@ use std::sync::ledger::Ledger;
 const MOST_SEATS: usize = 64;
 
 /// Why a writer stopped.
-#[derive(Clone, Copy, Debug, PartialEq, Eq)]
+#[derive(Clone, Copy)]
 pub(crate) enum Stop {
     /// The time is over.
     Over,

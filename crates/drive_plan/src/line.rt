@@ -4,7 +4,7 @@ ghost use Rattle.std.specs.Str.{all_ascii_digits};
 ghost use Rattle.market_types.specs.Fields.{fields_left};
 ghost use Rattle.market_types.specs.Reading.{is_number};
 ghost use Rattle.drive_plan.specs.Plans.{FitsLine};
-ghost use Rattle.drive_plan.specs.Reading.{alone, arena_line, control_line, job_line, level_in, line_of, long_number, market_line, number_in, task_of};
+ghost use Rattle.drive_plan.specs.Reading.{alone, arena_line, arena_wanted, control_line, job_line, level_in, line_of, long_number, market_line, number_in, task_of};
 
 use crate::plan::PlannedArena;
 use crate::task::{PlannedJob, Task};
@@ -118,16 +118,11 @@ fn read_market(more: Option<&[u8]>) -> Option<PlanLine>
     alone(PlanLine::Market(base, hard, levels), more)
 }
 
-fn read_arena(more: Option<&[u8]>, levels: u32) -> Option<PlanLine>
-    ensures exact { result ≡ arena_line levels (fields_left more.entry) }
-    ensures fits { (arenas : ℕ) → IfSome result (FitsLine levels arenas) }
+/// What an arena asks for, after its slots and its level.
+fn read_demand(more: Option<&[u8]>, slots: u32, reserved: u32, level: Level) -> Option<PlanLine>
+    ensures exact { result ≡ arena_wanted slots reserved level (fields_left more.entry) }
+    ensures fits { (levels arenas : ℕ) → 1 ≤ slots → slots ≤ 65535 → reserved ≤ slots → level ≤ levels → IfSome result (FitsLine levels arenas) }
 {
-    let (field, more) = cut_field(more?);
-    let slots = read_in(field, 1, MOST_WORKERS)?;
-    let (field, more) = cut_field(more?);
-    let reserved = read_in(field, 0, slots)?;
-    let (field, more) = cut_field(more?);
-    let level = read_level_in(field, levels)?;
     let (field, more) = cut_field(more?);
     let wanted = read_in(field, 0, MOST_WORKERS)?;
     let (field, more) = cut_field(more?);
@@ -140,6 +135,19 @@ fn read_arena(more: Option<&[u8]>, levels: u32) -> Option<PlanLine>
         mandatory,
     };
     alone(PlanLine::Arena(arena), more)
+}
+
+fn read_arena(more: Option<&[u8]>, levels: u32) -> Option<PlanLine>
+    ensures exact { result ≡ arena_line levels (fields_left more.entry) }
+    ensures fits { (arenas : ℕ) → IfSome result (FitsLine levels arenas) }
+{
+    let (field, more) = cut_field(more?);
+    let slots = read_in(field, 1, MOST_WORKERS)?;
+    let (field, more) = cut_field(more?);
+    let reserved = read_in(field, 0, slots)?;
+    let (field, more) = cut_field(more?);
+    let level = read_level_in(field, levels)?;
+    read_demand(more, slots, reserved, level)
 }
 
 fn read_control(more: Option<&[u8]>) -> Option<PlanLine>

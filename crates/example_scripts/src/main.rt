@@ -10,6 +10,7 @@ use market_prog::{
     MarketOptions, ScriptTask, explain_script, run_drive, run_journal, run_replay, run_script,
     status_of_drive, status_of_replay,
 };
+use std::alloc::Global;
 use std::fs;
 use std::sync::Wait;
 use std::thread::Threads;
@@ -175,40 +176,77 @@ fn try_journal(rt: &HostRuntime, name: &str, status: u8) -> Result<()> {
     )
 }
 
-/// Puts one line more behind the journal.
-fn push_line(journal: &mut Vec<u8>, line: &str) -> Result<()> {
-    journal.extend_from_slice(line.as_bytes())?;
-    journal.push(b'\n')?;
+/// What a file of cases is for.
+#[derive(Clone, Copy)]
+enum Kind {
+    /// Scripts to a usual market, with their replies.
+    Scripts,
+    /// The same, with their journals.
+    Records,
+    /// The same, with their explanations.
+    Explanations,
+    /// Journals, with their verdicts.
+    Journals,
+    /// Plans, with their outcomes.
+    Plans,
+}
+
+/// Puts one line more behind the text.
+fn push_line(text: &mut Vec<u8>, line: &str) -> Result<()> {
+    text.extend_from_slice(line.as_bytes())?;
+    text.push(b'\n')?;
     Ok(())
 }
 
-/// Whether this verdict is written of the journal.
-fn has_verdict(rt: &HostRuntime, journal: &[u8], verdict: &str) -> Result<bool> {
-    let alloc = rt.alloc();
-    let mut source = TestSource::new(journal);
-    let mut sink = TestSink::new(Vec::with_capacity(alloc, MOST_WRITTEN)?);
-    let _ = run_replay(alloc, &mut source, &mut sink);
-    let wanted = format!(in alloc; "{verdict}\n")?;
-    Ok(sink.taken() == wanted.as_bytes())
+/// Whether this is written of the text.
+fn is_written_of<T: Threads + Wait + Sync>(
+    threads: &T,
+    alloc: Global,
+    kind: Kind,
+    text: &[u8],
+    wanted: &[u8],
+) -> Result<bool> {
+    let usual = MarketOptions::USUAL;
+    let source = &mut TestSource::new(text);
+    let sink = &mut TestSink::new(Vec::with_capacity(alloc, MOST_WRITTEN)?);
+    match kind {
+        Kind::Scripts => drop(run_script(alloc, usual, source, sink)),
+        Kind::Records => drop(run_journal(alloc, usual, source, sink)),
+        Kind::Explanations => drop(explain_script(alloc, usual, source, sink)),
+        Kind::Journals => drop(run_replay(alloc, source, sink)),
+        Kind::Plans => drop(run_drive(threads, alloc, 2, source, sink)),
+    }
+    Ok(sink.taken() == wanted)
 }
 
-/// Replays the journals of a file, each of which has its verdict behind it, in a line that begins with `= `. A line that begins
-/// with `# ` says what the next ones are for. Tells how many have their verdict, and at which lines stand those of others.
-fn try_cases(rt: &HostRuntime, file: &str) -> Result<()> {
+/// Works the texts of a file, each of which has behind it what has to be written of it: a last line that begins with `= `, and
+/// those before it with `| `. A line that begins with `# ` says what the next texts are for. Tells of how many it is written, and
+/// at which lines stand those of others.
+fn try_cases<T: Threads + Wait + Sync>(
+    rt: &HostRuntime,
+    threads: &T,
+    kind: Kind,
+    file: &str,
+) -> Result<()> {
     let alloc = rt.alloc();
-    let text = fs::read_to_string(rt, file)?;
-    let mut journal = Vec::new(alloc);
+    let cases = fs::read_to_string(rt, file)?;
+    let mut text = Vec::new(alloc);
+    let mut wanted = Vec::new(alloc);
     let mut count = 0_u64;
-    for (index, line) in text.split('\n').enumerate() {
-        if let Some(verdict) = line.strip_prefix("= ") {
-            if has_verdict(rt, &journal, verdict)? {
+    for (index, line) in cases.split('\n').enumerate() {
+        if let Some(before) = line.strip_prefix("| ") {
+            push_line(&mut wanted, before)?;
+        } else if let Some(last) = line.strip_prefix("= ") {
+            push_line(&mut wanted, last)?;
+            if is_written_of(threads, alloc, kind, &text, &wanted)? {
                 count = count.saturating_add(1);
             } else {
                 println!(rt; "{file}, line {}: otherwise", index.saturating_add(1))?;
             }
-            journal.clear();
+            text.clear();
+            wanted.clear();
         } else if !line.starts_with("# ") {
-            push_line(&mut journal, line)?;
+            push_line(&mut text, line)?;
         }
     }
     println!(rt; "{file}: {count} as written")?;
@@ -271,7 +309,11 @@ fn main(rt: HostRuntime) -> Result<()> {
     try_scripts(&rt, ScriptTask::Explain, &EXPLAINED)?;
     try_journals(&rt, &LEGAL, 0)?;
     try_journals(&rt, &FAULTY, 1)?;
-    try_cases(&rt, "journals.cases")?;
+    try_cases(&rt, &rt, Kind::Scripts, "scripts.cases")?;
+    try_cases(&rt, &rt, Kind::Records, "records.cases")?;
+    try_cases(&rt, &rt, Kind::Explanations, "explanations.cases")?;
+    try_cases(&rt, &rt, Kind::Journals, "journals.cases")?;
+    try_cases(&rt, &rt, Kind::Plans, "plans.cases")?;
     for workers in [1, 2, 16] {
         try_plans(&rt, &rt, workers)?;
     }

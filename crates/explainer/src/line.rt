@@ -8,7 +8,7 @@ use market_types::{ArenaView, Level, LimitView, Reply, level_text, push_reply};
 use std::alloc::AllocError;
 
 /// What is told of a level.
-#[derive(Clone, Copy, Debug, PartialEq, Eq)]
+#[derive(Clone, Copy)]
 pub(crate) struct LevelView {
     pub(crate) level: Level,
     /// What its arenas ask for.
@@ -20,7 +20,7 @@ pub(crate) struct LevelView {
 }
 
 /// How an arena comes by its workers.
-#[derive(Clone, Copy, Debug, PartialEq, Eq)]
+#[derive(Clone, Copy)]
 pub(crate) struct CarryStep {
     /// What the arenas before it leave it.
     pub(crate) carry: u64,

@@ -1,9 +1,6 @@
-//! Journals that are checked: cut off, in pieces, with long lines and failing reads. Others stand in the data of `example_scripts`.
+//! Journals that are checked: cut off, and with long lines. Others stand in the data of `example_scripts`.
 use crate::asserts::{holds, same};
 use crate::journals::finds;
-use byte_devices::TestSource;
-use journal_replay::{Verdict, check_source};
-use line_engine::InputFault;
 use std::alloc::Global;
 use std::process::Abort;
 use std::rt::HostRuntime;
@@ -106,37 +103,4 @@ fn a_line_is_utf8_and_nests_little(rt: HostRuntime) {
     finds(&rt, rt.alloc(), &text, "J3 bad record line 2");
     let text = with_arrays(&rt, rt.alloc(), 128);
     finds(&rt, rt.alloc(), &text, "J2 bad json line 2");
-}
-
-#[test]
-fn a_journal_comes_in_pieces(rt: HostRuntime) {
-    let text = text_of(&rt, rt.alloc(), &[HEADER, OPEN, REQUEST, SHOW]);
-    let broken = text_of(&rt, rt.alloc(), &[HEADER, OPEN, "{", SHOW]);
-    for size in [1, 7, 43, 1000] {
-        let mut source = TestSource::new(&text).in_pieces_of(size);
-        let found = check_source(rt.alloc(), &mut source);
-        holds(&rt, matches!(&found, Ok(Verdict::Legal(3))));
-        drop(found);
-        let mut source = TestSource::new(&broken).in_pieces_of(size);
-        let found = check_source(rt.alloc(), &mut source);
-        holds(&rt, matches!(&found, Ok(Verdict::BadJson(3))));
-        drop(found);
-    }
-}
-
-#[test]
-fn a_failing_source_is_a_fault(rt: HostRuntime) {
-    let text = text_of(&rt, rt.alloc(), &[HEADER, OPEN, REQUEST, SHOW]);
-    for reads in 0..4 {
-        let mut source = TestSource::new(&text)
-            .in_pieces_of(100)
-            .failing_after(reads);
-        let found = check_source(rt.alloc(), &mut source);
-        holds(&rt, matches!(&found, Err(InputFault::Read)));
-        drop(found);
-    }
-    let mut source = TestSource::new(&text).in_pieces_of(100).failing_after(4);
-    let found = check_source(rt.alloc(), &mut source);
-    holds(&rt, matches!(&found, Ok(Verdict::Legal(3))));
-    drop(found);
 }

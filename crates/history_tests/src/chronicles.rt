@@ -30,14 +30,6 @@ fn terms(base: u32, hard: u32, seats: u8, places: u32, levels: u32, keeping: Kee
     }
 }
 
-/// A chronicle on these terms.
-fn opened_on(rt: &impl Abort, alloc: Global, terms: Terms) -> Chronicle {
-    let Ok(chronicle) = Chronicle::on_terms(alloc, terms) else {
-        panic!(rt; "no chronicle");
-    };
-    chronicle
-}
-
 /// What a call's caller is told: the text of its reply, or why there is none.
 fn text_of(rt: &impl Abort, alloc: Global, answer: &Result<Reply, CallFault>) -> String {
     let text = match answer {
@@ -241,42 +233,6 @@ fn a_refused_growth_spares_the_leave_after_a_cut(rt: HostRuntime) {
         holds(&rt, are_answered(alloc, &mut chronicle, &[Cmd::Leave]));
         same(&rt, chronicle.market().placed(), 0);
     }
-    drop(chronicle);
-}
-
-#[test]
-fn a_chronicle_that_is_cut_in_time_is_never_full(rt: HostRuntime) {
-    let alloc = rt.alloc();
-    let mut chronicle = opened_on(&rt, alloc, terms(8, 64, 4, 4, 3, Keeping::InParts));
-    same(&rt, chronicle.keeping(), Keeping::InParts);
-    open_arena(&rt, alloc, &mut chronicle);
-    let visit = [(Cmd::Join, "placed 1"), (Cmd::Leave, "left 1")];
-    let mut spare = empty(&rt, alloc, 4);
-    for visits in 0_u64..1000 {
-        spare = cut(&rt, &mut chronicle, spare, 2 * visits);
-        same(&rt, spare.len(), 2);
-        answers(&rt, alloc, &mut chronicle, &visit);
-    }
-    same(&rt, chronicle.len(), 2002);
-    drop(chronicle);
-}
-
-#[test]
-fn an_unrecorded_chronicle_that_forgets_each_call_is_never_full(rt: HostRuntime) {
-    let alloc = rt.alloc();
-    let mut chronicle = opened_on(&rt, alloc, terms(8, 64, 1, 3, 3, Keeping::Nothing));
-    same(&rt, chronicle.keeping(), Keeping::Nothing);
-    open_arena(&rt, alloc, &mut chronicle);
-    let join = [(Cmd::Join, "placed 1")];
-    let leave = [(Cmd::Leave, "left 1")];
-    for _ in 0_u32..1000 {
-        chronicle.forget();
-        answers(&rt, alloc, &mut chronicle, &join);
-        chronicle.forget();
-        answers(&rt, alloc, &mut chronicle, &leave);
-    }
-    same(&rt, chronicle.len(), 2002);
-    same(&rt, chronicle.market().placed(), 0);
     drop(chronicle);
 }
 

@@ -1,10 +1,7 @@
 //! What no clause says: that the market answers at all where memory is ample.
-use crate::asserts::{holds, same};
-use market_core::{Market, apply_all};
-use market_types::{
-    ArenaId, Call, Cmd, ControlId, Fault, LastNumber, Level, LimitView, OpenFault, Reply, SeatNo,
-    reply_text,
-};
+use crate::asserts::same;
+use market_core::Market;
+use market_types::{ArenaId, Cmd, Level, SeatNo, reply_text};
 use std::alloc::Global;
 use std::process::Abort;
 use std::rt::HostRuntime;
@@ -112,115 +109,6 @@ fn levels_are_served_in_order(rt: HostRuntime) {
     drop(market);
 }
 
-#[test]
-fn enqueued_work_is_served_at_its_level(rt: HostRuntime) {
-    let mut market = opened(&rt, rt.alloc(), 1, 3);
-    let commands = [
-        (Cmd::Open(8, 1, Level::from_index(0)), "arena 1"),
-        (Cmd::Request(ArenaId::new(1), 2, 0), "request 2"),
-        (Cmd::Open(8, 1, Level::from_index(1)), "arena 2"),
-        (Cmd::Request(ArenaId::new(2), 2, 1), "request 2"),
-        (Cmd::Open(8, 1, Level::from_index(2)), "arena 3"),
-        (Cmd::Request(ArenaId::new(3), 2, 1), "request 2"),
-    ];
-    answers(&rt, rt.alloc(), &mut market, &commands);
-    same(&rt, allots(&market), [0, 1, 0]);
-    same(&rt, assigned(&market), [0, 1, 0, 0, 0, 0, 0, 0]);
-    drop(market);
-}
-
-#[test]
-fn calls_are_answered_in_order(rt: HostRuntime) {
-    let alloc = rt.alloc();
-    let Ok(mut market) = Market::new(alloc, 1, 64, 1, 1) else {
-        panic!(&rt; "no market");
-    };
-    let seat = SeatNo::new(0);
-    let calls = [
-        Call {
-            seat,
-            cmd: Cmd::Limit,
-        },
-        Call {
-            seat,
-            cmd: Cmd::Show(ArenaId::new(1)),
-        },
-    ];
-    let Ok(replies) = apply_all(alloc, &mut market, &calls) else {
-        panic!(&rt; "no replies");
-    };
-    same(&rt, replies.len(), 2);
-    holds(
-        &rt,
-        matches!(
-            &replies[0],
-            Reply::Limits(LimitView {
-                value: 1,
-                limit: 0,
-                effective: 0
-            })
-        ),
-    );
-    holds(&rt, matches!(&replies[1], Reply::Refused(Fault::NoArena)));
-    drop(replies);
-    drop(market);
-}
-
-/// A new market with the last number 3 answers these commands so.
-fn answers_to_three(rt: &impl Abort, alloc: Global, commands: &[(Cmd, &str)]) {
-    let Some(last) = LastNumber::new(3) else {
-        panic!(rt; "no last number");
-    };
-    let Ok(mut market) = Market::with_last(alloc, 8, 64, 4, 3, last) else {
-        panic!(rt; "no market");
-    };
-    same(rt, market.last(), last);
-    answers(rt, alloc, &mut market, commands);
-    drop(market);
-}
-
-#[test]
-fn a_fourth_arena_has_no_number(rt: HostRuntime) {
-    let level = Level::from_index(1);
-    let commands = [
-        (Cmd::Open(8, 1, level), "arena 1"),
-        (Cmd::Close(ArenaId::new(1)), "ok"),
-        (Cmd::Open(8, 1, level), "arena 2"),
-        (Cmd::Open(8, 1, level), "arena 3"),
-        (Cmd::Open(8, 1, level), "F04 out of numbers"),
-        (Cmd::Control(4), "control 1"),
-    ];
-    answers_to_three(&rt, rt.alloc(), &commands);
-}
-
-#[test]
-fn a_fourth_stamp_is_refused(rt: HostRuntime) {
-    let arena = ArenaId::new(1);
-    let level = Level::from_index(1);
-    let commands = [
-        (Cmd::Open(8, 1, level), "arena 1"),
-        (Cmd::Priority(arena, level), "ok"),
-        (Cmd::Priority(arena, Level::from_index(2)), "ok"),
-        (Cmd::Priority(arena, level), "F04 out of numbers"),
-        (Cmd::Open(8, 1, level), "F04 out of numbers"),
-        (Cmd::Close(arena), "ok"),
-    ];
-    answers_to_three(&rt, rt.alloc(), &commands);
-}
-
-#[test]
-fn a_fourth_control_has_no_number(rt: HostRuntime) {
-    let commands = [
-        (Cmd::Control(4), "control 1"),
-        (Cmd::Uncontrol(ControlId::new(1)), "ok"),
-        (Cmd::Control(5), "control 2"),
-        (Cmd::Control(6), "control 3"),
-        (Cmd::Control(6), "F04 out of numbers"),
-        (Cmd::Open(8, 1, Level::from_index(1)), "arena 1"),
-    ];
-    answers_to_three(&rt, rt.alloc(), &commands);
-}
-
 /// Where none is named the last number is 1,048,576.
 #[test]
 fn the_usual_last_number_is_two_to_the_twentieth(rt: HostRuntime) {
@@ -229,37 +117,4 @@ fn the_usual_last_number_is_two_to_the_twentieth(rt: HostRuntime) {
     };
     same(&rt, market.last().get(), 1_048_576);
     drop(market);
-}
-
-/// Why no market was opened.
-fn refusal(opening: Result<Market, OpenFault>) -> Option<OpenFault> {
-    match opening {
-        Ok(_) => None,
-        Err(fault) => Some(fault),
-    }
-}
-
-#[test]
-fn numbers_out_of_range_open_nothing(rt: HostRuntime) {
-    let alloc = rt.alloc();
-    same(
-        &rt,
-        refusal(Market::new(alloc, 0, 0, 0, 0)),
-        Some(OpenFault::BadBase),
-    );
-    same(
-        &rt,
-        refusal(Market::new(alloc, 8, 0, 0, 0)),
-        Some(OpenFault::BadHard),
-    );
-    same(
-        &rt,
-        refusal(Market::new(alloc, 8, 64, 65, 9)),
-        Some(OpenFault::BadSeats),
-    );
-    same(
-        &rt,
-        refusal(Market::new(alloc, 8, 64, 64, 9)),
-        Some(OpenFault::BadLevels),
-    );
 }

@@ -4,28 +4,15 @@ ghost use Rattle.market_types.specs.History.{place_in};
 ghost use Rattle.market_desk.specs.Workers.{workers_at};
 
 use crate::asserts::{holds, same};
-use edit_history::{CallFault, Chronicle, Keeping, Terms};
+use edit_history::{CallFault, Chronicle};
 use market_desk::Desk;
-use market_types::{ArenaId, Cmd, LastNumber, Level, OpenFault, Reply, SeatNo};
+use market_types::{ArenaId, Cmd, Level, OpenFault, Reply, SeatNo};
 use std::alloc::Global;
 use std::marker::Brand;
 use std::process::Abort;
 use std::rt::HostRuntime;
 use std::sync::ledger::{Blank, Ledger};
 use worker_ledger::{Book, Share, Totals};
-
-/// A base of 8, a hard limit of 64, one seat, three levels, the usual last number, and so many places.
-fn terms(places: u32, keeping: Keeping) -> Terms {
-    Terms {
-        base: 8,
-        hard: 64,
-        seats: 1,
-        places,
-        levels: 3,
-        last: LastNumber::USUAL,
-        keeping,
-    }
-}
 
 /// What seat 0 is answered.
 fn answer<C: Ledger, W: Ledger>(
@@ -179,120 +166,6 @@ fn a_worker_that_stays_is_counted(rt: HostRuntime) {
     same(&rt, counted, (3, totals));
 }
 
-/// A desk of one seat and three places, the last of them free: a Join takes two. What its history and its book have at the end.
-fn one_place_left<C: Ledger, W: Ledger>(
-    rt: &impl Abort,
-    alloc: Global,
-    calls: Blank,
-    workers: Blank,
-) -> (u64, Totals)
-    requires calls { calls.name ≡ C.name }
-    requires calls_parts { (calls.parts ≡ C.parts) × (C.parts ≡ 1) }
-    requires workers { workers.name ≡ W.name }
-    requires workers_parts { (workers.parts ≡ W.parts) × (W.parts ≡ 1) }
-{
-    let Ok(chronicle) = Chronicle::new(alloc, 8, 64, 1, 3, 3) else {
-        panic!(rt; "no chronicle");
-    };
-    let Ok((book, mut shares)) = Book::<C, W>::new(alloc, 1, calls, workers) else {
-        panic!(rt; "no book");
-    };
-    let mut desk = Desk::new(chronicle, book);
-    let share = &mut shares.as_mut_slice()[0];
-    open_one(rt, &mut desk, share, alloc);
-    lacks_places(rt, &mut desk, share, alloc, &Cmd::Join);
-    let told = answer(&mut desk, share, alloc, &Cmd::Show(ArenaId::new(1)));
-    holds(
-        rt,
-        matches!(&told, Ok(Reply::Shown(view)) if view.allot == 1 && view.hire == 1),
-    );
-    drop(told);
-    gathered(desk, shares)
-}
-
-#[test]
-fn a_join_at_a_desk_needs_two_places(rt: HostRuntime) {
-    let counted = one_place_left::<Brand, Brand>(&rt, rt.alloc(), Blank::new(1), Blank::new(1));
-    let totals = Totals {
-        calls: 3,
-        workers: 0,
-    };
-    same(&rt, counted, (3, totals));
-}
-
-/// A desk of one seat and four places that is kept in parts, or not: its caller joins, the entries are cut out, and it leaves.
-/// How many entries were cut out, and what the book has at the end.
-fn cut_and_left<C: Ledger, W: Ledger>(
-    rt: &impl Abort,
-    alloc: Global,
-    calls: Blank,
-    workers: Blank,
-    in_parts: bool,
-) -> (Option<usize>, Totals)
-    requires calls { calls.name ≡ C.name }
-    requires calls_parts { (calls.parts ≡ C.parts) × (C.parts ≡ 1) }
-    requires workers { workers.name ≡ W.name }
-    requires workers_parts { (workers.parts ≡ W.parts) × (W.parts ≡ 1) }
-{
-    let keeping = if in_parts {
-        Keeping::InParts
-    } else {
-        Keeping::Everything
-    };
-    let Ok(chronicle) = Chronicle::on_terms(alloc, terms(4, keeping)) else {
-        panic!(rt; "no chronicle");
-    };
-    let Ok((book, mut shares)) = Book::<C, W>::new(alloc, 1, calls, workers) else {
-        panic!(rt; "no book");
-    };
-    let Ok(spare) = Vec::with_capacity(alloc, 1) else {
-        panic!(rt; "no spare");
-    };
-    let mut desk = Desk::new(chronicle, book);
-    let share = &mut shares.as_mut_slice()[0];
-    join(rt, &mut desk, share, alloc);
-    let part = desk.cut(spare);
-    let left = answer(&mut desk, share, alloc, &Cmd::Leave);
-    holds(
-        rt,
-        matches!(&left, Ok(Reply::Left(arena)) if arena.get() == 1),
-    );
-    drop(left);
-    same(rt, desk.chronicle().len(), 4);
-    let entries = match &part {
-        Some(part) => Some(part.entries.len()),
-        None => None,
-    };
-    drop(part);
-    (entries, gathered(desk, shares).1)
-}
-
-#[test]
-fn a_desk_that_is_kept_in_parts_is_cut(rt: HostRuntime) {
-    let totals = Totals {
-        calls: 4,
-        workers: 0,
-    };
-    let counted = cut_and_left::<Brand, Brand>(&rt, rt.alloc(), Blank::new(1), Blank::new(1), true);
-    same(&rt, counted, (Some(3), totals));
-}
-
-#[test]
-fn another_desk_is_not_cut(rt: HostRuntime) {
-    let totals = Totals {
-        calls: 4,
-        workers: 0,
-    };
-    let counted = cut_and_left::<Brand, Brand>(
-        &rt,
-        rt.alloc(),
-        Blank::new(1),
-        Blank::new(1),
-        false,
-    );
-    same(&rt, counted, (None, totals));
-}
-
 /// What seat 0 is answered, asked for again where there was no memory: then nothing had changed, and nothing was counted.
 fn answer_at_last<C: Ledger, W: Ledger>(
     rt: &impl Abort,
@@ -411,67 +284,4 @@ fn a_granted_growth_is_counted(rt: HostRuntime) {
         workers: 0,
     };
     same(&rt, counted, Some(totals));
-}
-
-/// Seat 0 joins and leaves so many times. It is never told that the history is full.
-fn visits<C: Ledger, W: Ledger>(
-    rt: &impl Abort,
-    desk: &mut Desk<C, W>,
-    share: &mut Share<C, W>,
-    alloc: Global,
-    times: u32,
-)
-    requires worker { share.old.workers ≡ workers_at (place_in 0 desk.old.log) }
-{
-    for _ in 0..times {
-        let joined = answer(desk, share, alloc, &Cmd::Join);
-        holds(
-            rt,
-            matches!(&joined, Ok(Reply::Placed(arena)) if arena.get() == 1),
-        );
-        let left = answer(desk, share, alloc, &Cmd::Leave);
-        holds(
-            rt,
-            matches!(&left, Ok(Reply::Left(arena)) if arena.get() == 1),
-        );
-        same(rt, desk.chronicle().free(), 3);
-        drop(left);
-    }
-}
-
-/// An unrecorded desk of one seat, whose caller joins and leaves so many times: how many calls it counts, and how many the
-/// book has.
-fn unrecorded<C: Ledger, W: Ledger>(
-    rt: &impl Abort,
-    alloc: Global,
-    calls: Blank,
-    workers: Blank,
-    times: u32,
-) -> (u64, Totals)
-    requires calls { calls.name ≡ C.name }
-    requires calls_parts { (calls.parts ≡ C.parts) × (C.parts ≡ 1) }
-    requires workers { workers.name ≡ W.name }
-    requires workers_parts { (workers.parts ≡ W.parts) × (W.parts ≡ 1) }
-{
-    let Ok(chronicle) = Chronicle::on_terms(alloc, terms(3, Keeping::Nothing)) else {
-        panic!(rt; "no chronicle");
-    };
-    let Ok((book, mut shares)) = Book::<C, W>::new(alloc, 1, calls, workers) else {
-        panic!(rt; "no book");
-    };
-    let mut desk = Desk::new(chronicle, book);
-    let share = &mut shares.as_mut_slice()[0];
-    open_one(rt, &mut desk, share, alloc);
-    visits(rt, &mut desk, share, alloc, times);
-    gathered(desk, shares)
-}
-
-#[test]
-fn an_unrecorded_desk_counts_each_call_and_is_never_full(rt: HostRuntime) {
-    let counted = unrecorded::<Brand, Brand>(&rt, rt.alloc(), Blank::new(1), Blank::new(1), 10_000);
-    let totals = Totals {
-        calls: 20_002,
-        workers: 0,
-    };
-    same(&rt, counted, (20_002, totals));
 }

@@ -97,22 +97,6 @@ fn a_journal_has_a_line_for_the_opening_and_one_for_each_call(rt: HostRuntime) {
     drop(chronicle);
 }
 
-#[test]
-fn a_failing_sink_has_a_front_of_the_journal(rt: HostRuntime) {
-    for refusal in [Refusal::Fault, Refusal::NoneTaken] {
-        for most in [0, 1, 42, 100, 243] {
-            let chronicle = recorded(&rt, rt.alloc());
-            let mut sink = new_sink(&rt, rt.alloc()).refusing_after(most, refusal);
-            let written = write_journal(rt.alloc(), &chronicle, &mut sink);
-            same(&rt, written, Err(OutFault::Write));
-            holds(&rt, JOURNAL.starts_with(sink.taken()));
-            same(&rt, sink.taken().len(), most);
-            drop(sink);
-            drop(chronicle);
-        }
-    }
-}
-
 /// Records a call of seat 0, takes it out, and writes it behind the others.
 fn write_next(
     rt: &impl Abort,

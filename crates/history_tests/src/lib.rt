@@ -15,8 +15,6 @@ mod commands;
 #[cfg(test)]
 mod desks;
 #[cfg(test)]
-mod histories;
-#[cfg(test)]
 mod journals;
 #[cfg(test)]
 mod ledgers;

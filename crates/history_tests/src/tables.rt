@@ -1,8 +1,8 @@
-//! Explanations worked out by hand, and what a failing sink has of one.
+//! Explanations worked out by hand, beside those of `example_scripts`.
 ghost use Rattle.std.specs.Prelude.{◌≡◌, false};
 
 use crate::asserts::{holds, same};
-use byte_devices::{OutFault, Refusal, TestSink};
+use byte_devices::{OutFault, TestSink};
 use explainer::explain;
 use market_core::Market;
 use market_types::{ArenaId, Cmd, Level, SeatNo};
@@ -29,24 +29,6 @@ level normal demand       15 assigned     7 left     0
 arena       3 request     5 carry        0 product         35 allot     2 rest        5 top yes active     0 recall     0 hire     2
 arena       2 request     5 carry        5 product         40 allot     2 rest       10 top yes active     0 recall     0 hire     2
 arena       1 request     5 carry       10 product         45 allot     3 rest        0 top yes active     0 recall     0 hire     3
-level low    demand        0 assigned     0 left     0
-";
-
-/// One worker, for enqueued work alone.
-const ENQUEUED: &[u8] = b"\
-value 1 limit 0 effective 1 demand 3 workers 1
-level high   demand        2 assigned     0 left     1
-arena       1 request     2 carry        - product          - allot     0 rest        - top yes active     0 recall     0 hire     0
-level normal demand        0 assigned     0 left     1
-level low    demand        1 assigned     1 left     0
-arena       2 request     1 carry        - product          - allot     1 rest        - top no  active     0 recall     0 hire     1
-";
-
-/// No arena.
-const EMPTY: &[u8] = b"\
-value 8 limit 7 effective 7 demand 0 workers 0
-level high   demand        0 assigned     0 left     0
-level normal demand        0 assigned     0 left     0
 level low    demand        0 assigned     0 left     0
 ";
 
@@ -137,23 +119,6 @@ fn carries_are_shown(rt: HostRuntime) {
 }
 
 #[test]
-fn nothing_is_carried_where_no_worker_may_be_active(rt: HostRuntime) {
-    let enqueued = [
-        Cmd::Control(1),
-        Cmd::Open(8, 1, Level::from_index(0)),
-        Cmd::Open(8, 1, Level::from_index(2)),
-        Cmd::Request(ArenaId::new(1), 2, 0),
-        Cmd::Request(ArenaId::new(2), 1, 1),
-    ];
-    explains(&rt, rt.alloc(), 3, &enqueued, ENQUEUED);
-}
-
-#[test]
-fn a_market_without_arenas_has_its_levels(rt: HostRuntime) {
-    explains(&rt, rt.alloc(), 3, &[], EMPTY);
-}
-
-#[test]
 fn levels_without_names_have_numbers(rt: HostRuntime) {
     let first = Level::from_index(0);
     let one = [
@@ -169,25 +134,6 @@ fn levels_without_names_have_numbers(rt: HostRuntime) {
         Cmd::Request(ArenaId::new(2), 5, 0),
     ];
     explains(&rt, rt.alloc(), 8, &eight, EIGHT_LEVELS);
-}
-
-#[test]
-fn a_failing_sink_has_a_front_of_the_explanation(rt: HostRuntime) {
-    let Ok(market) = market_after(rt.alloc(), 3, &for_five()) else {
-        panic!(&rt; "no market");
-    };
-    for refusal in [Refusal::Fault, Refusal::NoneTaken] {
-        for most in 0..FIVE.len() {
-            let mut sink = new_sink(&rt, rt.alloc())
-                .in_pieces_of(100)
-                .refusing_after(most, refusal);
-            let written = explain(rt.alloc(), &market, &mut sink);
-            same(&rt, written, Err(OutFault::Write));
-            same(&rt, sink.taken(), &FIVE[..most]);
-            drop(sink);
-        }
-    }
-    drop(market);
 }
 
 /// Where a growth is refused, the explanation is `Memory`, and the next one is whole.

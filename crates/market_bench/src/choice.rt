@@ -22,7 +22,7 @@ Exit status:
   3  no memory, a refused command, or a fault of the clock, the command line or standard output";
 
 /// What the words choose.
-#[derive(Clone, Copy, Debug, PartialEq, Eq)]
+#[derive(Clone, Copy)]
 pub enum Choice {
     /// The table, with this in its cells.
     Table(Content),

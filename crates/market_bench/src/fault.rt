@@ -18,7 +18,7 @@ pub enum BenchFault {
 }
 
 /// Why a turn of commands stops. It is small, so that a turn costs what its commands cost.
-#[derive(Clone, Copy, Debug, PartialEq, Eq)]
+#[derive(Clone, Copy)]
 pub enum TurnFault {
     /// There was no memory.
     Memory,

@@ -17,7 +17,7 @@ use std::alloc::Global;
 const CALLER: u8 = 0;
 
 /// A turn of commands, and the market in which it is taken again and again.
-#[derive(Clone, Copy, Debug, PartialEq, Eq)]
+#[derive(Clone, Copy)]
 pub enum Scenario {
     /// A request, by one worker more and then by one less.
     Request,

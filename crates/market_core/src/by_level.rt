@@ -4,7 +4,7 @@ ghost use Rattle.std.specs.Prelude.{◌≡◌, ◌-◌, Some, slice_get};
 use market_types::Level;
 
 /// One value for each level that any market can have.
-#[derive(Clone, Copy, Debug)]
+#[derive(Clone, Copy)]
 pub struct ByLevel<T> {
     /// Level 1 first.
     pub values: [T; 8],

@@ -8,7 +8,7 @@ use market_types::{ArenaId, Level};
 use recall_hire::Sharing;
 
 /// What the allotment of each arena follows from.
-#[derive(Clone, Copy, Debug)]
+#[derive(Clone, Copy)]
 pub struct Division {
     /// How many workers may be active.
     pub limit: u32,

@@ -6,7 +6,7 @@ ghost use Rattle.market_types.specs.Opening.{opened_market_to};
 use market_types::{LastNumber, OpenFault};
 
 /// What a market is opened with. The number of its seats is that of its roster, and is not kept twice.
-#[derive(Clone, Copy, Debug)]
+#[derive(Clone, Copy)]
 pub struct Opening {
     pub base: u32,
     pub hard: u32,

@@ -1,5 +1,8 @@
 -- What driving a plan answers (own).
-use Rattle.std.specs.Prelude.{◌≡◌, ℕ, List, Ok, Err, ⊤}
+use Rattle.std.specs.Prelude.{◌≡◌, ℕ, ◌+◌, List, length, Ok, Err, ⊤}
+use Rattle.market_types.specs.State.{opening_to, usual_last}
+use Rattle.market_lock.specs.Headline.{IsGivenBy}
+use Rattle.market_lock.specs.declared.office.Closed.{Closed}
 use Rattle.drive_plan.specs.Plans.{Planned}
 use Rattle.drive_plan.specs.Format.{plan_of}
 use Rattle.drive_plan.specs.Outcome.{IsOutcome}
@@ -16,6 +19,17 @@ IsServable text p = (plan_of text ≡ Ok p) × ((a : ℕ) → IsUnservable p a �
 -- the answers are the outcome of the text's plan
 abbrev pub IsDriven : List ℕ → List Done → Type 0
 IsDriven text ds = (p : Planned) × IsServable text p × IsOutcome p.jobs ds
+
+-- the office is that of the plan's market, with a seat for who gives the plan's commands and one for each of so many workers: its market, with every reply, is what
+-- its history gives, which has as many calls as the callers made
+abbrev pub IsOfficeOf : Planned → ℕ → Closed → Type 0
+IsOfficeOf p workers closed =
+    IsGivenBy (opening_to p.base p.hard (1 + workers) p.levels usual_last) closed.chronicle
+    × (closed.calls ≡ length closed.chronicle.log)
+
+-- it is the office of the text's plan
+abbrev pub IsOfficeOfText : List ℕ → ℕ → Closed → Type 0
+IsOfficeOfText text workers closed = (p : Planned) × (plan_of text ≡ Ok p) × IsOfficeOf p workers closed
 
 -- a fault of the text or of its plan is due; all others come only where none of these is
 abbrev pub IsDue : List ℕ → DriveFault → Type 0

@@ -2,8 +2,9 @@
 ghost use Rattle.std.specs.Prelude.{◌≡◌, ◌<◌, ◌≤◌, Ok, IfOk, IfErr};
 ghost use Rattle.drive_plan.specs.Format.{plan_of};
 ghost use Rattle.drive_plan.specs.Outcome.{IsOutcome};
-ghost use Rattle.market_drive.specs.Driving.{IsDriven, IsDue, IsLate};
+ghost use Rattle.market_drive.specs.Driving.{IsDriven, IsDue, IsLate, IsOfficeOf, IsOfficeOfText};
 
+use crate::driven::Driven;
 use crate::fault::DriveFault;
 use crate::lines::line_up;
 use crate::shifts::work_shifts;
@@ -27,16 +28,17 @@ fn read(alloc: Global, text: &[u8]) -> Result<Plan, DriveFault>
     }
 }
 
-/// The answers to a plan's jobs, by so many workers.
+/// What so many workers leave of a plan.
 fn drive_plan_of<G: Gate + Sync, R: Threads + Wait + Sync>(
     rt: &R,
     alloc: Global,
     plan: &Plan,
     workers: usize,
     gate: &G,
-) -> Result<Vec<Done>, DriveFault>
+) -> Result<Driven, DriveFault>
     requires { (0 < workers) × (workers ≤ 16) }
-    ensures outcome { IfOk result (λ done. IsOutcome plan.now.jobs done.items) }
+    ensures outcome { IfOk result (λ driven. IsOutcome plan.now.jobs driven.done.items) }
+    ensures office { IfOk result (λ driven. IsOfficeOf plan.now workers driven.closed) }
     ensures late { IfErr result IsLate }
 {
     let Ok(cmds) = plan_commands(alloc, plan) else {
@@ -55,11 +57,35 @@ fn drive_plan_of<G: Gate + Sync, R: Threads + Wait + Sync>(
 
 /// Reads a plan, and gives the answers to its jobs in order of number: the same for every number of workers, 1 to 16, each of
 /// which works in a thread of its own, or in the calling thread where none can be made. A gate is asked before each job and told
-/// after it.
+/// after it. Beside the answers it gives the office that was closed, with the history of its calls.
 ///
 /// `BadPlan` comes first, where the text is no plan; then `Unservable`, where an arena with jobs would never be allotted a worker.
 /// The others come only after the office was opened, with all workers back and the office closed: `Memory`, `Unfinished`,
 /// `Doubled`, `Missing`, in this order. `Memory` may come at any time.
+pub fn drive_to_close<G: Gate + Sync, R: Threads + Wait + Sync>(
+    rt: &R,
+    alloc: Global,
+    text: &[u8],
+    workers: usize,
+    gate: &G,
+) -> Result<Driven, DriveFault>
+    requires workers { (0 < workers) × (workers ≤ 16) }
+    ensures outcome { IfOk result (λ driven. IsDriven text.now driven.done.items) }
+    ensures office { IfOk result (λ driven. IsOfficeOfText text.now workers driven.closed) }
+    ensures fault { IfErr result (IsDue text.now) }
+{
+    let plan = match read(alloc, text) {
+        Ok(plan) => plan,
+        Err(fault) => return Err(fault),
+    };
+    match unservable(alloc, &plan) {
+        Ok(None) => drive_plan_of(rt, alloc, &plan, workers, gate),
+        Ok(Some(arena)) => Err(DriveFault::Unservable(arena)),
+        Err(AllocError) => Err(DriveFault::Memory),
+    }
+}
+
+/// The same, of which only the answers are wanted.
 pub fn drive<G: Gate + Sync, R: Threads + Wait + Sync>(
     rt: &R,
     alloc: Global,
@@ -71,13 +97,12 @@ pub fn drive<G: Gate + Sync, R: Threads + Wait + Sync>(
     ensures outcome { IfOk result (λ done. IsDriven text.now done.items) }
     ensures fault { IfErr result (IsDue text.now) }
 {
-    let plan = match read(alloc, text) {
-        Ok(plan) => plan,
-        Err(fault) => return Err(fault),
-    };
-    match unservable(alloc, &plan) {
-        Ok(None) => drive_plan_of(rt, alloc, &plan, workers, gate),
-        Ok(Some(arena)) => Err(DriveFault::Unservable(arena)),
-        Err(AllocError) => Err(DriveFault::Memory),
+    match drive_to_close(rt, alloc, text, workers, gate) {
+        Ok(driven) => {
+            let Driven { done, closed } = driven;
+            drop(closed);
+            Ok(done)
+        }
+        Err(fault) => Err(fault),
     }
 }

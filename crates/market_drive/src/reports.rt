@@ -51,11 +51,6 @@ impl Reports {
         }
     }
 
-    /// There was no memory for an office.
-    pub(crate) fn tear(&mut self) {
-        self.is_torn = true;
-    }
-
     /// What all of it comes to.
     pub(crate) fn gather(self, plan: &Plan) -> Result<Vec<Done>, DriveFault>
         ensures outcome { IfOk result (λ done. IsOutcome plan.now.jobs done.items) }

@@ -1,19 +1,23 @@
 //! All workers of a plan work, each in a thread of its own.
-ghost use Rattle.std.specs.Prelude.{◌≡◌, ◌+◌, ◌<◌, ◌≤◌, [], length, vec_len, vec_capacity, AllPairs, IfErr, IfOk};
+ghost use Rattle.std.specs.Prelude.{◌≡◌, ◌+◌, ◌<◌, ◌≤◌, [], length, vec_len, vec_capacity, AllPairs, IfErr, IfOk, IfSome};
 ghost use Rattle.std.specs.List.{All};
+ghost use Rattle.market_types.specs.State.{opening_to};
+ghost use Rattle.market_lock.specs.Headline.{IsGivenBy};
 ghost use Rattle.drive_plan.specs.Outcome.{IsOutcome};
-ghost use Rattle.market_drive.specs.Driving.{IsLate};
+ghost use Rattle.market_drive.specs.Driving.{IsLate, IsOfficeOf};
 ghost use Rattle.market_drive.specs.Racks.{IsFor};
 ghost use Rattle.market_drive.specs.Lines.{queues_at};
 ghost use Rattle.worker_main.specs.Stations.{HaveOwnArenas};
 
+use crate::driven::Driven;
 use crate::fault::DriveFault;
 use crate::opener::Opener;
 use crate::racks::Racks;
 use crate::reports::Reports;
 use crate::worker::{Shift, Worker, Yard};
-use drive_plan::{Done, Plan};
+use drive_plan::Plan;
 use edit_history::Keeping;
+use market_lock::Closed;
 use market_types::{Cmd, LastNumber};
 use office_crew::{Meeting, Terms, Unmet, meet};
 use std::alloc::{AllocError, Global};
@@ -75,7 +79,8 @@ fn openers<'a>(alloc: Global, cmds: &'a [Cmd]) -> Result<Vec<Opener<'a>>, AllocE
     Ok(openers)
 }
 
-/// The market is opened, all workers work, and the office is closed. They leave their reports, and their racks.
+/// The market is opened, all workers work, and the office is closed, which is `None` where there was no memory for it. They leave
+/// their reports, and their racks.
 fn work_together<Y: Yard + Send + Sync, G: Gate + Sync, R: Threads + Wait + Sync>(
     rt: &R,
     alloc: Global,
@@ -84,11 +89,13 @@ fn work_together<Y: Yard + Send + Sync, G: Gate + Sync, R: Threads + Wait + Sync
     workers: Vec<Worker<'_, G, Y>>,
     racks: Racks,
     reports: &mut Reports,
-) -> Racks
+) -> (Racks, Option<Closed>)
     requires few { (vec_len openers ≤ 1) × (vec_len workers ≤ 16) }
     requires racks { racks ≡ [] }
-    ensures racks { All (IsFor Y.queues) result }
-    ensures each { length result ≡ vec_len workers.entry }
+    ensures racks { All (IsFor Y.queues) result.0 }
+    ensures each { length result.0 ≡ vec_len workers.entry }
+    ensures headline { IfSome result.1 (λ closed. IsGivenBy (opening_to terms.base terms.hard (vec_len openers.entry + vec_len workers.entry) terms.levels terms.last) closed.chronicle) }
+    ensures calls { IfSome result.1 (λ closed. closed.calls ≡ length closed.chronicle.log) }
 {
     match meet(rt, alloc, terms, openers, workers) {
         Ok(meeting) => {
@@ -97,13 +104,12 @@ fn work_together<Y: Yard + Send + Sync, G: Gate + Sync, R: Threads + Wait + Sync
                 openers,
                 tasks,
             } = meeting;
-            drop(closed);
             for opener in openers {
                 if let Some(fault) = opener.fault {
                     reports.add_fault(fault);
                 }
             }
-            relieve(tasks, racks, reports)
+            (relieve(tasks, racks, reports), Some(closed))
         }
         Err(unmet) => {
             let Unmet {
@@ -112,13 +118,12 @@ fn work_together<Y: Yard + Send + Sync, G: Gate + Sync, R: Threads + Wait + Sync
                 tasks,
             } = unmet;
             drop(openers);
-            reports.tear();
-            relieve(tasks, racks, reports)
+            (relieve(tasks, racks, reports), None)
         }
     }
 }
 
-/// The answers to a plan's jobs, by a worker for each rack, in the office that the commands open. The racks come back.
+/// What a worker for each rack leaves of a plan, in the office that the commands open. The racks come back.
 pub(crate) fn work_shifts<Y: Yard + Send + Sync, G: Gate + Sync, R: Threads + Wait + Sync>(
     rt: &R,
     alloc: Global,
@@ -127,13 +132,14 @@ pub(crate) fn work_shifts<Y: Yard + Send + Sync, G: Gate + Sync, R: Threads + Wa
     stations: &[Station],
     racks: Racks,
     gate: &G,
-) -> (Racks, Result<Vec<Done>, DriveFault>)
+) -> (Racks, Result<Driven, DriveFault>)
     requires stations { queues_at stations.now ≡ Y.queues }
     requires apart { AllPairs HaveOwnArenas stations.now }
     requires racks { All (IsFor Y.queues) racks }
     ensures racks { All (IsFor Y.queues) result.0 }
     ensures each { length result.0 ≡ length racks }
-    ensures outcome { IfOk result.1 (λ done. IsOutcome plan.now.jobs done.items) }
+    ensures outcome { IfOk result.1 (λ driven. IsOutcome plan.now.jobs driven.done.items) }
+    ensures office { IfOk result.1 (λ driven. IsOfficeOf plan.now (length racks) driven.closed) }
     ensures late { IfErr result.1 IsLate }
 {
     let mut reports = Reports::new(alloc);
@@ -153,9 +159,12 @@ pub(crate) fn work_shifts<Y: Yard + Send + Sync, G: Gate + Sync, R: Threads + Wa
         last: LastNumber::USUAL,
         keeping: Keeping::Everything,
     };
-    let racks = work_together(rt, alloc, terms, openers, workers, racks, &mut reports);
-    (racks, reports.gather(plan))
+    let (racks, closed) = work_together(rt, alloc, terms, openers, workers, racks, &mut reports);
+    let Some(closed) = closed else {
+        return (racks, Err(DriveFault::Memory));
+    };
+    match reports.gather(plan) {
+        Ok(done) => (racks, Ok(Driven { done, closed })),
+        Err(fault) => (racks, Err(fault)),
+    }
 }
-
-#[cfg(test)]
-mod tests;

@@ -1,9 +1,9 @@
-//! Devices that fail, give their bytes in pieces, or never end; and what is asked before any byte is read.
+//! Devices that fail or never end, and what is asked before any byte is read.
 
 use crate::asserts::{holds, same};
 use crate::endless::Hashes;
 use crate::work::{new_sink, work_script};
-use byte_devices::{Refusal, TestSource};
+use byte_devices::TestSource;
 use market_prog::{
     MarketOptions, RunFault, ScriptTask, run_replay, run_script, status_of_replay, status_of_run,
 };
@@ -26,7 +26,7 @@ fn replies_due(bytes: usize) -> &'static [u8] {
 }
 
 #[test]
-fn each_read_fails_in_turn(rt: HostRuntime) {
+fn replies_that_are_due_are_written_before_each_read(rt: HostRuntime) {
     for size in [1, 7, 20, 43] {
         // The script takes so many reads, and one that finds its end.
         let reads = HIRED.len().div_ceil(size) + 1;
@@ -49,46 +49,16 @@ fn each_read_fails_in_turn(rt: HostRuntime) {
 }
 
 #[test]
-fn each_write_fails_in_turn(rt: HostRuntime) {
-    for refusal in [Refusal::Fault, Refusal::NoneTaken] {
-        for size in [1, 7, 100] {
-            for room in 0..=HIRED_REPLIES.len() {
-                let mut source = TestSource::new(HIRED);
-                let mut sink = new_sink(&rt, rt.alloc())
-                    .in_pieces_of(size)
-                    .refusing_after(room, refusal);
-                let told = run_script(rt.alloc(), MarketOptions::USUAL, &mut source, &mut sink);
-                let is_whole = room == HIRED_REPLIES.len();
-                let wanted = if is_whole {
-                    Ok(0)
-                } else {
-                    Err(RunFault::Write)
-                };
-                assert!(&rt; told == wanted, "room for {room} bytes");
-                same(&rt, sink.taken(), &HIRED_REPLIES[..room]);
-                drop(sink);
-            }
-        }
-    }
-}
-
-#[test]
-fn pieces_of_any_size_are_answered_alike(rt: HostRuntime) {
-    for size in 1..50 {
-        let mut source = TestSource::new(HIRED).in_pieces_of(size);
-        let mut sink = new_sink(&rt, rt.alloc()).in_pieces_of(size);
-        let told = run_script(rt.alloc(), MarketOptions::USUAL, &mut source, &mut sink);
-        same(&rt, told, Ok(0));
-        same(&rt, sink.taken(), HIRED_REPLIES);
-        drop(sink);
-    }
-}
-
-#[test]
 fn a_script_without_end_is_too_long(rt: HostRuntime) {
     for task in [ScriptTask::Answer, ScriptTask::Journal, ScriptTask::Explain] {
         let mut sink = new_sink(&rt, rt.alloc());
-        let told = work_script(rt.alloc(), task, &mut Hashes, &mut sink);
+        let told = work_script(
+            rt.alloc(),
+            task,
+            MarketOptions::USUAL,
+            &mut Hashes,
+            &mut sink,
+        );
         same(&rt, told, Err(RunFault::TooLong));
         same(&rt, status_of_run(&told), 3);
         holds(&rt, sink.taken().is_empty());
@@ -108,16 +78,18 @@ fn a_journal_without_end_is_too_long(rt: HostRuntime) {
 
 #[test]
 fn a_market_that_cannot_be_opened_reads_nothing(rt: HostRuntime) {
-    for levels in [0, 9] {
-        let mut source = TestSource::new(HIRED);
-        let mut sink = new_sink(&rt, rt.alloc());
-        let options = MarketOptions {
-            levels,
-            ..MarketOptions::USUAL
-        };
-        let told = run_script(rt.alloc(), options, &mut source, &mut sink);
-        same(&rt, told, Err(RunFault::Open(OpenFault::BadLevels)));
-        holds(&rt, sink.taken().is_empty());
-        drop(sink);
+    for task in [ScriptTask::Answer, ScriptTask::Journal, ScriptTask::Explain] {
+        for levels in [0, 9] {
+            let options = MarketOptions {
+                levels,
+                ..MarketOptions::USUAL
+            };
+            let mut source = TestSource::new(HIRED);
+            let mut sink = new_sink(&rt, rt.alloc());
+            let told = work_script(rt.alloc(), task, options, &mut source, &mut sink);
+            same(&rt, told, Err(RunFault::Open(OpenFault::BadLevels)));
+            holds(&rt, sink.taken().is_empty());
+            drop(sink);
+        }
     }
 }

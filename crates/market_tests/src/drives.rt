@@ -1,4 +1,4 @@
-//! Plans that are driven, with what is written and the exit status, over devices that give them in pieces and fail.
+//! Plans that are driven, with what is written and the exit status.
 ghost use Rattle.std.specs.Prelude.{◌<◌, ◌≤◌};
 
 use crate::asserts::{holds, same};
@@ -130,83 +130,6 @@ fn a_gate_that_stays_shut_is_told(rt: HostRuntime) {
     same(&rt, sink.taken(), b"G03 unfinished\n".as_slice());
     same(&rt, status_of_drive(&driven), 1);
     drop(sink);
-}
-
-#[test]
-fn plans_come_in_pieces_of_any_size(rt: HostRuntime) {
-    for size in 1..20 {
-        let mut source = TestSource::new(PLAN).in_pieces_of(size);
-        let mut sink = new_sink(&rt, rt.alloc()).in_pieces_of(size);
-        let driven = run_drive(&rt, rt.alloc(), 2, &mut source, &mut sink);
-        same(&rt, driven, Ok(DriveEnd::Finished));
-        same(&rt, sink.taken(), OUTCOME);
-        drop(sink);
-    }
-}
-
-#[test]
-fn after_each_read_that_fails_nothing_is_written(rt: HostRuntime) {
-    for size in [1, 7, 200] {
-        // The plan takes so many reads, and one that finds its end.
-        let reads = PLAN.len().div_ceil(size) + 1;
-        for good in 0..reads {
-            let mut source = TestSource::new(PLAN)
-                .in_pieces_of(size)
-                .failing_after(good as u64);
-            let mut sink = new_sink(&rt, rt.alloc());
-            let driven = run_drive(&rt, rt.alloc(), 2, &mut source, &mut sink);
-            assert!(&rt;
-                driven == Err(RunFault::Read),
-                "{good} reads of {size} bytes"
-            );
-            same(&rt, status_of_drive(&driven), 3);
-            holds(&rt, sink.taken().is_empty());
-            drop(sink);
-        }
-        let mut source = TestSource::new(PLAN)
-            .in_pieces_of(size)
-            .failing_after(reads as u64);
-        let mut sink = new_sink(&rt, rt.alloc());
-        let driven = run_drive(&rt, rt.alloc(), 2, &mut source, &mut sink);
-        same(&rt, driven, Ok(DriveEnd::Finished));
-        same(&rt, sink.taken(), OUTCOME);
-        drop(sink);
-    }
-}
-
-/// Of what is written of the plan each byte is refused in turn. Those before it are written.
-fn fails_at_each_write<R: Threads + Wait + Sync + Abort>(
-    rt: &R,
-    alloc: Global,
-    plan: &[u8],
-    written: &[u8],
-    size: usize,
-    refusal: Refusal,
-)
-    requires { 0 < size }
-{
-    for room in 0..written.len() {
-        let mut source = TestSource::new(plan);
-        let mut sink = new_sink(rt, alloc)
-            .in_pieces_of(size)
-            .refusing_after(room, refusal);
-        let driven = run_drive(rt, alloc, 2, &mut source, &mut sink);
-        assert!(rt; driven == Err(RunFault::Write), "room for {room} bytes");
-        same(rt, status_of_drive(&driven), 3);
-        same(rt, sink.taken(), &written[..room]);
-        drop(sink);
-    }
-}
-
-#[test]
-fn after_each_write_that_fails_a_front_of_the_text_is_written(rt: HostRuntime) {
-    for refusal in [Refusal::Fault, Refusal::NoneTaken] {
-        for size in [1, 7, 100] {
-            fails_at_each_write(&rt, rt.alloc(), PLAN, OUTCOME, size, refusal);
-            let line = b"G01 bad plan line 1\n";
-            fails_at_each_write(&rt, rt.alloc(), b"", line, size, refusal);
-        }
-    }
 }
 
 #[test]

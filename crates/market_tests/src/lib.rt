@@ -12,8 +12,6 @@ mod drives;
 #[cfg(test)]
 mod endless;
 #[cfg(test)]
-mod explanations;
-#[cfg(test)]
 mod growths;
 #[cfg(test)]
 mod journals;

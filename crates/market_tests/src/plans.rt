@@ -1,4 +1,4 @@
-//! Each line that a plan can't have, told by its number, and what a plan may have.
+//! How many lines a plan may have, and how long they may be, beside the plans of `example_scripts`.
 
 use crate::drives::{PLAN, is_driven, is_refused};
 use market_drive::DriveFault;
@@ -45,21 +45,6 @@ fn is_bad<R: Threads + Wait + Sync + Abort>(rt: &R, alloc: Global, text: &[u8], 
     is_refused(rt, alloc, text, DriveFault::BadPlan(line), told.as_bytes());
 }
 
-/// Behind the first lines each of the others is the first that does not fit.
-fn are_bad<R: Threads + Wait + Sync + Abort>(
-    rt: &R,
-    alloc: Global,
-    begin: &[&str],
-    lines: &[&str],
-) {
-    for line in lines {
-        let Ok(text) = text_of(alloc, begin, "", 0, line) else {
-            panic!(rt; "no memory");
-        };
-        is_bad(rt, alloc, &text, begin.len() as u64 + 1);
-    }
-}
-
 /// Behind the first lines the other may stand so many times, and one more is the first that does not fit.
 fn is_bad_after<R: Threads + Wait + Sync + Abort>(
     rt: &R,
@@ -79,110 +64,6 @@ fn is_bad_after<R: Threads + Wait + Sync + Abort>(
 }
 
 #[test]
-fn a_market_comes_first_with_its_numbers_in_range(rt: HostRuntime) {
-    let lines = [
-        "markets 8 64",
-        "Market 8 64",
-        "market",
-        "market 8",
-        "market 8 64 3 1",
-        "market 0 64",
-        "market 65537 64",
-        "market 8 0",
-        "market 8 65536",
-        "market 8 64 0",
-        "market 8 64 9",
-        "market 08 64",
-        "market +8 64",
-        "market -8 64",
-        "market 8  64",
-        " market 8 64",
-        "market 8 64 ",
-        "market 8 64\r",
-        "arena 8 1 normal 2 0",
-        "control 4",
-        "job 1 sum 10",
-        "fly",
-    ];
-    are_bad(&rt, rt.alloc(), &[], &lines);
-}
-
-#[test]
-fn an_arena_has_its_numbers_in_range(rt: HostRuntime) {
-    let lines = [
-        "market 8 64",
-        "control 4",
-        "job 1 sum 10",
-        "arenas 8 1 normal 2 0",
-        "arena",
-        "arena 8 1 normal 2",
-        "arena 8 1 normal 2 0 0",
-        "arena 0 0 normal 2 0",
-        "arena 65536 1 normal 2 0",
-        "arena 8 9 normal 2 0",
-        "arena 8 -1 normal 2 0",
-        "arena 8 1 middle 2 0",
-        "arena 8 1 Normal 2 0",
-        "arena 8 1 0 2 0",
-        "arena 8 1 4 2 0",
-        "arena 8 1 normal 65536 0",
-        "arena 8 1 normal -1 0",
-        "arena 8 1 normal 2 65536",
-        "arena 8 1 normal 2 -1",
-        "arena 8 1 normal 2 0\r",
-    ];
-    are_bad(&rt, rt.alloc(), &["market 8 64"], &lines);
-    let of_five = ["arena 8 1 high 2 0", "arena 8 1 6 2 0"];
-    are_bad(&rt, rt.alloc(), &["market 8 64 5"], &of_five);
-}
-
-#[test]
-fn a_control_has_its_value_in_range(rt: HostRuntime) {
-    let lines = [
-        "market 8 64",
-        "controls 4",
-        "control",
-        "control 0",
-        "control 65537",
-        "control 4 4",
-        "control four",
-        "control 4\r",
-    ];
-    are_bad(&rt, rt.alloc(), &BEGUN, &lines);
-    let late = ["arena 8 1 low 1 0"];
-    are_bad(&rt, rt.alloc(), &[BEGUN[0], BEGUN[1], "control 4"], &late);
-}
-
-#[test]
-fn a_job_has_an_arena_and_an_argument_in_range(rt: HostRuntime) {
-    let lines = [
-        "jobs 1 sum 10",
-        "job",
-        "job 1",
-        "job 1 sum",
-        "job 1 sum 10 1",
-        "job 0 sum 10",
-        "job 2 sum 10",
-        "job 1 add 10",
-        "job 1 sum 1000001",
-        "job 1 sum -1",
-        "job 1 sum 010",
-        "job 1 digits 18446744073709551616",
-        "job 1 digits -1",
-        "job 1 digits 1.0",
-        "job 1 sum 10\r",
-    ];
-    are_bad(&rt, rt.alloc(), &BEGUN, &lines);
-    let late = ["market 8 64", "arena 8 1 low 1 0", "control 4"];
-    are_bad(
-        &rt,
-        rt.alloc(),
-        &[BEGUN[0], BEGUN[1], "job 1 sum 10"],
-        &late,
-    );
-}
-
-#[test]
 fn there_are_64_arenas_and_256_controls_at_most(rt: HostRuntime) {
     is_bad_after(&rt, rt.alloc(), &BEGUN[..1], BEGUN[1], 64);
     is_bad_after(&rt, rt.alloc(), &BEGUN, "control 9", 256);
@@ -197,30 +78,14 @@ fn there_are_65_536_jobs_at_most(rt: HostRuntime) {
 }
 
 #[test]
-fn a_plan_that_ends_too_early_names_the_line_after_its_last(rt: HostRuntime) {
+fn a_last_line_without_its_end_is_a_line(rt: HostRuntime) {
     is_bad(&rt, rt.alloc(), b"", 1);
-    is_bad(&rt, rt.alloc(), b"\n", 2);
     is_bad(&rt, rt.alloc(), b"# a comment", 1);
-    is_bad(&rt, rt.alloc(), b"# a comment\n", 2);
     is_bad(&rt, rt.alloc(), b"market 8 64", 1);
-    is_bad(&rt, rt.alloc(), b"market 8 64\n", 2);
     is_bad(&rt, rt.alloc(), b"market 8 64\n\n# a comment", 3);
-}
-
-#[test]
-fn the_first_line_that_does_not_fit_is_told(rt: HostRuntime) {
-    is_bad(&rt, rt.alloc(), b"fly\nfly\n", 1);
-    is_bad(&rt, rt.alloc(), b"market 8 64\nfly\narena 0\n", 2);
-    let no_such_arena = b"market 8 64\narena 8 1 normal 2 0\narena 8 1 low 1 0\n\
-        job 1 sum 10\njob 1 digits 9081\njob 3 sum 100\n";
-    is_bad(&rt, rt.alloc(), no_such_arena, 6);
-    is_bad(
-        &rt,
-        rt.alloc(),
-        &no_such_arena[..no_such_arena.len() - 1],
-        6,
-    );
-    is_bad(&rt, rt.alloc(), b"\n# a comment\n\nmarket 8\n", 4);
+    is_bad(&rt, rt.alloc(), b"market 8 64\n\xff\n", 2);
+    let plan = b"market 8 64\narena 2 1 high 1 0\njob 1 sum 3";
+    is_driven(&rt, rt.alloc(), plan, b"job 1 6\n");
 }
 
 /// A comment, or another line, of so many bytes, with its LF, before the plan.
@@ -247,14 +112,4 @@ fn a_long_line_is_bad_unless_it_is_a_comment(rt: HostRuntime) {
         let outcome = b"job 1 55\njob 2 18\njob 3 5050\n";
         is_driven(&rt, rt.alloc(), &text, outcome);
     }
-    is_bad(&rt, rt.alloc(), b"market 8 64\n\xff\n", 2);
-}
-
-#[test]
-fn arguments_at_the_ends_of_their_ranges_have_values(rt: HostRuntime) {
-    let plan = b"# five levels\nmarket 65536 65535 5\n\narena 65535 0 5 65535 65535\n\
-        control 65536\njob 1 sum 0\njob 1 sum 1000000\njob 1 digits 0\n\
-        # the last line has no line end\njob 1 digits 18446744073709551615";
-    let outcome = b"job 1 0\njob 2 500000500000\njob 3 0\njob 4 87\n";
-    is_driven(&rt, rt.alloc(), plan, outcome);
 }

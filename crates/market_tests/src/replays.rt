@@ -1,11 +1,11 @@
-//! Journals that are replayed, with their statuses, over devices that give them in pieces and fail.
+//! Journals that are replayed, with their statuses, beside those of `example_scripts`.
 
 use crate::asserts::{holds, same};
 use crate::endless::Repeated;
 use crate::work::new_sink;
-use byte_devices::{Refusal, TestSource};
+use byte_devices::TestSource;
 use journal_replay::Verdict;
-use market_prog::{RunFault, run_replay, status_of_replay};
+use market_prog::{run_replay, status_of_replay};
 use std::alloc::Global;
 use std::process::Abort;
 use std::rt::HostRuntime;
@@ -50,34 +50,6 @@ fn a_changed_journal_is_told_by_its_first_fault(rt: HostRuntime) {
     drop(sink);
 }
 
-/// The line of the verdict of the first bytes of the journal, and its status.
-fn told_of_front(bytes: usize) -> (&'static [u8], u8) {
-    match bytes {
-        0..=42 => (b"J1 bad header\n", 1),
-        43 => (b"legal 0\n", 0),
-        44..=95 => (b"J2 bad json line 2\n", 1),
-        96 => (b"legal 1\n", 0),
-        97..=148 => (b"J2 bad json line 3\n", 1),
-        149 => (b"legal 2\n", 0),
-        150..=243 => (b"J2 bad json line 4\n", 1),
-        _ => (LEGAL, 0),
-    }
-}
-
-#[test]
-fn each_front_of_a_journal_is_told(rt: HostRuntime) {
-    same(&rt, JOURNAL.len(), 244);
-    for bytes in 0..=JOURNAL.len() {
-        let mut source = TestSource::new(&JOURNAL[..bytes]);
-        let mut sink = new_sink(&rt, rt.alloc());
-        let told = run_replay(rt.alloc(), &mut source, &mut sink);
-        let (line, status) = told_of_front(bytes);
-        assert!(&rt; sink.taken() == line, "{bytes} bytes");
-        assert!(&rt; status_of_replay(&told) == status, "{bytes} bytes");
-        drop(sink);
-    }
-}
-
 const LIMITED: &[u8] = b"{\"base\":8,\"hard\":64,\"journal\":2,\"levels\":3,\"seats\":4}\n";
 
 const ENDLESS: &[u8] =
@@ -104,64 +76,4 @@ fn a_journal_of_version_2_has_1_048_576_entries_at_most(rt: HostRuntime) {
 #[test]
 fn a_journal_of_version_3_has_more_entries(rt: HostRuntime) {
     limits_are_told(&rt, rt.alloc(), ENDLESS, 1_048_577, b"legal 1048577\n");
-}
-
-#[test]
-fn after_each_read_that_fails_nothing_is_written(rt: HostRuntime) {
-    for size in [1, 7, 43, 244] {
-        // The journal takes so many reads, and one that finds its end.
-        let reads = JOURNAL.len().div_ceil(size) + 1;
-        for good in 0..reads {
-            let mut source = TestSource::new(JOURNAL)
-                .in_pieces_of(size)
-                .failing_after(good as u64);
-            let mut sink = new_sink(&rt, rt.alloc());
-            let told = run_replay(rt.alloc(), &mut source, &mut sink);
-            assert!(&rt;
-                matches!(&told, Err(RunFault::Read)),
-                "{good} reads of {size} bytes"
-            );
-            same(&rt, status_of_replay(&told), 3);
-            holds(&rt, sink.taken().is_empty());
-            drop(sink);
-        }
-        let mut source = TestSource::new(JOURNAL)
-            .in_pieces_of(size)
-            .failing_after(reads as u64);
-        let mut sink = new_sink(&rt, rt.alloc());
-        let told = run_replay(rt.alloc(), &mut source, &mut sink);
-        same(&rt, sink.taken(), LEGAL);
-        same(&rt, status_of_replay(&told), 0);
-        drop(sink);
-    }
-}
-
-#[test]
-fn after_each_write_that_fails_a_front_of_the_line_is_written(rt: HostRuntime) {
-    for refusal in [Refusal::Fault, Refusal::NoneTaken] {
-        for size in [1, 7, 100] {
-            for room in 0..REFUSED.len() {
-                let mut source = TestSource::new(WITHOUT_ITS_OPEN);
-                let mut sink = new_sink(&rt, rt.alloc())
-                    .in_pieces_of(size)
-                    .refusing_after(room, refusal);
-                let told = run_replay(rt.alloc(), &mut source, &mut sink);
-                assert!(&rt;
-                    matches!(&told, Err(RunFault::Write)),
-                    "room for {room} bytes"
-                );
-                same(&rt, status_of_replay(&told), 3);
-                same(&rt, sink.taken(), &REFUSED[..room]);
-                drop(sink);
-            }
-            let mut source = TestSource::new(WITHOUT_ITS_OPEN);
-            let mut sink = new_sink(&rt, rt.alloc())
-                .in_pieces_of(size)
-                .refusing_after(REFUSED.len(), refusal);
-            let told = run_replay(rt.alloc(), &mut source, &mut sink);
-            same(&rt, sink.taken(), REFUSED);
-            same(&rt, status_of_replay(&told), 1);
-            drop(sink);
-        }
-    }
 }

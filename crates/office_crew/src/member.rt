@@ -25,7 +25,7 @@ impl Room for Brand {
 }
 
 /// Who works when.
-#[derive(Clone, Copy, Debug, PartialEq, Eq)]
+#[derive(Clone, Copy, PartialEq, Eq)]
 pub(crate) enum Order {
     /// All at the same time.
     AtOnce,

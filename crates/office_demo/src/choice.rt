@@ -38,7 +38,7 @@ const USUAL: Choice = Choice::Work {
 };
 
 /// What the words choose.
-#[derive(Clone, Copy, Debug, PartialEq, Eq)]
+#[derive(Clone, Copy)]
 pub enum Choice {
     /// So many callers call so many times each.
     Work {

@@ -1,13 +1,14 @@
 //! The program `office_demo`: threads share one market through an office, and the journal of what happened says who did what.
 #![tactic(auto)]
 
-ghost use Rattle.std.specs.Prelude.{◌≡◌};
+ghost use Rattle.std.specs.Prelude.{◌≡◌, ◌≤◌};
+ghost use Rattle.demo_callers.specs.Records.{most_callers};
 
 mod choice;
 
 use crate::choice::{Choice, USAGE};
 use byte_devices::WriteSink;
-use demo_callers::{DemoFault, Lasted, Outcome, TERMS, last, work};
+use demo_callers::{DemoFault, Lasted, Outcome, Record, TERMS, last, work};
 use journal_replay::write_journal;
 use std::process::ExitCode;
 use std::sync::Wait;
@@ -83,23 +84,48 @@ fn end(rt: &HostRuntime, status: Result<u8, DemoFault>) -> ExitCode {
     ExitCode::from(status)
 }
 
+/// So many callers make so many calls each, in threads of this handle: the exit status.
+fn run_calls<T: Threads + Wait + Sync>(
+    rt: &HostRuntime,
+    threads: &T,
+    callers: u8,
+    calls: u32,
+) -> Result<u8, DemoFault>
+    requires { callers ≤ 64 }
+{
+    let outcome = work(threads, rt.alloc(), TERMS, callers, calls)?;
+    let status = show(rt, &outcome);
+    drop(outcome);
+    status
+}
+
+/// So many callers call for so many seconds, in threads of this handle: the exit status.
+fn run_for<T: Threads + Wait + Sync>(
+    rt: &HostRuntime,
+    threads: &T,
+    callers: u8,
+    seconds: u32,
+    recorded: Record,
+) -> Result<u8, DemoFault>
+    requires { callers ≤ most_callers recorded }
+{
+    let time = Duration::from_secs(u64::from(seconds));
+    let output = WriteSink::new(rt.stdout());
+    let lasted = last(threads, rt, rt.alloc(), time, callers, recorded, output)?;
+    let status = tell_lasted(rt, &lasted);
+    drop(lasted);
+    status
+}
+
 /// Does what the command line asks for, with threads of this handle: the exit status.
 fn run<T: Threads + Wait + Sync>(rt: &HostRuntime, threads: &T) -> Result<u8, DemoFault> {
     match Choice::read(rt)? {
-        Choice::Work { callers, calls } => {
-            let outcome = work(threads, rt.alloc(), TERMS, callers, calls)?;
-            show(rt, &outcome)
-        }
+        Choice::Work { callers, calls } => run_calls(rt, threads, callers, calls),
         Choice::Forever {
             callers,
             seconds,
             recorded,
-        } => {
-            let time = Duration::from_secs(u64::from(seconds));
-            let output = WriteSink::new(rt.stdout());
-            let lasted = last(threads, rt, rt.alloc(), time, callers, recorded, output)?;
-            tell_lasted(rt, &lasted)
-        }
+        } => run_for(rt, threads, callers, seconds, recorded),
         Choice::Help => tell_usage(rt, 0),
         Choice::Unknown => tell_usage(rt, BAD_COMMAND_LINE),
     }

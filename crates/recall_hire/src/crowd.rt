@@ -8,7 +8,7 @@ use crate::slots::{Slot, SlotTable};
 use market_types::ArenaId;
 
 /// The seats that are placed at an arena.
-#[derive(Clone, Copy, Debug, PartialEq, Eq)]
+#[derive(Clone, Copy)]
 pub struct Crowd {
     pub arena: ArenaId,
     /// How many they are, at least 1.

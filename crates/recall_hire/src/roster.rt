@@ -10,7 +10,7 @@ use std::alloc::{AllocError, Global};
 use std::marker::Model;
 
 /// For each seat the arena that it is placed at, if any.
-#[derive(Debug, Drop)]
+#[derive(Drop)]
 pub struct Roster {
     seats: Vec<Option<ArenaId>>,
     /// How many seats are placed.

@@ -11,7 +11,7 @@ use std::marker::Model;
 const SLOTS: u32 = 1024;
 
 /// What is kept for the arenas of a slot.
-#[derive(Clone, Copy, Debug, PartialEq, Eq)]
+#[derive(Clone, Copy)]
 pub struct Slot {
     /// How many seats are placed at them together.
     pub seats: u8,
@@ -20,7 +20,7 @@ pub struct Slot {
 }
 
 /// The slots by their remainders.
-#[derive(Debug, Drop)]
+#[derive(Drop)]
 pub struct SlotTable {
     slots: Vec<Slot>,
 }

@@ -26,7 +26,7 @@ const TERMS: Terms = Terms {
 const CALLS_A_CUT: u32 = 100_000;
 
 /// What turn is taken again and again, by how many threads, and with how many arenas.
-#[derive(Clone, Copy, Debug, PartialEq, Eq)]
+#[derive(Clone, Copy)]
 pub struct Scene {
     pub turn: Turn,
     pub crowd: Crowd,

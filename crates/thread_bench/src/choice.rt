@@ -21,7 +21,7 @@ Exit status:
   3  no memory, a call or a job that was not done, or a fault of the clock, the command line or standard output";
 
 /// What the words choose.
-#[derive(Clone, Copy, Debug, PartialEq, Eq)]
+#[derive(Clone, Copy)]
 pub enum Choice {
     /// The table, with this in its cells.
     Table(Content),

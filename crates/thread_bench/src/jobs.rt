@@ -9,7 +9,7 @@ use std::thread::Threads;
 use worker_main::OpenGate;
 
 /// What the jobs of a plan are.
-#[derive(Clone, Copy, Debug, PartialEq, Eq)]
+#[derive(Clone, Copy)]
 pub enum Work {
     /// 65,536 jobs with next to nothing to do.
     Digits,
@@ -57,7 +57,7 @@ impl Work {
 }
 
 /// A plan that so many workers drive.
-#[derive(Clone, Copy, Debug)]
+#[derive(Clone, Copy)]
 pub struct Shift<'a> {
     pub work: Work,
     pub text: &'a [u8],

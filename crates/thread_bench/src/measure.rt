@@ -15,7 +15,7 @@ use std::time::Instant;
 pub const ROUNDS: usize = 7;
 
 /// What is measured.
-#[derive(Clone, Copy, Debug)]
+#[derive(Clone, Copy)]
 pub enum Subject<'a> {
     /// Calls through an office.
     Calls(Scene),

@@ -15,7 +15,7 @@ const CAPACITY: usize = 1_024;
 const JOBS: u64 = 500_000;
 
 /// Who uses the queue.
-#[derive(Clone, Copy, Debug, PartialEq, Eq)]
+#[derive(Clone, Copy)]
 pub enum Exchange {
     /// One thread that pushes a job and pops it again.
     Alone,

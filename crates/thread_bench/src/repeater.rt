@@ -16,7 +16,7 @@ use std::sync::ledger::Ledger;
 const MOST_SEATS: usize = 64;
 
 /// What a turn is.
-#[derive(Clone, Copy, Debug, PartialEq, Eq)]
+#[derive(Clone, Copy)]
 pub enum Turn {
     /// The lock alone: the desk is taken, asked for entries that it does not cut out, and given back.
     Lock,
@@ -78,7 +78,7 @@ impl Turn {
 }
 
 /// Takes its turns. The one of seat 0 opens the arenas before.
-#[derive(Debug, Drop)]
+#[derive(Drop)]
 pub struct Repeater {
     pub turn: Turn,
     pub times: u32,

@@ -15,7 +15,7 @@ use std::thread::Threads;
 const ARENAS: [u32; 4] = [1, 16, 256, 1_024];
 
 /// What a cell has.
-#[derive(Clone, Copy, Debug, PartialEq, Eq)]
+#[derive(Clone, Copy, PartialEq, Eq)]
 pub enum Content {
     /// The nanoseconds of a turn.
     Times,

@@ -1,7 +1,7 @@
 //! What tasks are worth, and answers that are gathered.
 
 use crate::asserts::{holds, same};
-use drive_plan::{Done, GatherFault, Job, PlannedJob, Task, gather_done};
+use drive_plan::{Done, Job, PlannedJob, Task, gather_done};
 use market_types::ArenaId;
 use std::alloc::Global;
 use std::process::Abort;
@@ -45,15 +45,6 @@ fn taken(number: u32) -> Job {
     Job { number, task }
 }
 
-/// The answers are refused so.
-fn refused(rt: &impl Abort, alloc: Global, jobs: &[Job], fault: GatherFault) {
-    let gathered = gather_done(&planned(), answers(rt, alloc, jobs));
-    let Err(found) = gathered else {
-        panic!(rt; "the answers are an outcome");
-    };
-    same(rt, found, fault);
-}
-
 #[test]
 fn a_task_has_its_value(rt: HostRuntime) {
     same(&rt, Task::Sum(0).run(), 0);
@@ -79,41 +70,4 @@ fn answers_come_out_in_order_of_number(rt: HostRuntime) {
         same(&rt, done.value, due.1);
     }
     same(&rt, gathered.len(), 3);
-}
-
-#[test]
-fn a_plan_without_jobs_has_no_answers(rt: HostRuntime) {
-    let Ok(gathered) = gather_done(&[], Vec::new(rt.alloc())) else {
-        panic!(&rt; "no answers are no outcome");
-    };
-    holds(&rt, gathered.is_empty());
-}
-
-#[test]
-fn a_job_answered_twice_is_doubled(rt: HostRuntime) {
-    let twice = [taken(2), taken(1), taken(3), taken(2)];
-    refused(&rt, rt.alloc(), &twice, GatherFault::Doubled(2));
-    let both = [taken(3), taken(2), taken(3), taken(2)];
-    refused(&rt, rt.alloc(), &both, GatherFault::Doubled(2));
-    let lacking = [taken(3), taken(3)];
-    refused(&rt, rt.alloc(), &lacking, GatherFault::Doubled(3));
-}
-
-#[test]
-fn an_answer_to_no_job_of_the_plan_is_doubled(rt: HostRuntime) {
-    let task = Task::Sum(10);
-    for number in [0, 2, 4] {
-        let strange = Job { number, task };
-        let jobs = [taken(1), strange];
-        refused(&rt, rt.alloc(), &jobs, GatherFault::Doubled(number));
-    }
-}
-
-#[test]
-fn a_job_without_an_answer_is_missing(rt: HostRuntime) {
-    refused(&rt, rt.alloc(), &[], GatherFault::Missing(1));
-    let first = [taken(2), taken(1)];
-    refused(&rt, rt.alloc(), &first, GatherFault::Missing(3));
-    let middle = [taken(3), taken(1)];
-    refused(&rt, rt.alloc(), &middle, GatherFault::Missing(2));
 }

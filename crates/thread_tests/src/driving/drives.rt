@@ -4,7 +4,7 @@ ghost use Rattle.std.specs.Prelude.{◌<◌, ◌≤◌};
 use crate::asserts::{holds, same};
 use drive_plan::{Done, Job, Plan, Task, read_plan};
 use edit_history::CallFault;
-use market_drive::{DriveFault, drive, gather_done};
+use market_drive::{DriveFault, drive, drive_to_close, gather_done};
 use market_types::ArenaId;
 use std::alloc::{AllocError, Global};
 use std::process::Abort;
@@ -267,6 +267,21 @@ fn sixteen_workers_answer_65_536_jobs_as_one_does(rt: HostRuntime) {
         same(&rt, (one.number, one.value), (other.number, other.value));
     }
     same(&rt, (one[9_081].number, one[9_081].value), (9_082, 18));
+}
+
+/// When all workers have gone, nobody is placed at either arena, nor in need of a worker.
+#[test]
+fn sixteen_workers_leave_both_arenas(rt: HostRuntime) {
+    let Ok(driven) = drive_to_close(&rt, rt.alloc(), PLAN, 16, &OpenGate) else {
+        panic!(&rt; "no answers");
+    };
+    same(&rt, (driven.done.len(), driven.closed.workers), (3, 0));
+    for arena in [ArenaId::new(1), ArenaId::new(2)] {
+        let view = driven.closed.chronicle.market().view(arena);
+        let empty = matches!(view, Some(shown) if shown.active == 0 && shown.request == 0);
+        holds(&rt, empty);
+    }
+    drop(driven);
 }
 
 /// The plan of the text.

@@ -1,5 +1,0 @@
-use Rattle.market_lock.specs.Seen.{IsSamePass}
-use Rattle.thread_tests.proofs.office.endless.Clerk.cut_all.Given as goal
-
-abbrev pub invariant-loop : goal.invariant-loop
-invariant-loop g l = IsSamePass l.fn.pass l.pass
