@@ -21,11 +21,12 @@ abbrev pub IsDriven : List ℕ → List Done → Type 0
 IsDriven text ds = (p : Planned) × IsServable text p × IsOutcome p.jobs ds
 
 -- the office is that of the plan's market, with a seat for who gives the plan's commands and one for each of so many workers: its market, with every reply, is what
--- its history gives, which has as many calls as the callers made
+-- its history gives, which has as many calls as the callers made, and of which every entry can be read
 abbrev pub IsOfficeOf : Planned → ℕ → Closed → Type 0
 IsOfficeOf p workers closed =
     IsGivenBy (opening_to p.base p.hard (1 + workers) p.levels usual_last) closed.chronicle
     × (closed.calls ≡ length closed.chronicle.log)
+    × (closed.chronicle.from ≡ 0)
 
 -- it is the office of the text's plan
 abbrev pub IsOfficeOfText : List ℕ → ℕ → Closed → Type 0

@@ -2,6 +2,7 @@
 ghost use Rattle.std.specs.Prelude.{◌≡◌, ◌+◌, ◌<◌, ◌≤◌, [], length, vec_len, vec_capacity, AllPairs, IfErr, IfOk, IfSome};
 ghost use Rattle.std.specs.List.{All};
 ghost use Rattle.market_types.specs.State.{opening_to};
+ghost use Rattle.edit_history.specs.declared.keeping.Keeping.TheVariants.{Everything};
 ghost use Rattle.market_lock.specs.Headline.{IsGivenBy};
 ghost use Rattle.drive_plan.specs.Outcome.{IsOutcome};
 ghost use Rattle.market_drive.specs.Driving.{IsLate, IsOfficeOf};
@@ -96,6 +97,7 @@ fn work_together<Y: Yard + Send + Sync, G: Gate + Sync, R: Threads + Wait + Sync
     ensures each { length result.0 ≡ vec_len workers.entry }
     ensures headline { IfSome result.1 (λ closed. IsGivenBy (opening_to terms.base terms.hard (vec_len openers.entry + vec_len workers.entry) terms.levels terms.last) closed.chronicle) }
     ensures calls { IfSome result.1 (λ closed. closed.calls ≡ length closed.chronicle.log) }
+    ensures whole { terms.keeping ≡ Everything → IfSome result.1 (λ closed. closed.chronicle.from ≡ 0) }
 {
     match meet(rt, alloc, terms, openers, workers) {
         Ok(meeting) => {

@@ -120,7 +120,7 @@ impl Sink for UnevenSink {
 }
 
 /// What reads an input.
-#[derive(Clone, Copy, Debug, PartialEq, Eq)]
+#[derive(Clone, Copy, PartialEq, Eq)]
 enum Engine {
     Run,
     Journal,
