@@ -30,10 +30,10 @@ opening-is base hard seats levels last b h s l n =
       last = n;
     }
 
-pub kept-new : (base hard seats levels last places capacity : ℕ) (past recent : List Entry) → IsOpening (opening_to base hard seats levels last) → past ≡ [] → recent ≡ [] → 1 ≤ places → places ≤ 1048576
-    → IsKept (opening_to base hard seats levels last) (opening_to base hard seats levels last) past recent 0 places capacity
-kept-new base hard seats levels last places capacity past recent opened none_past none some few =
-    subst (λ (z : List Entry × List Entry). IsKept (opening_to base hard seats levels last) (opening_to base hard seats levels last) z.0 z.1 0 places capacity) (λ i. (sym none_past i, sym none i)) (
+pub kept-new : (base hard seats levels last places capacity : ℕ) (start market : State) (past recent : List Entry) → IsOpening (opening_to base hard seats levels last)
+    → start ≡ opening_to base hard seats levels last → market ≡ opening_to base hard seats levels last → past ≡ [] → recent ≡ [] → 1 ≤ places → places ≤ 1048576 → IsKept start market past recent 0 places capacity
+kept-new base hard seats levels last places capacity start market past recent opened starts is none_past none some few =
+    subst (λ (z : State × State × List Entry × List Entry). IsKept z.0 z.1 z.2 z.3 0 places capacity) (λ i. (sym starts i, sym is i, sym none_past i, sym none i)) (
     let zero_placed : placed (opening_to base hard seats levels last) ≡ 0 = nobody seats in
     record { opened = opened; legal = refl; calls = All-nil (IsCallOf (length (opening_to base hard seats levels last).seats)); market_is = refl; from_is = refl; room = omega arith; memory = omega arith; few = few; countable = omega arith }
     )
@@ -90,9 +90,11 @@ module _ (start market : State) (past recent : List Entry) (from places capacity
   kept-none all = nil_from_length recent (omega (arith, kept-length, all))
 
   -- what is kept is forgotten
-  pub kept-forget : (past' : List Entry) (from' : ℕ) → past' ≡ past ++ recent → from' ≡ from + length recent → from' + places < 2 ^ 64 → IsKept start market past' [] from' places capacity
-  kept-forget past' from' is long enough =
-      let log : past' ++ [] ≡ past ++ recent = append-nil past' ∙ is in
+  pub kept-forget : (past' recent' : List Entry) (from' capacity' : ℕ) → past' ≡ past ++ recent → recent' ≡ [] → from' ≡ from + length recent → from' + places < 2 ^ 64 → placed market ≤ capacity'
+      → IsKept start market past' recent' from' places capacity'
+  kept-forget past' recent' from' capacity' is none long enough held =
+      let log : past' ++ recent' ≡ past ++ recent = ap (λ (l : List Entry). past' ++ l) none ∙ append-nil past' ∙ is in
+      let empty : length recent' ≡ 0 = ap length none in
       record {
         opened = k.opened;
         legal = subst (λ (l : List Entry). IsLegal start l) (sym log) k.legal;
@@ -100,7 +102,7 @@ module _ (start market : State) (past recent : List Entry) (from places capacity
         market_is = k.market_is ∙ ap (λ (l : List Entry). state_after start (calls_of l)) (sym log);
         from_is = long ∙ sym kept-long ∙ ap length (sym is);
         room = omega (arith, k.room);
-        memory = omega (arith, k.memory);
+        memory = omega arith;
         few = k.few;
         countable = enough;
       }

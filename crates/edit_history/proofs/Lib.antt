@@ -3,3 +3,5 @@ mod Placed
 mod KeptAfter
 mod Rows
 pub mod Crossing
+mod Answering
+mod Opened

@@ -1,6 +1,7 @@
 pub mod Chronicled
 pub mod Answered
 pub mod Places
+pub mod Faults
 pub mod Kept
 pub mod Pasts
 pub mod Falls

@@ -7,6 +7,7 @@ ghost use Rattle.market_types.specs.History.{IsLegal};
 ghost use Rattle.market_types.specs.Opening.{MemoryAside};
 ghost use Rattle.edit_history.specs.Answered.{IsAnswered};
 ghost use Rattle.edit_history.specs.Chronicled.{entry, market_of, opened_by, opened_chronicle, most_forgotten, HasNumbersOf, IsCallOf, IsOpening};
+ghost use Rattle.edit_history.specs.Faults.{bad_places, first_fault};
 ghost use Rattle.edit_history.specs.Parts.{EndsWith};
 ghost use Rattle.edit_history.specs.Places.{placed, takes, taken, LacksPlaces};
 ghost use Rattle.edit_history.specs.declared.fault.CallFault.TheVariants.{HistoryFull, Memory};
@@ -75,11 +76,8 @@ impl Chronicle {
             keeping,
         } = terms;
         match Market::with_last(alloc, base, hard, seats, levels, last) {
-            Err(OpenFault::BadBase) => Err(OpenFault::BadBase),
-            Err(OpenFault::BadHard) => Err(OpenFault::BadHard),
-            Err(OpenFault::BadSeats) => Err(OpenFault::BadSeats),
-            _ if places == 0 || places > MOST_PLACES => Err(OpenFault::BadPlaces),
-            Err(fault) => Err(fault),
+            Err(fault) => Err(first_fault(fault, places)),
+            Ok(_) if are_bad(places) => Err(OpenFault::BadPlaces),
             Ok(market) => Ok(Chronicle {
                 opened: Snapshot::of(&market),
                 market,
@@ -287,6 +285,24 @@ impl Chronicle {
     {
         let unused = self.places - self.recent.len() as u32;
         unused - self.market.placed()
+    }
+}
+
+/// Whether no history can have so many places.
+fn are_bad(places: u32) -> bool
+    ensures { result ≡ bad_places places }
+{
+    places == 0 || places > MOST_PLACES
+}
+
+/// The first fault of a chronicle's numbers, where this one is its market's: bad places come before bad levels, and before want of memory.
+fn first_fault(fault: OpenFault, places: u32) -> OpenFault
+    ensures { result ≡ first_fault fault (bad_places places) }
+{
+    match fault {
+        OpenFault::BadBase | OpenFault::BadHard | OpenFault::BadSeats => fault,
+        _ if are_bad(places) => OpenFault::BadPlaces,
+        _ => fault,
     }
 }
 

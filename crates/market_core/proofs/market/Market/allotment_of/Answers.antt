@@ -1,4 +1,4 @@
-use Rattle.std.proofs.Common.{arith, refl, sym, ap, ◌∙◌, ◌≡◌, ◌+◌, ◌-◌, ◌≤◌, ◌<◌, get_or}
+use Rattle.std.proofs.Common.{arith, refl, sym, ap, subst, ◌∙◌, ◌≡◌, ℕ, ◌+◌, ◌*◌, ◌-◌, ◌≤◌, ◌<◌, get_or}
 use Rattle.std.proofs.lemmas.Option.{get_or_from_slice_get}
 use Rattle.market_types.specs.State.{Arena, State}
 use Rattle.market_types.specs.Claims.{request_of}
@@ -52,8 +52,23 @@ module _ (c : After-before-before) where
   part : c.before-before.result.0 + c.from-request.result ≤ c.at-asked.result
   part = omega (arith, before, asked, demanded, request-within c.args.stored.number c.args.stored c.args.self.now.arenas found-here)
 
+-- a demand fits 32 bits
+a-word : (n : ℕ) → n ≤ 1024 * 65535 → n < 4294967296
+a-word n most = omega arith
+
 pub share-workers-requires-clause-some_demand : goal.share-workers-requires-clause-some_demand
 share-workers-requires-clause-some_demand c = omega (arith, part (goal.at.share-workers-requires-clause-some_demand c).After-before-before, c.if-request-eq0.false)
+
+pub share-workers-requires-clause-small_demand : goal.share-workers-requires-clause-small_demand
+share-workers-requires-clause-small_demand c =
+    let asked = get_or_from_slice_get c.args.division.now.demands.values (c.level-level.result - 1) c.at-asked.result 0 c.at-asked.ensures.exact in
+    a-word _ (subst (λ (n : ℕ). n ≤ 1024 * 65535) asked (c.requires.divided.small (c.level-level.result - 1)))
+
+pub share-workers-requires-clause-within_demand : goal.share-workers-requires-clause-within_demand
+share-workers-requires-clause-within_demand c =
+    let given = get_or_from_slice_get c.args.division.now.assigned.values (c.level-level.result - 1) c.at-given.result 0 c.at-given.ensures.exact in
+    let asked = get_or_from_slice_get c.args.division.now.demands.values (c.level-level.result - 1) c.at-asked.result 0 c.at-asked.ensures.exact in
+    subst (λ (n : ℕ × ℕ). n.0 ≤ n.1) (λ i. (given i, asked i)) (c.requires.divided.within (c.level-level.result - 1))
 
 pub share-workers-requires-clause-part_of_demand : goal.share-workers-requires-clause-part_of_demand
 share-workers-requires-clause-part_of_demand c = part (goal.at.share-workers-requires-clause-part_of_demand c).After-before-before

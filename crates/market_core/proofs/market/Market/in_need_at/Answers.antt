@@ -1,13 +1,15 @@
-use Rattle.std.proofs.Common.{arith, sym, ap, subst, ◌∙◌, ◌≡◌, ◌≤◌, ◌*◌, ◌-◌, length}
+use Rattle.std.proofs.Common.{arith, sym, ap, subst, ◌∙◌, ◌≡◌, ℕ, ◌≤◌, ◌*◌, ◌-◌, List, length}
+use Rattle.std.proofs.lemmas.List.{length-map}
 use Rattle.std.proofs.lemmas.Option.{get_or_from_slice_get}
 use Rattle.std.proofs.Math.Nat.{mul-le-mul_left}
 use Rattle.market_types.specs.State.{State}
-use Rattle.market_types.specs.Allotment.{assigned, at_level, demand}
-use Rattle.arena_store.specs.Arenas.{level_rows}
+use Rattle.market_types.specs.Allotment.{assigned, at_level, demand, total_request}
+use Rattle.arena_store.specs.Arenas.{level_row, level_rows}
 use Rattle.arena_store.specs.Bits.{bits}
+use Rattle.recall_hire.specs.declared.rows.Staffing.{Staffing}
 use Rattle.recall_hire.specs.declared.sharing.Sharing.TheVariants.{Carried}
 use Rattle.recall_hire.specs.Shared.{staffed}
-use Rattle.recall_hire.specs.Staffed.{first_in_need, searches}
+use Rattle.recall_hire.specs.Staffed.{first_in_need, row_of, searches}
 use Rattle.market_core.specs.Divided.{rows_at}
 use Rattle.market_core.proofs.LevelWalk.{Shared, walk-of}
 use Rattle.market_core.proofs.InNeed.{need-rows}
@@ -36,6 +38,28 @@ module _ (c : After-first_in_need) where
 pub first_in_need-requires-clause-few : goal.first_in_need-requires-clause-few
 first_in_need-requires-clause-few c = c.whole.ensures.short
 
+same-le : (n m : ℕ) → n ≡ m → n ≤ m
+same-le n m e = omega arith
+
+pub first_in_need-requires-clause-within : goal.first_in_need-requires-clause-within
+first_in_need-requires-clause-within c =
+    let given = get_or_from_slice_get c.args.division.now.assigned.values (c.args.level - 1) c.at-given.result 0 c.at-given.ensures.exact in
+    let asked = get_or_from_slice_get c.args.division.now.demands.values (c.args.level - 1) c.at-asked.result 0 c.at-asked.ensures.exact in
+    subst (λ (n : ℕ × ℕ). n.0 ≤ n.1) (λ i. (given i, asked i)) (c.requires.shared.divided.within (c.args.level - 1))
+
+pub first_in_need-requires-clause-small : goal.first_in_need-requires-clause-small
+first_in_need-requires-clause-small c =
+    let asked = get_or_from_slice_get c.args.division.now.demands.values (c.args.level - 1) c.at-asked.result 0 c.at-asked.ensures.exact in
+    subst (λ (n : ℕ). n ≤ 1024 * 65535) asked (c.requires.shared.divided.small (c.args.level - 1))
+
+pub first_in_need-requires-clause-part : goal.first_in_need-requires-clause-part
+first_in_need-requires-clause-part c =
+    let asked = get_or_from_slice_get c.args.division.now.demands.values (c.args.level - 1) c.at-asked.result 0 c.at-asked.ensures.exact in
+    same-le _ _ (c.whole.ensures.asked
+    ∙ ap (λ (t : State). total_request (at_level c.args.level t.arenas)) c.self.view_is
+    ∙ sym (c.requires.shared.divided.demands.levels c.args.level c.requires.shared.low c.requires.shared.high)
+    ∙ asked)
+
 pub returns-clause-exact : goal.returns-clause-exact
 returns-clause-exact c =
     let here = (goal.at.returns-clause-exact c).After-first_in_need in
@@ -44,7 +68,16 @@ returns-clause-exact c =
 pub returns-clause-looked : goal.returns-clause-looked
 returns-clause-looked c =
     let here = (goal.at.returns-clause-looked c).After-first_in_need in
-    omega (arith, c.first_in_need.ensures.looked, ap searches (walk here))
+    subst (λ (rows : List Staffing). searches rows ≤ c.first_in_need.result.1) (walk here) c.first_in_need.ensures.looked
+
+pub returns-clause-once : goal.returns-clause-once
+returns-clause-once c =
+    let arenas = at_level c.args.level c.args.self.now.arenas in
+    let rows = c.whole.ensures.rows ∙ ap (λ (t : State). level_rows c.args.level t.arenas) c.self.view_is in
+    subst (λ (n : ℕ). c.first_in_need.result.1 ≤ n) (ap length rows ∙ length-map arenas level_row ∙ sym (length-map arenas (row_of c.args.self.now))) c.first_in_need.ensures.once
+
+pub returns-clause-few : goal.returns-clause-few
+returns-clause-few c = subst (λ (t : State). length t.arenas ≤ 1024) c.self.view_is c.whole.ensures.few
 
 pub returns-clause-most : goal.returns-clause-most
 returns-clause-most c =
