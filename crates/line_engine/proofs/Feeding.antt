@@ -1,5 +1,5 @@
 -- A piece of an input, line by line.
-use Rattle.std.proofs.Common.{◌≡◌, ℕ, ◌+◌, ◌≤◌, false, true≢false, List, [], ◌∷◌, ◌++◌, length, take, Option, refl, sym, ap, ◌∙◌, subst, append_assoc, arith}
+use Rattle.std.proofs.Common.{◌≡◌, ℕ, ◌+◌, ◌<◌, ◌≤◌, ◌^◌, false, true≢false, List, [], ◌∷◌, ◌++◌, length, take, Option, refl, sym, ap, ◌∙◌, subst, append_assoc, length-append, arith}
 use Rattle.std.specs.Io.KnownBytes.{Appends}
 use Rattle.byte_devices.specs.Devices.{WritesFront}
 use Rattle.line_engine.specs.declared.form.LineForm.TheVariants.{Whole, WithoutLf}
@@ -17,6 +17,13 @@ pub record Feeding {S : Type 0} (rule : LineRule S) (longest : ℕ) (start now :
   pub text : List ℕ
   pub cut : input ≡ text ++ rest
   pub takes : Takes rule longest start now taken taken' text waiting unfinished
+
+-- what follows a line is shorter, so that the line can be counted
+pub line-cut : (rest line more : List ℕ) → rest ≡ line ++ 10 ∷ more → length more < length rest
+line-cut rest line more is = omega (arith, ap length is, length-append line (10 ∷ more))
+
+pub room-for-line : (now rest more top : ℕ) → now + rest ≤ top → top < 2 ^ 64 → more < rest → now + 1 < 2 ^ 64
+room-for-line now rest more top few below cut = omega arith
 
 module _ {S : Type 0} (rule : LineRule S) (longest : ℕ) where
   pub feeding-begun : (s : S) (a : Option (List ℕ)) (u piece : List ℕ) → NoLf u → length u ≤ longest + 1 → Feeding rule longest s s a a (u ++ piece) [] u piece

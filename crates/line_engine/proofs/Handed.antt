@@ -1,5 +1,5 @@
 -- Of an unfinished line one byte more than its taker needs is enough.
-use Rattle.std.proofs.Common.{◌≡◌, ℕ, ◌+◌, ◌<◌, ◌≤◌, ◌-◌, min, false, List, [], ◌∷◌, ◌++◌, length, take, map, ◌⊎◌, inl, inr, length-append, length-take, refl, sym, ap, ◌∙◌, arith, append_assoc, append-nil}
+use Rattle.std.proofs.Common.{◌≡◌, ℕ, ◌+◌, ◌<◌, ◌≤◌, ◌-◌, min, Bool, true, false, if◌then◌else◌, subst, List, [], ◌∷◌, ◌++◌, length, take, map, ◌⊎◌, inl, inr, length-append, length-take, refl, sym, ap, ◌∙◌, arith, append_assoc, append-nil}
 use Rattle.std.proofs.lemmas.Bool.{cases_lt, lt-ltb}
 use Rattle.std.proofs.lemmas.List.{take_all, take-take, take-append-le, take_min}
 use Rattle.std.proofs.lemmas.List.Elements.{All-append, All-take}
@@ -97,3 +97,12 @@ kept k xs ys h =
     ap (λ n. xs ++ take n ys) (min_comm (length ys) (k - length xs))
     ∙ (ap (λ zs. xs ++ zs) (take_min (k - length xs) ys)
     ∙ (sym (take-append-add xs ys (k - length xs)) ∙ ap (λ n. take n (xs ++ ys)) (sym room)))
+
+-- it has no LF, and no byte too many
+pub no_lf-kept : (full : Bool) (xs ys zs : List ℕ) (n : ℕ) → NoLf xs → NoLf ys → zs ≡ (if full then xs ++ take n ys else xs) → NoLf zs
+no_lf-kept true xs ys zs n h k e = subst NoLf (sym e) (All-append (λ x. is_lf x ≡ false) xs (take n ys) h (All-take (λ x. is_lf x ≡ false) n ys k))
+no_lf-kept false xs ys zs n h k e = subst NoLf (sym e) h
+
+pub short-kept : (full : Bool) (n n' room most : ℕ) (ys : List ℕ) → n' ≡ (if full then n + length (take room ys) else n) → n ≤ most → room ≤ most - n → n' ≤ most
+short-kept true n n' room most ys e h k = omega (arith, e, length-take room ys)
+short-kept false n n' room most ys e h k = omega (arith, e)

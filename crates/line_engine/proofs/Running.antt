@@ -1,5 +1,5 @@
 -- An input, from its start up to some moment between two pieces.
-use Rattle.std.proofs.Common.{◌≡◌, ℕ, ◌+◌, ◌≤◌, ◌++◌, List, [], length, Bool, false, true≢false, Option, Result, Ok, Err, IfErr, refl, sym, ap, ◌∙◌, subst, arith, append-nil, length-append}
+use Rattle.std.proofs.Common.{◌≡◌, ℕ, ◌+◌, ◌<◌, ◌≤◌, ◌++◌, List, [], length, Bool, false, true≢false, Option, Result, Ok, Err, IfErr, refl, sym, ap, ◌∙◌, subst, arith, append-nil, length-append}
 use Rattle.std.specs.Io.KnownBytes.{Consumes, Appends}
 use Rattle.std.proofs.KnownBytes.{Consumes-trans, Consumes-nil}
 use Rattle.byte_devices.specs.Devices.{WritesFront}
@@ -161,3 +161,19 @@ no-read-fault stops sink_failed (Err TooLong) why is = cc
 no-read-fault stops sink_failed (Err Write) why is = cc
 no-read-fault stops sink_failed (Err Memory) why is = cc
 no-read-fault stops sink_failed (Err (Taker fault)) why is = cc
+
+-- whatever the value would have been, it is this fault
+pub read-again : {T U F : Type 0} (fault : InputFault F) → ◌≡◌ {A = Result T (InputFault F)} (Err fault) (Err Read) → ◌≡◌ {A = Result U (InputFault F)} (Err fault) (Err Read)
+read-again fault is =
+    let same : fault ≡ Read = cc in
+    ap (λ x. Err x) same
+
+pub memory-no-read : {T F : Type 0} → ◌≡◌ {A = Result T (InputFault F)} (Err Memory) (Err Read) → ⊥
+memory-no-read is = cc
+
+pub value-no-read : {T F : Type 0} (x : T) → ◌≡◌ {A = Result T (InputFault F)} (Ok x) (Err Read) → ⊥
+value-no-read x is = cc
+
+-- a buffer of one piece is not empty
+pub some-room : (n m : ℕ) → n ≡ m → m ≡ 65536 → 0 < n
+some-room n m e f = omega arith

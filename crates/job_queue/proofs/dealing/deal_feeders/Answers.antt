@@ -18,3 +18,9 @@ loop-n-preserved g c =
       search rules,
       ◌∙◌ {A = List (OfFeeder g.row.J.Denot)} pushed.items ((λ j. i.4 j ++ made j ∷ []) ∙ sym (map-range_with_len_more (fresh_feeder id) 0 n n (let e : 0 + n ≡ n = omega arith in e))),
     )
+
+pub deal-hand-requires-clause-queue : goal.deal-hand-requires-clause-queue
+deal-hand-requires-clause-queue g c = c.loop-n.invariant.0
+
+pub feeder-requires : goal.feeder-requires
+feeder-requires g c = (c.deal-hand.ensures.queue.1.1, c.deal-hand.ensures.view.1, omega arith)

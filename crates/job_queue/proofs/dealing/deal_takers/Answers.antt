@@ -1,4 +1,4 @@
-use Rattle.std.proofs.Common.{rules, ap, sym, ◌∙◌, ◌≡◌, ◌+◌, ◌++◌, ◌∷◌, [], List, refl}
+use Rattle.std.proofs.Common.{rules, ap, sym, ◌∙◌, ◌≡◌, ◌+◌, ◌++◌, ◌∷◌, [], List, refl, arith}
 use Rattle.atomic_table.specs.Seated.{TableId}
 use Rattle.std.proofs.lemmas.List.FromFn.{map-range_with_len_more}
 use Rattle.job_queue.specs.Seen.{queue_id, fresh_taker, OfTaker}
@@ -19,3 +19,9 @@ loop-n-preserved g c =
       search rules,
       ◌∙◌ {A = List (OfTaker g.row.J.Denot)} pushed.items ((λ j. i.4 j ++ made j ∷ []) ∙ sym (map-range_with_len_more (fresh_taker id) f n (f + n) refl)),
     )
+
+pub deal-hand-requires-clause-queue : goal.deal-hand-requires-clause-queue
+deal-hand-requires-clause-queue g c = c.loop-n.invariant.0
+
+pub taker-requires : goal.taker-requires
+taker-requires g c = (c.deal-hand.ensures.queue.1.1, c.deal-hand.ensures.view.1, omega arith)

@@ -1,12 +1,12 @@
 use Rattle.std.proofs.Common.{◌≡◌, ◌+◌, ◌-◌, ◌≤◌, ◌++◌, length, take, arith, OnOk, OnErr, IfErr, Result, Ok, Err, length-take}
-use Rattle.std.proofs.lemmas.Result.{IfErr-weaker, err_from_is_err_and, on_ok_weaker}
+use Rattle.std.proofs.lemmas.Result.{IfErr-weaker, IfOk-from_err, err_from_is_err_and, on_ok_weaker}
 use Rattle.std.specs.Io.KnownBytes.{Appends}
 use Rattle.byte_devices.specs.Devices.{WritesFront}
 use Rattle.line_engine.specs.Lines.{last_line}
 use Rattle.line_engine.specs.Rule.{after, replies_to}
 use Rattle.line_engine.specs.Input.{Stops, StopsAt}
 use Rattle.line_engine.specs.Pieces.{IsPieceFault}
-use Rattle.line_engine.proofs.Running.{running-begun, running-fed, running-all, within-fed, stopped-reading, stopped-inside, stopped-last, no-read-fault}
+use Rattle.line_engine.proofs.Running.{running-begun, running-fed, running-all, running-prompt, within-fed, stopped-reading, stopped-inside, stopped-last, no-read-fault, read-again}
 use Rattle.line_engine.proofs.engine.take_pieces.Goals as goal
 
 -- two facts of one result
@@ -115,3 +115,33 @@ loop-count-preserved g c =
       sink_working = f.working;
       room = omega (arith, c.read_piece.auto.buffer, l.invariant.room);
     }
+
+pub returns-in_err-count-clause-all : goal.returns-in_err-count-clause-all
+returns-in_err-count-clause-all g c = IfOk-from_err _ _ c.from_residual.ensures.0
+
+pub returns-in_err-count-clause-end : goal.returns-in_err-count-clause-end
+returns-in_err-count-clause-end g c = IfOk-from_err _ _ c.from_residual.ensures.0
+
+pub returns-in_err-count-clause-whole : goal.returns-in_err-count-clause-whole
+returns-in_err-count-clause-whole g c = IfOk-from_err _ _ c.from_residual.ensures.0
+
+pub returns-in_err-count-clause-working : goal.returns-in_err-count-clause-working
+returns-in_err-count-clause-working g c = IfOk-from_err _ _ c.from_residual.ensures.0
+
+pub returns-in_err-feed-clause-all : goal.returns-in_err-feed-clause-all
+returns-in_err-feed-clause-all g c = IfOk-from_err _ _ c.from_residual-in_err-feed.ensures.0
+
+pub returns-in_err-feed-clause-end : goal.returns-in_err-feed-clause-end
+returns-in_err-feed-clause-end g c = IfOk-from_err _ _ c.from_residual-in_err-feed.ensures.0
+
+pub returns-in_err-feed-clause-whole : goal.returns-in_err-feed-clause-whole
+returns-in_err-feed-clause-whole g c = IfOk-from_err _ _ c.from_residual-in_err-feed.ensures.0
+
+pub returns-in_err-feed-clause-working : goal.returns-in_err-feed-clause-working
+returns-in_err-feed-clause-working g c = IfOk-from_err _ _ c.from_residual-in_err-feed.ensures.0
+
+pub returns-in_err-count-clause-prompt : goal.returns-in_err-count-clause-prompt
+returns-in_err-count-clause-prompt g c =
+    let t = g.A.LineTaker in
+    let p = err_from_is_err_and c.from_residual.result c.from_residual.ensures.1 in
+    rw (p.1, p.2) (λ is. running-prompt t.rule t.LONGEST _ _ _ _ _ _ _ _ _ c.loop-count.invariant.running (c.in_err-count.ensures.none_given (read-again _ is)))

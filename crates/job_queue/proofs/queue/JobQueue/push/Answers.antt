@@ -3,7 +3,7 @@ use Rattle.crossbeam_queue.specs.Fifo.{Pushes, Learns}
 use Rattle.job_queue.specs.declared.view.Fed.{Fed}
 use Rattle.job_queue.specs.declared.view.View.{View}
 use Rattle.job_queue.specs.Jobs.{fed, Moment}
-use Rattle.job_queue.specs.Seen.{OfQueue, HasStored}
+use Rattle.job_queue.specs.Seen.{OfQueue, HasStored, feeder_of}
 use Rattle.job_queue.specs.Views.{known_of}
 use Rattle.job_queue.specs.Rule.{Kept, Stored, Saw}
 use Rattle.job_queue.proofs.Steps.{stores_it, learns_it}
@@ -26,3 +26,12 @@ returns-in-Err-clause-full g c =
     let e = c.in-Err.ensures.rule.2 in
     let m : Moment g.row.J.Denot = record { pops = e.2.0; held = e.0 } in
     (m, e.1 ∙ ap (λ (q : OfQueue). q.capacity) c.self.view_is, subst (HasStored m) c.feeder.view_is e.2.1)
+
+pub returns-in-Err-clause-back : goal.returns-in-Err-clause-back
+returns-in-Err-clause-back g c = c.into_job.ensures ∙ ap (λ (x : Fed g.row.J.Denot). x.job) c.in-Err.ensures.rule.0
+
+pub returns-in-Err-clause-same : goal.returns-in-Err-clause-same
+returns-in-Err-clause-same g c =
+    let e = c.in-Err.ensures in
+    let old = c.feeder.inside.hand in
+    ◌∙◌ {b = feeder_of old.table_id (known_of old.me.0.client)} (λ i. feeder_of (e.queue.0 i) (known_of (e.rule.1 i))) c.feeder.view_is
