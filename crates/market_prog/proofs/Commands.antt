@@ -32,6 +32,11 @@ pub command_with_subcommand_asked : (old new : Command) (app : App) → out-Comm
 command_with_subcommand_asked old new app is =
     command_with_setting old new (record (out-Command old) { subcommand_required = true }) (on_top (λ s. record s { subcommand_required = true })) app is refl refl
 
+-- what an option's setting changes of its rule
+pub rule_with_setting : (old new fields : Arg) (change : Rule → Rule) (rule : Rule) → new ≡ fields → rule_of fields ≡ change (rule_of old) → rule_of old ≡ rule
+    → rule_of new ≡ change rule
+rule_with_setting old new fields change rule is changed was = ap rule_of is ∙ changed ∙ ap change was
+
 -- one more option
 pub command_with_arg : (old new : Command) (a : Arg) (app : App) (rule : Rule) → AddsArg old a new → rule_of a ≡ rule → a.global ≡ false → IsCommandOf old app
     → IsCommandOf new (with_rule app rule)

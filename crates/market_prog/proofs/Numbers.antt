@@ -1,9 +1,34 @@
--- A word in a range of clap's, read as a number.
-use Rattle.std.proofs.Common.{◌≡◌, ◌<◌, ◌≤◌, ◌^◌, ℕ, Bool, true, false, refl, arith, Result, Ok, Err, pos}
+-- A range of clap's from 1 to a number, and a word in it, read as a number.
+use Rattle.std.proofs.Common.{◌≡◌, ◌∙◌, ◌<◌, ◌≤◌, ◌^◌, ℕ, Bool, true, false, cond, refl, ap, subst, arith, Result, Ok, Err, Some, ℤ, pos, int_lt, FitsSigned, of_z, to_z, to_z-of_z, w64}
+use Rattle.std.specs.Int.{int_min}
 use Rattle.std.specs.Str.Parse.{ParsesUnsigned, starts_with_minus}
 use Rattle.std.proofs.lemmas.Int.{ints}
-use Rattle.clap.specs.Values.{IsSignedIn}
+use Rattle.clap.specs.Values.{IsSignedIn, NarrowsTo, signed_between}
 use Rattle.clap.specs.Walk.{Text}
+use Rattle.clap.specs.declared.builder.value_parser.ValueParser.{ValueParser}
+use Rattle.clap.specs.declared.builder.value_parser.ValueParser.TheVariants.{Signed}
+
+-- a number of 32 bits is the lesser of it and the greatest of them
+least_end : (high : ℕ) → high < 2 ^ 32 → int_min (pos 4294967295) (pos high) ≡ pos high
+least_end high fits = go (int_lt (pos high) (pos 4294967295)) refl
+  where
+    go : (b : Bool) → int_lt (pos high) (pos 4294967295) ≡ b → cond b (pos high) (pos 4294967295) ≡ pos high
+    go true below = refl
+    go false above =
+        let same : 4294967295 ≡ high = omega (arith, ints) in
+        ap pos same
+
+-- the numbers of 32 bits, narrowed to those from 1 to high
+pub range_narrows : (high : ℕ) (given parser : ValueParser) (first last whole : ℤ) → high < 2 ^ 32 → given ≡ Signed (pos 0) (pos 4294967295)
+    → first ≡ pos 1 → last ≡ to_z w64 (of_z w64 whole) → whole ≡ pos high → NarrowsTo given (Some first) (Some last) parser
+    → parser ≡ Signed (pos 1) (pos high)
+range_narrows high given parser first last whole fits is starts ends whole_is narrowed =
+    let small : FitsSigned w64 (pos high) = record { sfits = omega arith } in
+    let at_high = subst (λ z. last ≡ to_z w64 (of_z w64 z)) whole_is ends ∙ to_z-of_z small in
+    let all = subst (λ p. NarrowsTo p (Some first) (Some last) parser) is narrowed in
+    let from_one = subst (λ z. NarrowsTo (Signed (pos 0) (pos 4294967295)) (Some z) (Some last) parser) starts all in
+    let to_high = subst (λ z. NarrowsTo (Signed (pos 0) (pos 4294967295)) (Some (pos 1)) (Some z) parser) at_high from_one in
+    to_high ∙ ap (signed_between (pos 1)) (least_end high fits)
 
 -- a word that spells a number from 1 to high parses as that number
 pub range_parses : {E : Type 0} (high : ℕ) (word : Text) (r : Result ℕ E) → high < 2 ^ 32 → IsSignedIn (pos 1) (pos high) word → ParsesUnsigned 32 10 word r

@@ -1,7 +1,7 @@
 //! The words of the command line.
 ghost use Rattle.std.specs.Prelude.{◌≡◌, ◌≤◌, ◌<◌, IfOk, codes, false, map};
-ghost use Rattle.clap.specs.Words.{App, FailsBy, app_of, fault_of, found_of, rows_of, rule_of, with_subcommand};
-ghost use Rattle.market_prog.specs.Words.{Chooses, IsChoiceOf, IsDriveOf, IsNumberOf, IsMarketOf, asks, drive_app, flag_rule, market_app, number_rule, replay_app, run_app, script_app};
+ghost use Rattle.clap.specs.Words.{App, FailsBy, app_of, fault_of, found_of, new_app, rows_of, rule_of, with_rule, with_subcommand};
+ghost use Rattle.market_prog.specs.Words.{Chooses, IsChoiceOf, IsDriveOf, IsNumberOf, IsMarketOf, asks, drive_app, flag_rule, market_app, number_rule, replay_app, run_app, script_app, with_choice_asked};
 ghost use Rattle.market_prog.specs.Command.{IsCommandOf};
 ghost use Rattle.market_prog.specs.Passed.{HasNumber, HasMarketNumbers, NamesSubcommand};
 
@@ -127,6 +127,19 @@ impl NumberOption {
     }
 }
 
+/// A command with one more option with a number, where there was memory to make the command.
+fn with_number<'a>(
+    command: Result<Command<'a>, AllocError>,
+    alloc: Global,
+    option: NumberOption,
+) -> Result<Command<'a>, AllocError>
+    requires { 1 ≤ option.high }
+    ensures { (app : App) → IfOk command.entry (λ c. IsCommandOf c app) → IfOk result (λ c.
+        IsCommandOf c (with_rule app (number_rule option.name.now option.default.now option.high))) }
+{
+    command?.arg(option.arg(alloc))
+}
+
 /// A subcommand that reads a script.
 fn script_command<'a>(
     alloc: Global,
@@ -136,14 +149,12 @@ fn script_command<'a>(
 ) -> Result<Command<'a>, AllocError>
     ensures { IfOk result (λ c. IsCommandOf c (script_app name.now)) }
 {
-    Command::new(alloc, name)
-        .about(about)
-        .after_help(help)
-        .arg(BASE.arg(alloc))?
-        .arg(HARD.arg(alloc))?
-        .arg(SEATS.arg(alloc))?
-        .arg(LEVELS.arg(alloc))?
-        .arg(LAST.arg(alloc))
+    let command = Ok(Command::new(alloc, name).about(about).after_help(help));
+    let command = with_number(command, alloc, BASE);
+    let command = with_number(command, alloc, HARD);
+    let command = with_number(command, alloc, SEATS);
+    let command = with_number(command, alloc, LEVELS);
+    with_number(command, alloc, LAST)
 }
 
 /// An option without a value as clap's.
@@ -157,21 +168,35 @@ fn flag_arg<'a>(alloc: Global, name: &'static str, help: &'static str) -> Arg<'a
         .help(help)
 }
 
+/// A command with one more option without a value, where there was memory to make the command.
+fn with_flag<'a>(
+    command: Result<Command<'a>, AllocError>,
+    alloc: Global,
+    name: &'static str,
+    help: &'static str,
+) -> Result<Command<'a>, AllocError>
+    ensures { (app : App) → IfOk command.entry (λ c. IsCommandOf c app) → IfOk result (λ c.
+        IsCommandOf c (with_rule app (flag_rule name.now))) }
+{
+    command?.arg(flag_arg(alloc, name, help))
+}
+
 /// The subcommand `run`.
 fn run_command<'a>(alloc: Global) -> Result<Command<'a>, AllocError>
     ensures { IfOk result (λ c. IsCommandOf c run_app) }
 {
-    script_command(
+    let command = script_command(
         alloc,
         "run",
         "Answers a script of commands, line by line",
         help::OF_RUN,
-    )?
-    .arg(flag_arg(
+    );
+    with_flag(
+        command,
         alloc,
         "journal",
         "Writes the journal of the script's commands in place of the replies",
-    ))
+    )
 }
 
 /// The subcommand `explain`.
@@ -199,15 +224,16 @@ fn replay_command<'a>(alloc: Global) -> Command<'a>
 fn drive_command<'a>(alloc: Global) -> Result<Command<'a>, AllocError>
     ensures { IfOk result (λ c. IsCommandOf c drive_app) }
 {
-    Command::new(alloc, "drive")
+    let command = Command::new(alloc, "drive")
         .about("Runs a plan of jobs by workers that the market moves, and writes their values")
-        .after_help(help::OF_DRIVE)
-        .arg(WORKERS.arg(alloc))?
-        .arg(flag_arg(
-            alloc,
-            "progress",
-            "Tells on standard error how many jobs are done, also where that is no terminal",
-        ))
+        .after_help(help::OF_DRIVE);
+    let command = with_number(Ok(command), alloc, WORKERS);
+    with_flag(
+        command,
+        alloc,
+        "progress",
+        "Tells on standard error how many jobs are done, also where that is no terminal",
+    )
 }
 
 /// A command with one more subcommand, where there was memory to make it.
@@ -221,19 +247,25 @@ fn with_made<'a>(
     command.subcommand(subcommand?)
 }
 
-/// The program's command.
-fn market_command<'a>(alloc: Global) -> Result<Command<'a>, AllocError>
-    ensures { IfOk result (λ c. app_of c ≡ market_app) }
+/// The program's command without its subcommands.
+fn bare_command<'a>(alloc: Global) -> Command<'a>
+    ensures { IsCommandOf result (with_choice_asked (new_app (codes "market"))) }
 {
-    let command = Command::new(alloc, "market")
+    Command::new(alloc, "market")
         .about(
             "The worker market of a task runtime: who gets how many workers, by priority and demand",
         )
         .version(VERSION)
         .after_help(help::OF_MARKET)
         .arg_required_else_help(true)
-        .subcommand_required(true);
-    let command = with_made(command, run_command(alloc))?;
+        .subcommand_required(true)
+}
+
+/// The program's command.
+fn market_command<'a>(alloc: Global) -> Result<Command<'a>, AllocError>
+    ensures { IfOk result (λ c. app_of c ≡ market_app) }
+{
+    let command = with_made(bare_command(alloc), run_command(alloc))?;
     let command = with_made(command, explain_command(alloc))?;
     let command = command.subcommand(replay_command(alloc))?;
     with_made(command, drive_command(alloc))

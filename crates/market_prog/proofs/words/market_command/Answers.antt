@@ -1,19 +1,10 @@
-use Rattle.std.proofs.Common.{codes, refl, true}
 use Rattle.std.proofs.lemmas.Result.{IfOk-weaker}
-use Rattle.clap.specs.Simple.{new_app, on_top}
-use Rattle.market_prog.specs.Command.{IsCommandOf}
-use Rattle.market_prog.proofs.Commands.{command_with_help_asked, command_with_setting, command_with_subcommand, command_with_subcommand_asked}
+use Rattle.market_prog.proofs.Commands.{command_with_subcommand}
 use Rattle.market_prog.proofs.words.market_command.Goals as goal
 
 pub returns : goal.returns
 returns c =
-    let start : IsCommandOf c.new.result (new_app (codes "market")) = record { is = c.new.ensures.app; local = c.new.ensures.local } in
-    let about = command_with_setting _ _ _ (λ a. a) _ c.about.ensures refl refl start in
-    let version = command_with_setting _ _ _ (on_top (λ s. record s { has_version = true })) _ c.version.ensures refl refl about in
-    let after = command_with_setting _ _ _ (λ a. a) _ c.after_help.ensures refl refl version in
-    let help = command_with_help_asked _ _ _ c.arg_required_else_help.ensures after in
-    let asked = command_with_subcommand_asked _ _ _ c.subcommand_required-command.ensures help in
-    let run = c.in_ok-command.ensures _ _ asked c.run_command.ensures in
+    let run = c.in_ok-command.ensures _ _ c.bare_command.ensures c.run_command.ensures in
     let explain = c.in_ok-command-2.ensures _ _ run c.explain_command.ensures in
     let replay = command_with_subcommand _ _ _ _ _ c.in_ok-command-3.ensures c.replay_command.ensures explain in
     IfOk-weaker c.with_made-3.result _ _ (λ r is. is.is) (c.with_made-3.ensures _ _ replay c.drive_command.ensures)

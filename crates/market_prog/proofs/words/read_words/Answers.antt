@@ -1,4 +1,4 @@
-use Rattle.std.proofs.Common.{◌≡◌, ◌∙◌, sym, ap, subst, map, Some}
+use Rattle.std.proofs.Common.{◌≡◌, ◌∙◌, sym, ap, subst, map, Some, option_map}
 use Rattle.clap.specs.Words.{found_of, is_simple, rows_of, subcommand_of, subcommand_rows_of}
 use Rattle.clap.specs.Faults.{fault_of, is_simple_and_free}
 use Rattle.market_prog.specs.Passed.{NamesSubcommand}
@@ -36,3 +36,15 @@ choice_of-requires c =
     sym run.1 ∙ (ap (λ a. subcommand_of a words) (sym is) ∙ sym rows.1 ∙ met) in
     let same : run.0 ≡ (c.in-Some.name.now, rows_of (found_of c.in-Some.found.now)) = cc in
     subst NamesSubcommand same run.2
+
+pub unreachable-requires : goal.unreachable-requires
+unreachable-requires c =
+    let is = c.in_ok-market_command.ensures in
+    let words = map (λ s. s.now) c.args.words.now in
+    let rows = c.in_ok-matches.ensures.matches (ap is_simple is ∙ market_is_simple) in
+    let fault = c.in_ok-matches.ensures.kinds (ap is_simple_and_free is ∙ market_is_free) in
+    let run = entered_one words (ap (λ a. fault_of a words) (sym is) ∙ fault) in
+    let none = rw c.in_default.is at c.subcommand.ensures.rows in
+    let some = rows.1 ∙ ap (λ a. subcommand_of a words) is ∙ run.1 in
+    let bad = none ∙ ap (option_map (λ p. p.1)) some in
+    cc
