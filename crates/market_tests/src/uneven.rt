@@ -26,11 +26,17 @@ const JOURNAL: &[u8] = b"\
 {\"cmd\":\"show 1\",\"reply\":\"arena 1 request 3 allot 3 top yes active 0 recall 0 hire 3\",\"seat\":0}
 ";
 
-const EXPLANATION: &[u8] = b"\
-value 8 limit 7 effective 7 demand 3 workers 3
-level high   demand        0 assigned     0 left     3
-level normal demand        3 assigned     3 left     0
-arena       1 request     3 carry        0 product          9 allot     3 rest        0 top yes active     0 recall     0 hire     3
+/// Five workers for two arenas of three.
+const FIVE: &[u8] = b"0 control 6\n0 open 8 1 normal\n0 open 8 1 normal\n0 open 8 1 normal\n\
+    0 request 1 3\n0 request 3 4\n";
+
+const FIVE_EXPLAINED: &[u8] = b"\
+value 6 limit 5 effective 5 demand 7 workers 5
+level high   demand        0 assigned     0 left     5
+level normal demand        7 assigned     5 left     0
+arena       3 request     4 carry        0 product         20 allot     2 rest        6 top yes active     0 recall     0 hire     2
+arena       2 request     0 carry        - product          - allot     0 rest        - top no  active     0 recall     0 hire     0
+arena       1 request     3 carry        6 product         21 allot     3 rest        0 top yes active     0 recall     0 hire     3
 level low    demand        0 assigned     0 left     0
 ";
 
@@ -141,7 +147,8 @@ impl Engine {
     /// An input.
     fn text(self) -> &'static [u8] {
         match self {
-            Engine::Run | Engine::Journal | Engine::Explain => SCRIPT,
+            Engine::Run | Engine::Journal => SCRIPT,
+            Engine::Explain => FIVE,
             Engine::Replay => JOURNAL,
             Engine::Drive => PLAN,
         }
@@ -152,7 +159,7 @@ impl Engine {
         match self {
             Engine::Run => REPLIES,
             Engine::Journal => JOURNAL,
-            Engine::Explain => EXPLANATION,
+            Engine::Explain => FIVE_EXPLAINED,
             Engine::Replay => b"legal 3\n",
             Engine::Drive => OUTCOME,
         }
