@@ -1,0 +1,199 @@
+//! The loads.
+use crate::author::Author;
+use crate::dice::Dice;
+use crate::digest::Digest;
+use crate::journals::{Style, journal};
+use crate::plans::{CREWS, Crew, plan};
+use crate::scripts::script;
+use crate::shape::{SHAPES, Shape};
+use anyhow::Result;
+use byte_devices::TestSource;
+use market_core::Market;
+use market_prog::{run_drive, run_journal, run_replay, run_script};
+use std::alloc::Global;
+use std::sync::Wait;
+use std::thread::Threads;
+
+/// A job that a user waits for.
+#[derive(Clone, Copy)]
+pub enum Load {
+    /// Journals are replayed that were written here.
+    Replay,
+    /// Journals are replayed that other tools wrote.
+    Foreign,
+    /// The journals of scripts are written.
+    Journal,
+    /// Scripts are answered.
+    Run,
+    /// A program gives commands to markets of its own.
+    Embed,
+    /// Plans are driven.
+    Drive,
+}
+
+impl Load {
+    /// Every load, as the program runs them.
+    pub const ALL: [Load; 6] = [
+        Load::Replay,
+        Load::Foreign,
+        Load::Journal,
+        Load::Run,
+        Load::Embed,
+        Load::Drive,
+    ];
+
+    /// Its word on the command line.
+    pub fn name(self) -> &'static str {
+        match self {
+            Load::Replay => "replay",
+            Load::Foreign => "foreign",
+            Load::Journal => "journal",
+            Load::Run => "run",
+            Load::Embed => "embed",
+            Load::Drive => "drive",
+        }
+    }
+}
+
+/// How much is done, and with which numbers at random.
+#[derive(Clone, Copy)]
+pub struct Size {
+    pub seed: u32,
+    /// How many calls, entries or jobs each input has.
+    pub count: u32,
+    /// How many inputs of each kind there are.
+    pub rounds: u32,
+}
+
+/// The calls of an input in a market of this shape. No two inputs have the same.
+fn author(size: Size, round: u32, index: u64, shape: Shape) -> Author {
+    let index = u64::from(round).wrapping_mul(1_000).wrapping_add(index);
+    Author::new(Dice::new(size.seed, index), shape)
+}
+
+/// Makes journals that are spelled so, and replays them. Every second one is forged at its end.
+fn replay(
+    alloc: Global,
+    size: Size,
+    round: u32,
+    styles: &[Style],
+    digest: &mut Digest,
+) -> Result<()> {
+    let mut index: u64 = 0;
+    for shape in SHAPES {
+        for style in styles {
+            let mut author = author(size, round, index, shape);
+            let forged = index % 2 == 1;
+            let journal = journal(alloc, &mut author, shape, *style, size.count, forged)?;
+            run_replay(alloc, &mut TestSource::new(&journal), digest)?;
+            index = index.wrapping_add(1);
+        }
+    }
+    Ok(())
+}
+
+/// Makes scripts, and answers them or writes their journals.
+fn work_scripts(
+    alloc: Global,
+    size: Size,
+    round: u32,
+    journals: bool,
+    digest: &mut Digest,
+) -> Result<()> {
+    let mut index: u64 = 0;
+    for shape in SHAPES {
+        let mut author = author(size, round, index, shape);
+        let script = script(alloc, &mut author, shape.levels, size.count)?;
+        let source = &mut TestSource::new(&script);
+        let unread = if journals {
+            run_journal(alloc, shape.options(), source, digest)?
+        } else {
+            run_script(alloc, shape.options(), source, digest)?
+        };
+        digest.mix(unread);
+        index = index.wrapping_add(1);
+    }
+    Ok(())
+}
+
+/// Gives commands to a market of this shape.
+fn embed_one(
+    alloc: Global,
+    author: &mut Author,
+    shape: Shape,
+    calls: u32,
+    digest: &mut Digest,
+) -> Result<()> {
+    let options = shape.options();
+    let (base, hard, last) = (options.base, options.hard, options.last);
+    let mut market = Market::with_last(alloc, base, hard, shape.seats, shape.levels, last)?;
+    for _ in 0..calls {
+        let call = author.next_call();
+        if call.seat.get() < market.seats() {
+            digest.mix_reply(&market.apply(alloc, call.seat, call.cmd)?);
+        }
+    }
+    Ok(())
+}
+
+/// Gives commands to markets of all shapes.
+fn embed(alloc: Global, size: Size, round: u32, digest: &mut Digest) -> Result<()> {
+    let mut index: u64 = 0;
+    for shape in SHAPES {
+        let mut author = author(size, round, index, shape);
+        embed_one(alloc, &mut author, shape, size.count, digest)?;
+        index = index.wrapping_add(1);
+    }
+    Ok(())
+}
+
+/// Makes plans, and drives them.
+fn drive<T: Threads + Wait + Sync>(
+    rt: &T,
+    alloc: Global,
+    size: Size,
+    round: u32,
+    digest: &mut Digest,
+) -> Result<()> {
+    let mut index = u64::from(round).wrapping_mul(1_000);
+    for crew in CREWS {
+        let mut dice = Dice::new(size.seed, index);
+        let plan = plan(alloc, &mut dice, crew, size.count)?;
+        run_drive(rt, alloc, crew.workers, &mut TestSource::new(&plan), digest)?;
+        index = index.wrapping_add(1);
+    }
+    Ok(())
+}
+
+/// One round of a load.
+fn work_once<T: Threads + Wait + Sync>(
+    rt: &T,
+    alloc: Global,
+    load: Load,
+    size: Size,
+    round: u32,
+    digest: &mut Digest,
+) -> Result<()> {
+    match load {
+        Load::Replay => replay(alloc, size, round, &[Style::Ours], digest),
+        Load::Foreign => replay(alloc, size, round, &Style::FOREIGN, digest),
+        Load::Journal => work_scripts(alloc, size, round, true, digest),
+        Load::Run => work_scripts(alloc, size, round, false, digest),
+        Load::Embed => embed(alloc, size, round, digest),
+        Load::Drive => drive(rt, alloc, size, round, digest),
+    }
+}
+
+/// All rounds of a load. The result is a number for all that came out.
+pub fn work<T: Threads + Wait + Sync>(
+    rt: &T,
+    alloc: Global,
+    load: Load,
+    size: Size,
+) -> Result<u64> {
+    let mut digest = Digest::new();
+    for round in 0..size.rounds {
+        work_once(rt, alloc, load, size, round, &mut digest)?;
+    }
+    Ok(digest.value())
+}
