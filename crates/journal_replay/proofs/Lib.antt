@@ -8,3 +8,6 @@ mod Ascii
 mod Back
 mod Few
 mod Short
+mod PlainTexts
+mod PlainWritten
+mod PushedEntries

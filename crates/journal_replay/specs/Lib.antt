@@ -5,3 +5,4 @@ pub mod Growth
 pub mod VerdictTexts
 pub mod Legality
 pub mod Written
+pub mod Plain

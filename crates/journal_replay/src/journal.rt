@@ -8,7 +8,7 @@ ghost use Rattle.journal_replay.specs.Verdicts.{most_entries, verdict};
 
 use crate::header::{Extent, Header};
 use crate::law::journals_of_legal_histories_are_legal;
-use crate::line::{Texts, entry_line, header_line};
+use crate::line::{header_line, push_entry};
 use crate::verdict::Verdict;
 use byte_devices::{OutFault, Sink, put_all};
 use edit_history::{Chronicle, Part};
@@ -38,7 +38,6 @@ fn entry_at(entries: &[Entry], index: usize) -> &Entry
 /// Writes the lines of entries behind what waits, piece by piece, in a market of so many levels. What waits at the end is not
 /// written yet.
 fn write_lines<W: Sink>(
-    alloc: Global,
     levels: u32,
     entries: &[Entry],
     waiting: &mut Vec<u8>,
@@ -50,11 +49,8 @@ fn write_lines<W: Sink>(
     ensures prefix { OnErr result (WritesFront (W.taken sink.old) (W.taken sink.new) (waiting.old.items ++ entry_lines levels entries.now)) }
     ensures cause { IfErr result (λ fault. IsOutFault fault (W.failed sink.new)) }
 {
-    let mut line = Vec::new(alloc);
-    let mut texts = Texts::new(alloc);
     for index in 0..entries.len() {
-        line = entry_line(line, &mut texts, levels, entry_at(entries, index))?;
-        push_line(waiting, &line)?;
+        push_entry(waiting, levels, entry_at(entries, index))?;
         if waiting.len() >= PIECE {
             put_all(sink, waiting)?;
             waiting.clear();
@@ -65,7 +61,6 @@ fn write_lines<W: Sink>(
 
 /// Writes the lines of all entries of a chronicle behind what waits. What waits at the end is not written yet.
 fn write_entries<W: Sink>(
-    alloc: Global,
     chronicle: &Chronicle,
     waiting: &mut Vec<u8>,
     sink: &mut W,
@@ -79,7 +74,7 @@ fn write_entries<W: Sink>(
     ensures cause { IfErr result (λ fault. IsOutFault fault (W.failed sink.new)) }
 {
     let levels = chronicle.market().levels();
-    write_lines(alloc, levels, chronicle.kept(), waiting, sink)
+    write_lines(levels, chronicle.kept(), waiting, sink)
 }
 
 /// Writes the header of a journal. It is of version 2 where that tells all of it, else of version 3: where the last number is
@@ -115,7 +110,7 @@ pub fn write_part<W: Sink>(
     ensures cause { IfErr result (λ fault. IsOutFault fault (W.failed sink.new)) }
 {
     let mut waiting = Vec::new(alloc);
-    write_lines(alloc, levels, &part.entries, &mut waiting, sink)?;
+    write_lines(levels, &part.entries, &mut waiting, sink)?;
     put_all(sink, &waiting)?;
     Ok(())
 }
@@ -142,7 +137,7 @@ pub fn write_journal<W: Sink>(
     let header = Header::of(chronicle.market(), Extent::Limited);
     let line = header_line(alloc, &header)?;
     push_line(&mut waiting, &line)?;
-    write_entries(alloc, chronicle, &mut waiting, sink)?;
+    write_entries(chronicle, &mut waiting, sink)?;
     put_all(sink, &waiting)?;
     Ok(())
 }

@@ -1,14 +1,13 @@
 //! The lines of a journal, without their LF.
-ghost use Rattle.std.specs.Prelude.{◌≡◌, IfOk, IsUtf8};
+ghost use Rattle.std.specs.Prelude.{◌≡◌, ◌++◌, codes, decimal, IfOk, OnOk};
 ghost use Rattle.serde_json.specs.View.{view};
-ghost use Rattle.journal_replay.specs.Journal.{entry_line, fields_line, header_line, second_data, second_line, third_data, third_line};
+ghost use Rattle.journal_replay.specs.Journal.{entry_line, header_line, second_data, second_line, third_data, third_line};
 
 use crate::header::Header;
-use json::Writer;
-use market_types::{Entry, push_cmd, push_reply};
+use itoa::Buffer;
+use market_types::{Entry, SeatNo, push_cmd, push_reply};
 use serde_json::{Value, json};
 use std::alloc::{AllocError, Global};
-use std::str;
 
 /// The line of a header. It is of version 3 only where version 2 doesn't tell all of it.
 pub(crate) fn header_line(alloc: Global, header: &Header) -> Result<Vec<u8>, AllocError>
@@ -54,66 +53,35 @@ fn third_value(alloc: Global, header: &Header) -> Result<Value, AllocError>
     json!(in alloc; {"base": base, "hard": hard, "journal": 3u64, "last": last, "levels": levels, "seats": seats})
 }
 
-/// Room for the two texts of an entry, which is used again for each.
-#[derive(Drop)]
-pub(crate) struct Texts {
-    cmd: Vec<u8>,
-    reply: Vec<u8>,
-}
-
-impl Texts {
-    /// Room that grows with the first entry.
-    pub(crate) fn new(alloc: Global) -> Self {
-        Texts {
-            cmd: Vec::new(alloc),
-            reply: Vec::new(alloc),
-        }
+/// A seat's number in decimal.
+#[tactic(auto, using(std::proofs::lemmas::Fmt::decimal_digit))]
+fn push_seat(waiting: &mut Vec<u8>, seat: SeatNo) -> Result<(), AllocError>
+    ensures { OnOk result (waiting.new.items ≡ waiting.old.items ++ decimal seat) }
+{
+    let number = seat.get();
+    if number < 10 {
+        // Most seats have one digit, which needs no buffer.
+        waiting.push(b'0' + number)?;
+        return Ok(());
     }
+    let mut digits = Buffer::new();
+    waiting.extend_from_slice(digits.format(number).as_bytes())
 }
 
-/// The line of an entry, in a market of so many levels. It takes the memory of another line.
-pub(crate) fn entry_line(
-    other: Vec<u8>,
-    texts: &mut Texts,
+/// Puts an entry's line and its LF at the end of what waits, in a market of so many levels. What is written of commands and
+/// replies stands in a JSON string as it is: so it is written where it is to stand, and not looked over for escapes.
+pub(crate) fn push_entry(
+    waiting: &mut Vec<u8>,
     levels: u32,
     entry: &Entry,
-) -> Result<Vec<u8>, AllocError>
-    ensures { IfOk result (λ line. line.items ≡ entry_line levels entry.now) }
+) -> Result<(), AllocError>
+    ensures { OnOk result (waiting.new.items ≡ waiting.old.items ++ (entry_line levels entry.now ++ codes "\n")) }
 {
-    texts.cmd.clear();
-    push_cmd(&mut texts.cmd, &entry.call.cmd, levels)?;
-    texts.reply.clear();
-    push_reply(&mut texts.reply, &entry.reply)?;
-    let (cmd, reply) = (as_text(&texts.cmd), as_text(&texts.reply));
-    fields_line(other, cmd, reply, u64::from(entry.call.seat.get()))
-}
-
-/// Bytes of a text, as one.
-fn as_text(bytes: &[u8]) -> &str
-    requires { IsUtf8 bytes.now }
-    ensures { result.now ≡ bytes.now }
-{
-    let Ok(text) = str::from_utf8(bytes) else {
-        unreachable!()
-    };
-    text
-}
-
-/// The line of these fields, in the memory of another line. It is written with the writer that `Value` itself writes with: to
-/// build an object for each line would take longer than all else.
-fn fields_line(other: Vec<u8>, cmd: &str, reply: &str, seat: u64) -> Result<Vec<u8>, AllocError>
-    ensures { IfOk result (λ line. line.items ≡ fields_line cmd.now reply.now seat) }
-{
-    let mut other = other;
-    other.clear();
-    let mut line = Writer::new(other);
-    line.begin_object()?;
-    line.key("cmd")?;
-    line.string(cmd)?;
-    line.key("reply")?;
-    line.string(reply)?;
-    line.key("seat")?;
-    line.u64(seat)?;
-    line.end_object()?;
-    Ok(line.into_inner())
+    waiting.extend_from_slice(b"{\"cmd\":\"")?;
+    push_cmd(waiting, &entry.call.cmd, levels)?;
+    waiting.extend_from_slice(b"\",\"reply\":\"")?;
+    push_reply(waiting, &entry.reply)?;
+    waiting.extend_from_slice(b"\",\"seat\":")?;
+    push_seat(waiting, entry.call.seat)?;
+    waiting.extend_from_slice(b"}\n")
 }

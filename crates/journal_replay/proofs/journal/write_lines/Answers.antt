@@ -7,13 +7,9 @@ use Rattle.journal_replay.proofs.Lines.{at-err, lines-more, fronts-more, fronts-
 use Rattle.journal_replay.proofs.journal.write_lines.Goals as goal
 use Rattle.journal_replay.proofs.journal.write_lines.Goals.{then-len-ge-PIECE+in_ok-put_all, else-len-ge-PIECE}
 
-pub returns-in_err-line-clause-prefix : goal.returns-in_err-line-clause-prefix
-returns-in_err-line-clause-prefix g c =
+pub returns-in_err-push_entry-clause-prefix : goal.returns-in_err-push_entry-clause-prefix
+returns-in_err-push_entry-clause-prefix g c =
     at-err _ c.from_residual.result (front-of-whole _ _ c.loop-index.waiting.items c.args.waiting.now.items c.args.levels c.loop-index.index c.args.entries.now c.loop-index.invariant.1)
-
-pub returns-in_err-push_line-clause-prefix : goal.returns-in_err-push_line-clause-prefix
-returns-in_err-push_line-clause-prefix g c =
-    at-err _ c.from_residual-in_err-push_line.result (front-of-whole _ _ c.loop-index.waiting.items c.args.waiting.now.items c.args.levels c.loop-index.index c.args.entries.now c.loop-index.invariant.1)
 
 pub returns-in_err-put_all-clause-prefix : goal.returns-in_err-put_all-clause-prefix
 returns-in_err-put_all-clause-prefix g c =
@@ -21,13 +17,12 @@ returns-in_err-put_all-clause-prefix g c =
     let log : List Entry = c.args.entries.now in
     let start : List ℕ = c.args.waiting.now.items in
     let e : Entry = c.entry_at.result.now in
-    let text : c.deref.result.now ≡ entry_line levels e = c.deref.ensures.value ∙ c.in_ok-line.ensures in
-    let more : c.push_line.new.waiting.items ≡ c.loop-index.waiting.items ++ (entry_line levels e ++ codes "\n") = c.in_ok-push_line.ensures ∙ ap (λ xs. c.loop-index.waiting.items ++ (xs ++ codes "\n")) text in
+    let more : c.push_entry.new.waiting.items ≡ c.loop-index.waiting.items ++ (entry_line levels e ++ codes "\n") = c.in_ok-push_entry.ensures in
     let longer : start ++ entry_lines levels (take (c.loop-index.index + 1) log) ≡ (start ++ entry_lines levels (take c.loop-index.index log)) ++ (entry_line levels e ++ codes "\n") =
     ap (λ xs. start ++ xs) (lines-more levels c.loop-index.index log e c.entry_at.ensures.exact) ∙ sym (append_assoc start (entry_lines levels (take c.loop-index.index log)) (entry_line levels e ++ codes "\n")) in
     let grown = fronts-more _ _ _ _ _ _ _ c.loop-index.invariant.1 more longer in
     at-err _ c.from_residual-in_err-put_all.result (front-then _ _ _ _ _ _ _ grown (lines-split start levels (c.loop-index.index + 1) log)
-    (subst (λ xs. WritesFront (g.W.Sink.taken c.loop-index.sink) (g.W.Sink.taken c.put_all.new.sink) xs) c.deref-then-len-ge-PIECE.ensures.value c.in_err-put_all.ensures.prefix))
+    (subst (λ xs. WritesFront (g.W.Sink.taken c.loop-index.sink) (g.W.Sink.taken c.put_all.new.sink) xs) c.deref.ensures.value c.in_err-put_all.ensures.prefix))
 
 pub loop-index-preserved : goal.loop-index-preserved
 loop-index-preserved g c =
@@ -35,15 +30,14 @@ loop-index-preserved g c =
     let log : List Entry = c.args.entries.now in
     let start : List ℕ = c.args.waiting.now.items in
     let e : Entry = c.entry_at.result.now in
-    let text : c.deref.result.now ≡ entry_line levels e = c.deref.ensures.value ∙ c.in_ok-line.ensures in
-    let more : c.push_line.new.waiting.items ≡ c.loop-index.waiting.items ++ (entry_line levels e ++ codes "\n") = c.in_ok-push_line.ensures ∙ ap (λ xs. c.loop-index.waiting.items ++ (xs ++ codes "\n")) text in
+    let more : c.push_entry.new.waiting.items ≡ c.loop-index.waiting.items ++ (entry_line levels e ++ codes "\n") = c.in_ok-push_entry.ensures in
     let longer : start ++ entry_lines levels (take (c.loop-index.index + 1) log) ≡ (start ++ entry_lines levels (take c.loop-index.index log)) ++ (entry_line levels e ++ codes "\n") =
     ap (λ xs. start ++ xs) (lines-more levels c.loop-index.index log e c.entry_at.ensures.exact) ∙ sym (append_assoc start (entry_lines levels (take c.loop-index.index log)) (entry_line levels e ++ codes "\n")) in
     let grown = fronts-more _ _ _ _ _ _ _ c.loop-index.invariant.1 more longer in
     elim c.if-len-ge-PIECE.branch [
       | then-len-ge-PIECE+in_ok-put_all w ↦
-          let all : Appends (g.W.Sink.taken c.loop-index.sink) (g.W.Sink.taken w.put_all.new.sink) c.push_line.new.waiting.items =
-          subst (λ xs. Appends (g.W.Sink.taken c.loop-index.sink) (g.W.Sink.taken w.put_all.new.sink) xs) w.deref-then-len-ge-PIECE.ensures.value w.in_ok-put_all.ensures.all in
+          let all : Appends (g.W.Sink.taken c.loop-index.sink) (g.W.Sink.taken w.put_all.new.sink) c.push_entry.new.waiting.items =
+          subst (λ xs. Appends (g.W.Sink.taken c.loop-index.sink) (g.W.Sink.taken w.put_all.new.sink) xs) w.deref.ensures.value w.in_ok-put_all.ensures.all in
           let nothing : c.if-len-ge-PIECE.waiting.items ≡ [] = ap (λ v. v.items) w.waiting-is ∙ w.clear.ensures.items in (
             ap g.W.Sink.failed w.sink-is ∙ w.in_ok-put_all.ensures.working ∙ c.loop-index.invariant.0,
             moved-fronts _ _ _ _ _ _ (ap g.W.Sink.taken w.sink-is) nothing (fronts-written _ _ _ _ _ grown all),
