@@ -9,5 +9,8 @@ mod Back
 mod Few
 mod Short
 mod PlainTexts
+mod SpelledEntries
 mod PlainWritten
 mod PushedEntries
+mod MemberOrders
+mod Replays

@@ -6,3 +6,5 @@ pub mod VerdictTexts
 pub mod Legality
 pub mod Written
 pub mod Plain
+pub mod Members
+pub mod Replayed

@@ -1,17 +1,24 @@
 //! A journal, checked line by line.
-ghost use Rattle.std.specs.Prelude.{◌≡◌, ◌+◌, ◌<◌, ◌≤◌, ◌^◌, true, false, IfOk, IfErr, OnOk, option_map, option_and_then};
+ghost use Rattle.std.specs.Prelude.{◌≡◌, ◌+◌, ◌<◌, ◌≤◌, ◌^◌, true, false, length, Some, IfOk, IfErr, IfNone, IfSome, IsUtf8, OnOk, option_map, option_and_then};
 ghost use Rattle.std.specs.Io.KnownBytes.{IsAtEnd};
+ghost use Rattle.std.specs.Str.{bytes_eq};
 ghost use Rattle.serde_json.specs.View.{view};
+ghost use Rattle.market_types.specs.Step.{step};
+ghost use Rattle.market_types.specs.Texts.{reply_text};
 ghost use Rattle.journal_replay.specs.Verdicts.{Finds, StopsReading, after_header, after_line, after_record, json_by, lines_taken, most_bytes, verdict, verdict_of};
 ghost use Rattle.journal_replay.specs.Reading.{header_of};
+ghost use Rattle.journal_replay.specs.Replayed.{IsReplayed};
 
 use crate::header::Extent;
-use crate::reading::{Opened, open_market, read_entry, read_json};
+use crate::reading::{Opened, Recorded, open_market, read_entry, read_json};
+use crate::spelled::read_written;
+use crate::tokens::read_tokens;
 use crate::verdict::{DueReply, Verdict};
 use byte_devices::Source;
+use json::Scratch;
 use line_engine::{InputFault, LONGEST_INPUT, LineForm, LineTaker, Nowhere, take_lines, take_text};
 use market_core::Market;
-use market_types::reply_text;
+use market_types::{push_reply, reply_text};
 use serde_json::Value;
 use std::alloc::{AllocError, Global};
 use std::mem;
@@ -35,6 +42,74 @@ fn read_line(alloc: Global, line: &[u8], form: LineForm) -> Result<Option<Value>
         LineForm::Whole => read_json(alloc, line),
         LineForm::WithoutLf | LineForm::TooLong => Ok(None),
     }
+}
+
+/// Memory that is used again for each line.
+#[derive(Drop)]
+struct Room {
+    /// For the tokens of a line, and for its texts without escapes.
+    scratch: Scratch,
+    /// For the text of the reply that is due.
+    due: Vec<u8>,
+}
+
+/// Gives an entry's call to the market, and writes the text of the reply that is due in the room of another: whether the entry
+/// tells it.
+fn replay(
+    alloc: Global,
+    market: &mut Market,
+    due: &mut Vec<u8>,
+    entry: &Recorded<'_>,
+) -> Result<bool, AllocError>
+    requires seat { entry.now.seat < length market.old.seats }
+    ensures market { OnOk result (market.new ≡ (step market.old entry.now.seat entry.now.cmd).1) }
+    ensures due { OnOk result (due.new.items ≡ reply_text (step market.old entry.now.seat entry.now.cmd).0) }
+    ensures utf8 { OnOk result (IsUtf8 due.new.items) }
+    ensures told { IfOk result (λ told. told ≡ bytes_eq (reply_text (step market.old entry.now.seat entry.now.cmd).0) entry.now.reply.now) }
+{
+    let Ok(reply) = market.apply(alloc, entry.seat, entry.cmd) else {
+        return Err(AllocError);
+    };
+    due.clear();
+    let pushed = push_reply(due, &reply);
+    drop(reply);
+    pushed?;
+    Ok(due.as_slice() == entry.reply)
+}
+
+/// Gives the call of a line to the market that is an entry told by its places or by its tokens, and writes the text of the reply that
+/// is due: whether the entry tells it. None of every other line, which changes nothing.
+fn replay_line<'a>(
+    alloc: Global,
+    market: &mut Market,
+    line: &'a [u8],
+    scratch: &'a mut Scratch,
+    due: &mut Vec<u8>,
+) -> Result<Option<bool>, AllocError>
+    ensures replayed { IfOk result (λ found. IfSome found (λ told. IsReplayed market.old line.entry.now market.new due.new.items told)) }
+    ensures utf8 { IfOk result (λ found. IfSome found (λ _. IsUtf8 due.new.items)) }
+    ensures left { IfOk result (λ found. IfNone found (market.new ≡ market.old)) }
+{
+    let (seats, levels) = (market.seats(), market.levels());
+    if let Some(entry) = read_written(line, seats, levels) {
+        return Ok(Some(replay(alloc, market, due, &entry)?));
+    }
+    match read_tokens(line, scratch, seats, levels) {
+        Ok(Some(entry)) => Ok(Some(replay(alloc, market, due, &entry)?)),
+        Ok(None) => Ok(None),
+        Err(_) => Err(AllocError),
+    }
+}
+
+/// The reply of this text.
+fn due_reply(text: Vec<u8>) -> DueReply
+    requires { IsUtf8 text.items }
+    ensures { result ≡ text.items }
+{
+    let Ok(text) = String::from_utf8(text) else {
+        unreachable!()
+    };
+    DueReply::new(text)
 }
 
 impl Progress {
@@ -81,7 +156,7 @@ impl Progress {
             drop(market);
             return Err(AllocError);
         };
-        if due.as_str() != entry.reply {
+        if due.as_bytes() != entry.reply {
             drop(market);
             let wrong_reply = Verdict::WrongReply(entries + 2, DueReply::new(due));
             return Ok(Progress::Faulty(wrong_reply, extent));
@@ -112,6 +187,40 @@ impl Progress {
         }
     }
 
+    /// After one line more, where the market is replaying and the line is an entry that is told by its places or by its tokens:
+    /// whether it is. The market stays where it is, and memory that is kept serves for each line. Else nothing is changed.
+    fn take_entry(
+        &mut self,
+        alloc: Global,
+        line: &[u8],
+        form: LineForm,
+        room: &mut Room,
+    ) -> Result<bool, AllocError>
+        requires few { lines_taken self.old + 1 < 2 ^ 64 }
+        ensures taken { IfOk result (λ taken. taken ≡ true → self.new ≡ after_line self.old (record { bytes = line.now; form = form })) }
+        ensures left { IfOk result (λ taken. taken ≡ false → self.new ≡ self.old) }
+    {
+        if form != LineForm::Whole {
+            return Ok(false);
+        }
+        let Progress::Replaying(market, entries, extent) = self else {
+            return Ok(false);
+        };
+        if extent.is_full(*entries) {
+            return Ok(false);
+        }
+        let Some(told) = replay_line(alloc, market, line, &mut room.scratch, &mut room.due)? else {
+            return Ok(false);
+        };
+        if told {
+            *entries += 1;
+            return Ok(true);
+        }
+        let due = due_reply(mem::replace(&mut room.due, Vec::new(alloc)));
+        *self = Progress::Faulty(Verdict::WrongReply(*entries + 2, due), *extent);
+        Ok(true)
+    }
+
     /// The most bytes that the journal may have.
     fn most_bytes(&self) -> u64
         ensures exact { result ≡ most_bytes self.now }
@@ -140,6 +249,7 @@ impl Progress {
 pub(crate) struct Checker {
     alloc: Global,
     progress: Progress,
+    room: Room,
 }
 
 impl Checker {
@@ -150,6 +260,10 @@ impl Checker {
         Checker {
             alloc,
             progress: Progress::Unopened,
+            room: Room {
+                scratch: Scratch::new(alloc),
+                due: Vec::new(alloc),
+            },
         }
     }
 }
@@ -190,6 +304,12 @@ impl LineTaker for Checker {
         form: LineForm,
         _replies: &mut Vec<u8>,
     ) -> Result<(), AllocError> {
+        if self
+            .progress
+            .take_entry(self.alloc, line, form, &mut self.room)?
+        {
+            return Ok(());
+        }
         let progress = mem::replace(&mut self.progress, Progress::Unopened);
         self.progress = progress.after_line(self.alloc, line, form)?;
         Ok(())

@@ -12,6 +12,8 @@ mod journal;
 mod law;
 mod line;
 mod reading;
+mod spelled;
+mod tokens;
 mod verdict;
 
 pub use byte_devices::OutFault;

@@ -169,7 +169,7 @@ pub(crate) fn open_market(alloc: Global, value: &Value) -> Result<Option<Opened>
 pub(crate) struct Recorded<'a> {
     pub seat: SeatNo,
     pub cmd: Cmd,
-    pub reply: &'a str,
+    pub reply: &'a [u8],
 }
 
 /// The seat that a value names, if the market has it.
@@ -194,7 +194,7 @@ pub(crate) fn read_entry(value: &Value, seats: u8, levels: u32) -> Option<Record
         return None;
     }
     let cmd = read_cmd(text_at(value, "cmd")?.as_bytes(), levels)?;
-    let reply = text_at(value, "reply")?;
+    let reply = text_at(value, "reply")?.as_bytes();
     let seat = seat_in(value, seats)?;
     Some(Recorded { seat, cmd, reply })
 }

@@ -36,5 +36,5 @@ replayed market entries extent d seats levels e reply next due few s l found r n
 pub returns : goal.returns
 returns c =
     replayed c.args.market c.args.entries c.args.extent _ c.seats.result c.levels.result (record { seat = c.in-Some.entry.seat; cmd = c.in-Some.entry.cmd; reply = c.in-Some.entry.reply.now })
-    c.in-Ok.reply c.apply.new.self c.as_str.result.now (sym c.is_full.ensures ∙ c.if-is_full.false) c.seats.ensures.exact c.levels.ensures.exact c.in-Some.ensures.exact
-    c.in-Ok.ensures.reply c.in-Ok.ensures.next (c.as_str.ensures.value ∙ c.in-Ok-text.ensures.exact) (told-same _ _ c.ne.ensures c.if-ne.false)
+    c.in-Ok.reply c.apply.new.self c.as_bytes.result.now (sym c.is_full.ensures ∙ c.if-is_full.false) c.seats.ensures.exact c.levels.ensures.exact c.in-Some.ensures.exact
+    c.in-Ok.ensures.reply c.in-Ok.ensures.next (c.as_bytes.ensures.value ∙ c.in-Ok-text.ensures.exact) (told-same _ _ c.ne.ensures c.if-ne.false)
