@@ -216,9 +216,20 @@ impl Progress {
             *entries += 1;
             return Ok(true);
         }
-        let due = due_reply(mem::replace(&mut room.due, Vec::new(alloc)));
-        *self = Progress::Faulty(Verdict::WrongReply(*entries + 2, due), *extent);
+        let (line, extent) = (*entries + 2, *extent);
+        self.stop(line, mem::replace(&mut room.due, Vec::new(alloc)), extent);
         Ok(true)
+    }
+
+    /// This line's reply is not the one of this text, which is due.
+    // Apart, since each line would else make room for what is found of it.
+    #[cold]
+    #[inline(never)]
+    fn stop(&mut self, line: u64, due: Vec<u8>, extent: Extent)
+        requires { IsUtf8 due.items }
+        ensures { self.new ≡ Progress.Faulty (Verdict.WrongReply line due.items) extent }
+    {
+        *self = Progress::Faulty(Verdict::WrongReply(line, due_reply(due)), extent);
     }
 
     /// The most bytes that the journal may have.
@@ -266,6 +277,19 @@ impl Checker {
             },
         }
     }
+
+    /// Takes a line that is no entry told at once, as the header.
+    // Apart, since each line would else make room for all that is needed here.
+    #[cold]
+    #[inline(never)]
+    fn take_other(&mut self, line: &[u8], form: LineForm) -> Result<(), AllocError>
+        requires few { lines_taken self.old.progress + 1 < 2 ^ 64 }
+        ensures { OnOk result (self.new.progress ≡ after_line self.old.progress (record { bytes = line.now; form = form })) }
+    {
+        let progress = mem::replace(&mut self.progress, Progress::Unopened);
+        self.progress = progress.after_line(self.alloc, line, form)?;
+        Ok(())
+    }
 }
 
 impl LineTaker for Checker {
@@ -310,9 +334,7 @@ impl LineTaker for Checker {
         {
             return Ok(());
         }
-        let progress = mem::replace(&mut self.progress, Progress::Unopened);
-        self.progress = progress.after_line(self.alloc, line, form)?;
-        Ok(())
+        self.take_other(line, form)
     }
 }
 

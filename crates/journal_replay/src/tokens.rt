@@ -108,6 +108,8 @@ fn whole_fields<'a>(reader: &mut Reader<'a>) -> Option<Fields<'a>>
 
 /// The entry that a line tells by its tokens, in a market of so many seats and levels. None of a line whose tokens are not those
 /// of an entry, each key once, and of one that is no entry.
+// Apart, since a line that is told by its places would else make room for a reader.
+#[inline(never)]
 pub(crate) fn read_tokens<'a>(
     line: &'a [u8],
     scratch: &'a mut Scratch,
