@@ -1,16 +1,22 @@
 -- Lists that end with one element more; takers of the stations' queues.
-use Rattle.std.proofs.Common.{◌≡◌, ◌≤◌, ◌<◌, ◌+◌, refl, ap, sym, ◌∙◌, subst, arith, List, [], ◌∷◌, ◌++◌, length, map, All}
+use Rattle.std.proofs.Common.{◌≡◌, ◌≤◌, ◌<◌, ◌+◌, ℕ, refl, ap, sym, ◌∙◌, subst, arith, List, [], ◌∷◌, ◌++◌, length, All, get_or, Some, ⊎_elim}
+use Rattle.std.specs.Prelude.{slice_get}
 use Rattle.std.specs.List.{AllZip}
 use Rattle.job_queue.specs.Seen.{QueueId, OfTaker}
 use Rattle.drive_plan.specs.declared.task.Job.{Job}
+use Rattle.drive_plan.specs.declared.task.PlannedJob.{PlannedJob}
 use Rattle.worker_main.specs.declared.station.Station.{Station}
 use Rattle.worker_main.specs.Stations.{IsTakerOf, HaveOwnArenas}
 use Rattle.worker_main.specs.Books.{IsTakerAfter}
-use Rattle.std.proofs.lemmas.List.{map-append, length-append}
+use Rattle.std.proofs.lemmas.List.{map-append, length-append, length-map, get_or_append_left}
 use Rattle.std.proofs.lemmas.List.Elements.{All-push}
 use Rattle.std.proofs.lemmas.List.Quantifiers.{all_pairs_push}
+use Rattle.std.proofs.lemmas.Bool.{cases_lt}
+use Rattle.std.proofs.lemmas.Grind.{common_steps}
+use Rattle.std.proofs.lemmas.Option.{slice_get-map, slice_get_read}
 use Rattle.market_drive.specs.Racks.{OfEnds, queues_of}
 use Rattle.market_drive.specs.Lines.{queues_at, queues_ended, AreLines}
+use Rattle.market_drive.specs.Arenas.{AreNumbered, HasRoomFor}
 
 abbrev head_or : {A : Type 0} → A → List A → A
 head_or d [] = d
@@ -85,3 +91,25 @@ long_more all xs x e = ap length e ∙ length-append xs (x ∷ [])
 
 pub queues_more : (all ss : List Station) (s : Station) (q : QueueId) → all ≡ ss ++ s ∷ [] → q ≡ s.queue.id → queues_at ss ++ q ∷ [] ≡ queues_at all
 queues_more all ss s q e own = (λ k. queues_at ss ++ own k ∷ []) ∙ sym (ap queues_at e ∙ map-append (λ (x : Station). x.queue.id) ss (s ∷ []))
+
+-- the numbers of the stations' arenas go on
+pub numbered_more : (ss : List Station) (s : Station) → AreNumbered ss → s.arena ≡ length ss + 1 → AreNumbered (ss ++ s ∷ [])
+numbered_more ss s all next k d low =
+    let long : length (ss ++ s ∷ []) ≡ length ss + 1 = length-append ss (s ∷ []) in
+    ⊎_elim
+    (λ (old : k < length ss). rw (get_or_append_left ss (s ∷ []) d k old) (all k d old))
+    (λ (last : length ss ≤ k). (let same : get_or (ss ++ s ∷ []) k d ≡ s = grind (arith, common_steps) in rw same (omega arith)))
+    (cases_lt k (length ss))
+
+-- the ends and the station at one place are of one queue
+pub own_queue : (ss : List Station) (es : List OfEnds) (k : ℕ) (s : Station) (e : OfEnds) → queues_ended es ≡ queues_at ss → k < length ss → s ≡ get_or ss k s → e ≡ get_or es k e → e.queue ≡ s.queue.id
+own_queue ss es k s e same low here there =
+    let long : length es ≡ length ss = sym (length-map es (λ (x : OfEnds). x.queue)) ∙ (ap length same ∙ length-map ss (λ (x : Station). x.queue.id)) in
+    let within : k < length es = omega arith in
+    let left : slice_get (queues_ended es) k ≡ Some e.queue = rw (slice_get-map (λ (x : OfEnds). x.queue) es k, slice_get_read es (length es) k e refl within there) in
+    let right : slice_get (queues_at ss) k ≡ Some s.queue.id = rw (slice_get-map (λ (x : Station). x.queue.id) ss k, slice_get_read ss (length ss) k s refl low here) in
+    let both : Some e.queue ≡ Some s.queue.id = sym left ∙ (ap (λ qs. slice_get qs k) same ∙ right) in
+    cc
+
+pub roomy_more : (jobs : List PlannedJob) (all ss : List Station) (s : Station) → all ≡ ss ++ s ∷ [] → All (HasRoomFor jobs) ss → HasRoomFor jobs s → All (HasRoomFor jobs) all
+roomy_more jobs all ss s is old new = subst (All (HasRoomFor jobs)) (sym is) (All-push (HasRoomFor jobs) ss s old new)

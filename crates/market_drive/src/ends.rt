@@ -1,13 +1,12 @@
 //! What stays of a queue while its takers are away.
-ghost use Rattle.std.specs.Prelude.{◌≡◌, ◌+◌, ◌<◌, ◌≤◌, IfOk, length};
+ghost use Rattle.std.specs.Prelude.{◌≡◌, ◌+◌, ◌<◌, ◌≤◌, IfOk};
 
-use crate::feeding::{count_jobs, feed};
 use drive_plan::{Job, PlannedJob};
 use job_queue::{Feeder, JobQueue, Taker};
-use market_types::ArenaId;
 use std::alloc::{AllocError, Global};
 use std::marker::Model;
 use std::sync::Wait;
+use worker_main::Station;
 
 /// A queue's feeder, and the room to which its takers come back.
 pub(crate) struct Ends {
@@ -31,6 +30,28 @@ impl Model for Ends {
 }
 
 impl Ends {
+    /// Stores a job in the queue of its arena's station, which has room for all of the arena's jobs: a job that it gave back
+    /// would be missing among the answers.
+    pub(crate) fn feed<R: Wait>(
+        &mut self,
+        rt: &R,
+        station: &Station,
+        number: u32,
+        planned: &PlannedJob,
+    )
+        requires queue { self.old.queue ≡ station.now.queue.id }
+        requires own { planned.now.arena ≡ station.now.arena }
+        ensures { self.new ≡ self.old }
+    {
+        if self.feeder.room() > 0 {
+            let job = Job {
+                number,
+                task: planned.task,
+            };
+            drop(station.queue.push(rt, &mut self.feeder, job));
+        }
+    }
+
     /// Takes a taker out.
     pub(crate) fn take(&mut self) -> Taker<Job>
         requires { 0 < self.old.here }
@@ -69,25 +90,22 @@ impl Ends {
     }
 }
 
-/// A queue with the jobs of an arena, and its ends, with a taker for each of so many workers.
-pub(crate) fn open_queue<R: Wait>(
-    rt: &R,
+/// An empty queue with room for so many jobs, and its ends, with a taker for each of so many workers.
+pub(crate) fn open_queue(
     alloc: Global,
-    jobs: &[PlannedJob],
-    arena: ArenaId,
+    capacity: usize,
     workers: usize,
 ) -> Result<(JobQueue<Job>, Ends), AllocError>
-    requires few { length jobs.now ≤ 65536 }
+    requires capacity { (0 < capacity) × (capacity ≤ 65536) }
     requires workers { (0 < workers) × (workers ≤ 16) }
+    ensures capacity { IfOk result (λ q. q.0.capacity ≡ capacity) }
     ensures same { IfOk result (λ q. q.1.queue ≡ q.0.id) }
     ensures all { IfOk result (λ q. (q.1.queue.feeders ≡ 1) × (q.1.queue.takers ≡ workers) × (q.1.here ≡ workers) × (workers ≤ q.1.room)) }
 {
-    let capacity = count_jobs(jobs, arena).max(1);
     let (queue, mut feeders, takers) = JobQueue::new(alloc, capacity, 1, workers)?;
-    let Some(mut feeder) = feeders.pop() else {
+    let Some(feeder) = feeders.pop() else {
         unreachable!()
     };
-    feed(rt, &queue, &mut feeder, jobs, arena);
     let ends = Ends {
         feeder,
         feeders,

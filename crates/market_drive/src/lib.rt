@@ -6,11 +6,11 @@
 //! `worker` who calls at the office, `gathering` what their ends and answers come to.
 #![tactic(auto)]
 
+mod counting;
 mod driven;
 mod driving;
 mod ends;
 mod fault;
-mod feeding;
 mod gathering;
 mod lines;
 mod opener;

@@ -3,11 +3,14 @@ ghost use Rattle.std.specs.Prelude.{◌≡◌, ◌+◌, ◌<◌, ◌≤◌, ◌+
 ghost use Rattle.std.specs.List.{All};
 ghost use Rattle.market_drive.specs.Racks.{AreAway, IsFor};
 ghost use Rattle.market_drive.specs.Lines.{queues_at};
+ghost use Rattle.market_drive.specs.Arenas.{HasRoomFor};
+ghost use Rattle.drive_plan.specs.Plans.{FitsJob};
 ghost use Rattle.worker_main.specs.Stations.{HaveOwnArenas};
 
+use crate::counting::{count_jobs, place_of};
 use crate::ends::{Ends, open_queue};
 use crate::racks::Racks;
-use drive_plan::Plan;
+use drive_plan::{Plan, PlannedJob};
 use market_types::ArenaId;
 use std::alloc::{AllocError, Global};
 use std::marker::Model;
@@ -26,12 +29,13 @@ pub(crate) struct Lines {
 impl Model for Lines {
     ghost use Rattle.std.specs.Prelude.{◌≡◌, ◌≤◌, vec_capacity};
     ghost use Rattle.market_drive.specs.Lines.{OfLines, AreLines};
+    ghost use Rattle.market_drive.specs.Arenas.{AreNumbered};
 
     ghost Value = { OfLines };
 
     ghost view = { λ l. record { stations = l.stations.items; ends = l.ends.items } };
 
-    ghost invariant = { λ l. AreLines l.stations.items l.ends.items × (64 ≤ vec_capacity l.stations) × (64 ≤ vec_capacity l.ends) };
+    ghost invariant = { λ l. AreLines l.stations.items l.ends.items × (64 ≤ vec_capacity l.stations) × (64 ≤ vec_capacity l.ends) × AreNumbered l.stations.items };
 }
 
 impl Lines {
@@ -75,6 +79,21 @@ impl Lines {
         }
     }
 
+    /// With each job in the queue of its arena, in order of number. It is one pass over the slice of jobs for all queues, not one
+    /// for each, and ends with the slice.
+    fn feed<R: Wait>(self, rt: &R, jobs: &[PlannedJob]) -> Lines
+        requires few { length jobs.now ≤ 65536 }
+        requires fit { All (FitsJob (length self.stations)) jobs.now }
+        ensures { result ≡ self }
+    {
+        let Lines { stations, mut ends } = self;
+        for (index, planned) in jobs.iter().enumerate() {
+            let place = place_of(planned.arena);
+            ends[place].feed(rt, &stations[place], index as u32 + 1, planned);
+        }
+        Lines { stations, ends }
+    }
+
     /// The end of all queues, with the racks of all their workers.
     pub(crate) fn settle<R: Wait>(self, rt: &R, racks: Racks)
         requires racks { All (IsFor (queues_at self.stations)) racks }
@@ -105,8 +124,8 @@ impl Lines {
     }
 }
 
-/// A station with its queue and its jobs for each arena of a plan, and a rack for each of so many workers. Each arena takes a
-/// step for every job of the plan.
+/// A station with its queue and its jobs for each arena of a plan, and a rack for each of so many workers. It goes over the jobs
+/// twice, however many arenas there are.
 pub(crate) fn line_up<R: Wait>(
     rt: &R,
     alloc: Global,
@@ -117,15 +136,18 @@ pub(crate) fn line_up<R: Wait>(
     ensures racks { IfOk result (λ l. All (IsFor (queues_at l.0.stations)) l.1) }
     ensures each { IfOk result (λ l. length l.1 ≡ workers) }
     ensures away { IfOk result (λ l. All (AreAway workers) l.0.ends) }
+    ensures room { IfOk result (λ l. All (HasRoomFor plan.now.jobs) l.0.stations) }
 {
     let mut racks = Racks::new(alloc, workers)?;
     let Ok(mut lines) = Lines::new(alloc) else {
         racks.destroy();
         return Err(AllocError);
     };
+    let jobs = plan.jobs();
+    let counts = count_jobs(plan);
     for (place, arena) in plan.arenas().iter().enumerate() {
         let number = ArenaId::new(place as u32 + 1);
-        let Ok((queue, ends)) = open_queue(rt, alloc, plan.jobs(), number, workers) else {
+        let Ok((queue, ends)) = open_queue(alloc, counts[place].max(1), workers) else {
             lines.settle(rt, racks);
             return Err(AllocError);
         };
@@ -139,5 +161,5 @@ pub(crate) fn line_up<R: Wait>(
         };
         lines = lines.with(station, away);
     }
-    Ok((lines, racks))
+    Ok((lines.feed(rt, jobs), racks))
 }

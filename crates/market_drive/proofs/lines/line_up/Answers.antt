@@ -1,24 +1,40 @@
-use Rattle.std.proofs.Common.{◌≡◌, ◌+◌, ◌∙◌, ap, subst, arith, List, All, length}
+use Rattle.std.proofs.Common.{◌≡◌, ◌≤◌, ◌+◌, ◌∙◌, ap, sym, subst, arith, List, All, length, max}
+use Rattle.std.proofs.lemmas.List.Sums.{count_by-le-length}
+use Rattle.drive_plan.specs.declared.task.PlannedJob.{PlannedJob}
+use Rattle.market_drive.specs.Arenas.{count_of}
 use Rattle.std.proofs.lemmas.List.Elements.{All-push}
 use Rattle.job_queue.specs.Seen.{QueueId}
 use Rattle.market_drive.specs.Racks.{AreAway, IsFor}
 use Rattle.market_drive.specs.Lines.{queues_at}
-use Rattle.market_drive.proofs.Queues.{long_more, queues_more}
+use Rattle.market_drive.proofs.Queues.{long_more, queues_more, roomy_more}
 use Rattle.market_drive.proofs.lines.line_up.Goals as goal
 
 pub loop-place-preserved : goal.loop-place-preserved
 loop-place-preserved g c =
     let i = c.loop-place.invariant in
+    let jobs = c.args.plan.now.jobs in
     let all = c.in-Ok-open_queue.ensures.all in
     let away = c.deal-dealt.ensures.away in
     let long : length c.with-lines.result.stations ≡ length c.loop-place.lines.stations + 1 = long_more c.with-lines.result.stations c.loop-place.lines.stations _ c.with-lines.ensures.stations in
-    let count = i.0 in
+    let long_so_far = i.0 in
     let kept = away.2 in
-    let room = all.3 in (
+    let room = all.3 in
+    let fits = c.in-Ok-open_queue.ensures.capacity ∙ c.max.ensures in
+    let count = c.count_jobs-counts.ensures c.loop-place.place (omega arith) in (
       omega arith,
       c.deal-dealt.ensures.each ∙ i.1,
       subst (λ (queues : List QueueId). All (IsFor queues) c.deal-dealt.result.0) (queues_more c.with-lines.result.stations c.loop-place.lines.stations _ c.in-Ok-open_queue.ends.queue c.with-lines.ensures.stations c.in-Ok-open_queue.ensures.same)
           (c.deal-dealt.ensures.next (queues_at c.loop-place.lines.stations) i.2),
       c.deal-dealt.ensures.room,
       rw c.with-lines.ensures.ends (All-push (AreAway c.args.workers) c.loop-place.lines.ends c.deal-dealt.result.1 i.4 (ap (λ (x : QueueId). x.feeders) away.0 ∙ all.0, ap (λ (x : QueueId). x.takers) away.0 ∙ all.1, away.1, omega arith)),
+      roomy_more jobs c.with-lines.result.stations c.loop-place.lines.stations _ c.with-lines.ensures.stations i.5 (fits ∙ ap (λ n. max n 1) (count ∙ ap (count_of jobs) (sym c.new-number.ensures))),
     )
+
+pub open_queue-requires-clause-capacity : goal.open_queue-requires-clause-capacity
+open_queue-requires-clause-capacity g c =
+    let jobs = c.args.plan.now.jobs in
+    let few : length jobs ≤ 65536 = subst (λ (xs : List PlannedJob). length xs ≤ 65536) c.jobs-jobs.ensures.exact c.jobs-jobs.ensures.few in
+    let least : count_of jobs (c.loop-place.place + 1) ≤ length jobs = count_by-le-length _ jobs in
+    let count = c.count_jobs-counts.ensures c.loop-place.place (omega arith) in
+    let room = c.max.ensures in
+    (omega arith, omega arith)

@@ -1,6 +1,7 @@
 use Rattle.std.proofs.Common.{◌≡◌, length, All}
 use Rattle.market_drive.specs.Racks.{AreAway, IsFor, IsRoomy}
 use Rattle.market_drive.specs.Lines.{queues_at}
+use Rattle.market_drive.specs.Arenas.{HasRoomFor}
 use Rattle.market_drive.proofs.lines.line_up.Given as goal
 
 abbrev pub invariant-loop-place : goal.invariant-loop-place
@@ -10,3 +11,4 @@ invariant-loop-place g l =
     × All (IsFor (queues_at l.lines.stations)) l.racks
     × All IsRoomy l.racks
     × All (AreAway l.fn.workers) l.lines.ends
+    × All (HasRoomFor l.fn.plan.jobs) l.lines.stations

@@ -1,6 +1,6 @@
 use Rattle.std.proofs.Common.{rules, ◌≡◌, ◌+◌, ◌<◌, length, sym, subst}
 use Rattle.market_drive.specs.Lines.{OfLines}
-use Rattle.market_drive.proofs.Queues.{lines_more}
+use Rattle.market_drive.proofs.Queues.{lines_more, numbered_more}
 use Rattle.market_drive.proofs.lines.Lines.with.Goals as goal
 
 pub invariant_of-result : goal.invariant_of-result
@@ -10,4 +10,5 @@ invariant_of-result c =
       rw c.push_reserved.ensures.items (rw c.push_reserved-2.ensures.items (lines_more c.self.inside.stations.items c.args.station c.self.inside.ends.items c.args.ends c.self.invariant.0 next room c.requires.queue)),
       search rules,
       search rules,
+      rw c.push_reserved.ensures.items (numbered_more c.self.inside.stations.items c.args.station c.self.invariant.3 next),
     )
