@@ -78,7 +78,7 @@ number_only field n h =
 
 -- ---- signed numbers
 
-first_no_minus : (n : ℕ) → n < 2 ^ 32 → eqb (slice_index (decimal n) 0) 45 ≡ false
+pub first_no_minus : (n : ℕ) → n < 2 ^ 32 → eqb (slice_index (decimal n) 0) 45 ≡ false
 first_no_minus n h = ne_eqb _ _ (λ e. absurd (omega (arith, e, (digit_at (decimal n) 0 (decimal_digits n h) (decimal_nonempty n (omega arith))).0)))
 
 pub signed-signed_decimal : (z : ℤ) → FitsSigned w32 z → signed (signed_decimal z) ≡ Some z

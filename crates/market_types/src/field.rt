@@ -1,11 +1,11 @@
 //! The fields of a text, and what each reads as.
-ghost use Rattle.std.specs.Prelude.{◌≡◌, ◌<◌, ◌∷◌, ◌++◌, IfNone, IfSome, false, option_and_then};
+ghost use Rattle.std.specs.Prelude.{◌≡◌, ◌<◌, ◌∷◌, ◌++◌, IfNone, IfSome, None, Some, false, option_and_then};
 ghost use Rattle.std.specs.List.{All, slice_split};
 ghost use Rattle.market_types.specs.Fields.{digit_after, fields_left};
+ghost use Rattle.market_types.specs.Cuts.{cut_after, cut_of, ended, first_field, later_fields};
 ghost use Rattle.market_types.specs.Reading.{in_levels, in_seats, is_plain, is_space, level, middle_level, negative, number, positive, signed};
 
 use crate::level::Level;
-use crate::number::SeatNo;
 
 /// The text before the first space, and the text after it.
 fn cut_space(text: &[u8]) -> Option<(&[u8], &[u8])>
@@ -67,6 +67,52 @@ pub fn read_number(field: &[u8]) -> Option<u32>
     Some(number)
 }
 
+/// The number, where a space or the end of the text ends it, and what follows that space.
+#[inline]
+fn ended(number: u32, text: &[u8]) -> Option<(u32, Option<&[u8]>)>
+    ensures { cut_of result ≡ ended number text.now }
+{
+    let Some((first, more)) = text.split_first() else {
+        return Some((number, None));
+    };
+    if *first == b' ' {
+        Some((number, Some(more)))
+    } else {
+        None
+    }
+}
+
+/// The number whose digits are those of `first` and then those up to the first space, and what follows that space.
+#[inline]
+fn cut_digits(first: u32, text: &[u8]) -> Option<(u32, Option<&[u8]>)>
+    ensures { cut_of result ≡ cut_after first text.now }
+{
+    let mut number = first;
+    for (at, digit) in text.iter().enumerate() {
+        match with_digit(number, *digit) {
+            Some(longer) => number = longer,
+            None => return ended(number, &text[at..]),
+        }
+    }
+    Some((number, None))
+}
+
+/// The number that the first field of a text is, and what follows the space that ends that field. One pass over its digits
+/// cuts the field and reads it.
+pub(crate) fn cut_number(text: &[u8]) -> Option<(u32, Option<&[u8]>)>
+    ensures none { IfNone result ((slice_split is_space text.now ≡ first_field text.now ∷ later_fields text.now) × (number (first_field text.now) ≡ None)) }
+    ensures some { IfSome result (λ p. (slice_split is_space text.now ≡ first_field text.now ∷ fields_left p.1) × (number (first_field text.now) ≡ Some p.0)) }
+{
+    let (first, more) = text.split_first()?;
+    let number = with_digit(0, *first)?;
+    // A first 0 stands alone.
+    if number == 0 {
+        ended(0, more)
+    } else {
+        cut_digits(number, more)
+    }
+}
+
 /// A number without a sign as a signed one.
 fn positive(number: u32) -> Option<i32>
     ensures { result ≡ positive number }
@@ -84,15 +130,18 @@ fn negative(number: u32) -> Option<i32>
     i32::try_from(-i64::from(number)).ok()
 }
 
-/// A number, or `-` and a number above 0.
-#[tactic(auto, unfolding(crate::specs::Reading::signed))]
-pub(crate) fn read_signed(field: &[u8]) -> Option<i32>
-    ensures { result ≡ signed field.now }
+/// The signed number that the first field of a text is, and what follows the space that ends that field.
+#[tactic(auto, using(crate::proofs::Cuts::text_fields), unfolding(crate::specs::Reading::signed))]
+pub(crate) fn cut_signed(text: &[u8]) -> Option<(i32, Option<&[u8]>)>
+    ensures none { IfNone result ((slice_split is_space text.now ≡ first_field text.now ∷ later_fields text.now) × (signed (first_field text.now) ≡ None)) }
+    ensures some { IfSome result (λ p. (slice_split is_space text.now ≡ first_field text.now ∷ fields_left p.1) × (signed (first_field text.now) ≡ Some p.0)) }
 {
-    if !field.is_empty() && field[0] == b'-' {
-        negative(read_number(&field[1..])?)
+    if !text.is_empty() && text[0] == b'-' {
+        let (number, more) = cut_number(&text[1..])?;
+        Some((negative(number)?, more))
     } else {
-        positive(read_number(field)?)
+        let (number, more) = cut_number(text)?;
+        Some((positive(number)?, more))
     }
 }
 
@@ -121,14 +170,16 @@ pub fn read_level(field: &[u8], levels: u32) -> Option<Level>
     Level::new(read_number(field)?)
 }
 
-/// A seat below the number of seats.
-pub(crate) fn read_seat(field: &[u8], seats: u8) -> Option<SeatNo>
-    ensures exact { result ≡ option_and_then (in_seats seats) (number field.now) }
-    ensures seated { IfSome result (λ seat. seat < seats) }
+/// The seat below the number of seats that the first field of a text is, and what follows the space that ends that field.
+#[tactic(auto, using(crate::proofs::Cuts::text_fields))]
+pub(crate) fn cut_seat(text: &[u8], seats: u8) -> Option<(u8, Option<&[u8]>)>
+    ensures none { IfNone result ((slice_split is_space text.now ≡ first_field text.now ∷ later_fields text.now) × (option_and_then (in_seats seats) (number (first_field text.now)) ≡ None)) }
+    ensures some { IfSome result (λ p. (slice_split is_space text.now ≡ first_field text.now ∷ fields_left p.1) × (option_and_then (in_seats seats) (number (first_field text.now)) ≡ Some p.0)) }
+    ensures seated { IfSome result (λ p. p.0 < seats) }
 {
-    let number = read_number(field)?;
+    let (number, more) = cut_number(text)?;
     if number >= u32::from(seats) {
         return None;
     }
-    Some(SeatNo::new(number as u8))
+    Some((number as u8, more))
 }

@@ -4,7 +4,7 @@ ghost use Rattle.market_types.specs.Fields.{fields_left};
 ghost use Rattle.market_types.specs.Reading.{alone, command_of, line_reading, of_number, open_reading, priority_reading, reading, request_reading, resize_reading};
 
 use crate::command::Cmd;
-use crate::field::{cut_field, middle_level, read_level, read_number, read_seat, read_signed};
+use crate::field::{cut_field, cut_number, cut_seat, cut_signed, middle_level, read_level};
 use crate::number::{ArenaId, ControlId, SeatNo};
 
 /// The seat and the command that a line of a script spells, as `0 open 8 1 normal`: a seat below the number of seats,
@@ -14,10 +14,9 @@ pub fn read_line(line: &[u8], seats: u8, levels: u32) -> Option<(SeatNo, Cmd)>
     ensures exact { result ≡ line_reading seats levels line.now }
     ensures seated { IfSome result (λ call. call.0 < seats) }
 {
-    let (field, more) = cut_field(line);
-    let seat = read_seat(field, seats)?;
+    let (seat, more) = cut_seat(line, seats)?;
     let cmd = read_command(more, levels)?;
-    Some((seat, cmd))
+    Some((SeatNo::new(seat), cmd))
 }
 
 /// The command that a text spells in a market of so many levels, as `open 8 1 normal`. None for every other text.
@@ -90,13 +89,11 @@ fn alone(cmd: Cmd, more: Option<&[u8]>) -> Option<Cmd>
 fn read_open(more: Option<&[u8]>, levels: u32) -> Option<Cmd>
     ensures { result ≡ open_reading levels (fields_left more.entry) }
 {
-    let (field, more) = cut_field(more?);
-    let slots = read_number(field)?;
+    let (slots, more) = cut_number(more?)?;
     let Some(more) = more else {
         return Some(Cmd::Open(slots, 1, middle_level(levels)?));
     };
-    let (field, more) = cut_field(more);
-    let reserved = read_number(field)?;
+    let (reserved, more) = cut_number(more)?;
     let Some(more) = more else {
         return Some(Cmd::Open(slots, reserved, middle_level(levels)?));
     };
@@ -108,16 +105,15 @@ fn read_open(more: Option<&[u8]>, levels: u32) -> Option<Cmd>
 fn read_close(more: Option<&[u8]>) -> Option<Cmd>
     ensures { result ≡ of_number Cmd.Close (fields_left more.entry) }
 {
-    let (field, more) = cut_field(more?);
-    let arena = ArenaId::new(read_number(field)?);
-    alone(Cmd::Close(arena), more)
+    let (arena, more) = cut_number(more?)?;
+    alone(Cmd::Close(ArenaId::new(arena)), more)
 }
 
 fn read_priority(more: Option<&[u8]>, levels: u32) -> Option<Cmd>
     ensures { result ≡ priority_reading levels (fields_left more.entry) }
 {
-    let (field, more) = cut_field(more?);
-    let arena = ArenaId::new(read_number(field)?);
+    let (arena, more) = cut_number(more?)?;
+    let arena = ArenaId::new(arena);
     let (field, more) = cut_field(more?);
     let level = read_level(field, levels)?;
     alone(Cmd::Priority(arena, level), more)
@@ -126,49 +122,43 @@ fn read_priority(more: Option<&[u8]>, levels: u32) -> Option<Cmd>
 fn read_resize(more: Option<&[u8]>) -> Option<Cmd>
     ensures { result ≡ resize_reading (fields_left more.entry) }
 {
-    let (field, more) = cut_field(more?);
-    let arena = ArenaId::new(read_number(field)?);
-    let (field, more) = cut_field(more?);
-    let slots = read_number(field)?;
-    let (field, more) = cut_field(more?);
-    let reserved = read_number(field)?;
+    let (arena, more) = cut_number(more?)?;
+    let arena = ArenaId::new(arena);
+    let (slots, more) = cut_number(more?)?;
+    let (reserved, more) = cut_number(more?)?;
     alone(Cmd::Resize(arena, slots, reserved), more)
 }
 
 fn read_request(more: Option<&[u8]>) -> Option<Cmd>
     ensures { result ≡ request_reading (fields_left more.entry) }
 {
-    let (field, more) = cut_field(more?);
-    let arena = ArenaId::new(read_number(field)?);
-    let (field, more) = cut_field(more?);
-    let workers = read_signed(field)?;
+    let (arena, more) = cut_number(more?)?;
+    let arena = ArenaId::new(arena);
+    let (workers, more) = cut_signed(more?)?;
     let Some(more) = more else {
         return Some(Cmd::Request(arena, workers, 0));
     };
-    let (field, more) = cut_field(more);
-    let mandatory = read_signed(field)?;
+    let (mandatory, more) = cut_signed(more)?;
     alone(Cmd::Request(arena, workers, mandatory), more)
 }
 
 fn read_control(more: Option<&[u8]>) -> Option<Cmd>
     ensures { result ≡ of_number Cmd.Control (fields_left more.entry) }
 {
-    let (field, more) = cut_field(more?);
-    alone(Cmd::Control(read_number(field)?), more)
+    let (value, more) = cut_number(more?)?;
+    alone(Cmd::Control(value), more)
 }
 
 fn read_uncontrol(more: Option<&[u8]>) -> Option<Cmd>
     ensures { result ≡ of_number Cmd.Uncontrol (fields_left more.entry) }
 {
-    let (field, more) = cut_field(more?);
-    let control = ControlId::new(read_number(field)?);
-    alone(Cmd::Uncontrol(control), more)
+    let (control, more) = cut_number(more?)?;
+    alone(Cmd::Uncontrol(ControlId::new(control)), more)
 }
 
 fn read_show(more: Option<&[u8]>) -> Option<Cmd>
     ensures { result ≡ of_number Cmd.Show (fields_left more.entry) }
 {
-    let (field, more) = cut_field(more?);
-    let arena = ArenaId::new(read_number(field)?);
-    alone(Cmd::Show(arena), more)
+    let (arena, more) = cut_number(more?)?;
+    alone(Cmd::Show(ArenaId::new(arena)), more)
 }
