@@ -45,13 +45,18 @@ cut-digits n (b ∷ text) =
     digit-onto (is_space b) n text (digit_after n b) (λ m. cut-digits m text)
     ∙ ap (option_map (λ m. (m, cond (is_space b) (slice_split is_space text) (later_fields text)))) (sym (digits-cond (is_space b) n b (first_field text)))
 
+-- a number, where the field ends
+ended-cond : (space : Bool) (n : ℕ) (fields : List (List ℕ)) → option_map (λ more. (n, more)) (cond space (Some fields) None) ≡ cond {A = Option (ℕ × List (List ℕ))} space (Some (n, fields)) None
+ended-cond true n fields = refl
+ended-cond false n fields = refl
+
 -- what is no digit ends a number, or is none
 no_digit : (space : Bool) (n : ℕ) (text : List ℕ) (next : Option ℕ) → None ≡ next → cond {A = Option (ℕ × List (List ℕ))} space (Some (n, slice_split is_space text)) None ≡ cond space (Some (n, slice_split is_space text)) (option_and_then (λ m. cut_after m text) next)
 no_digit true n text next h = refl
 no_digit false n text next h = ap (option_and_then (λ m. cut_after m text)) h
 
 no_digit-first : (n b : ℕ) (text : List ℕ) → None ≡ digit_after n b → ended n (b ∷ text) ≡ cut_after n (b ∷ text)
-no_digit-first n b text h = no_digit (is_space b) n text (digit_after n b) h
+no_digit-first n b text h = ended-cond (is_space b) n (slice_split is_space text) ∙ no_digit (is_space b) n text (digit_after n b) h
 
 pub stopped : (n i : ℕ) (text : List ℕ) → i < length text → None ≡ digit_after n (get_or text i 0) → ended n (drop i text) ≡ cut_after n (drop i text)
 stopped n i text l none =
@@ -99,7 +104,7 @@ zero_then false b text = ap (option_map (λ m. (m, later_fields text))) (number-
 zero_first : (text : List ℕ) → ended 0 text ≡ with_later (48 ∷ text) (number (first_field (48 ∷ text)))
 unfolding number
 zero_first [] = refl
-zero_first (b ∷ text) = zero_then (is_space b) b text
+zero_first (b ∷ text) = ended-cond (is_space b) 0 (slice_split is_space text) ∙ zero_then (is_space b) b text
 
 pub zero : (b m : ℕ) (text : List ℕ) → digit_after 0 b ≡ Some m → m ≡ 0 → ended 0 text ≡ with_later (b ∷ text) (number (first_field (b ∷ text)))
 zero b m text h e =

@@ -1,5 +1,5 @@
 -- What the reader's parts answer of a text's first field. No public clause has these words.
-use Rattle.std.specs.Prelude.{ℕ, List, [], ◌∷◌, if◌then◌else◌, Option, Some, None, option_and_then}
+use Rattle.std.specs.Prelude.{ℕ, List, [], ◌∷◌, if◌then◌else◌, ◌==◌, Option, Some, None, option_and_then, option_map}
 use Rattle.std.specs.Borrow.{Bor}
 use Rattle.std.specs.List.{slice_split}
 use Rattle.market_types.specs.Fields.{digit_after, fields_left}
@@ -15,10 +15,20 @@ abbrev pub later_fields : List ℕ → List (List ℕ)
 later_fields [] = []
 later_fields (b ∷ text) = if is_space b then slice_split is_space text else later_fields text
 
--- a number, where a space or the end of the text ends it, and the fields after it
+-- the fields after a space, or none at the end of the text; nothing, where the field goes on
+abbrev pub follows : List ℕ → Option (List (List ℕ))
+follows [] = Some []
+follows (b ∷ text) = if is_space b then Some (slice_split is_space text) else None
+
+-- the fields after a word, where it is the first field
+abbrev pub follows_word : List ℕ → List ℕ → Option (List (List ℕ))
+follows_word [] text = follows text
+follows_word (w ∷ word) [] = None
+follows_word (w ∷ word) (b ∷ text) = if b == w then follows_word word text else None
+
+-- a number, where the field ends, and the fields after it
 abbrev pub ended : ℕ → List ℕ → Option (ℕ × List (List ℕ))
-ended n [] = Some (n, [])
-ended n (b ∷ text) = if is_space b then Some (n, slice_split is_space text) else None
+ended n text = option_map (λ more. (n, more)) (follows text)
 
 -- the number whose digits are those of `n` and then those up to the first space, and the fields after it
 abbrev pub cut_after : ℕ → List ℕ → Option (ℕ × List (List ℕ))

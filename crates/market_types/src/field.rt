@@ -1,8 +1,9 @@
 //! The fields of a text, and what each reads as.
-ghost use Rattle.std.specs.Prelude.{◌≡◌, ◌<◌, ◌∷◌, ◌++◌, IfNone, IfSome, None, Some, false, option_and_then};
-ghost use Rattle.std.specs.List.{All, slice_split};
+ghost use Rattle.std.specs.Prelude.{◌≡◌, ◌<◌, ◌∷◌, ◌++◌, IfNone, IfSome, None, Some, false, option_and_then, option_map};
+ghost use Rattle.std.specs.List.{All, list_any, slice_split};
+ghost use Rattle.std.specs.Str.{bytes_eq};
 ghost use Rattle.market_types.specs.Fields.{digit_after, fields_left};
-ghost use Rattle.market_types.specs.Cuts.{cut_after, cut_of, ended, first_field, later_fields};
+ghost use Rattle.market_types.specs.Cuts.{cut_after, cut_of, ended, first_field, follows, later_fields};
 ghost use Rattle.market_types.specs.Reading.{in_levels, in_seats, is_plain, is_space, level, middle_level, negative, number, positive, signed};
 
 use crate::level::Level;
@@ -67,19 +68,56 @@ pub fn read_number(field: &[u8]) -> Option<u32>
     Some(number)
 }
 
-/// The number, where a space or the end of the text ends it, and what follows that space.
+/// What follows the space that the text begins with, or nothing where the text is empty. None where it goes on in other ways.
+#[inline]
+fn follows(text: &[u8]) -> Option<Option<&[u8]>>
+    ensures { option_map (λ more. fields_left more) result ≡ follows text.now }
+{
+    let Some((first, more)) = text.split_first() else {
+        return Some(None);
+    };
+    if *first == b' ' {
+        Some(Some(more))
+    } else {
+        None
+    }
+}
+
+/// The number, where the field ends, and what follows the space that ends it.
 #[inline]
 fn ended(number: u32, text: &[u8]) -> Option<(u32, Option<&[u8]>)>
     ensures { cut_of result ≡ ended number text.now }
 {
-    let Some((first, more)) = text.split_first() else {
-        return Some((number, None));
-    };
-    if *first == b' ' {
-        Some((number, Some(more)))
-    } else {
-        None
+    let more = follows(text)?;
+    Some((number, more))
+}
+
+/// What follows the first field's space, where that field is this word.
+#[inline(always)]
+pub(crate) fn after_word<'a>(text: &'a [u8], word: &str) -> Option<Option<&'a [u8]>>
+    requires { list_any is_space word.now ≡ false }
+    ensures none { IfNone result (bytes_eq (first_field text.now) word.now ≡ false) }
+    ensures some { IfSome result (λ more. slice_split is_space text.now ≡ word.now ∷ fields_left more) }
+{
+    after_bytes(text, word.as_bytes())
+}
+
+/// The same with the word's bytes. Words are short and known where this is inlined: it compares with no call and no loop.
+#[inline(always)]
+fn after_bytes<'a>(text: &'a [u8], word: &[u8]) -> Option<Option<&'a [u8]>>
+    requires { list_any is_space word.now ≡ false }
+    ensures none { IfNone result (bytes_eq (first_field text.now) word.now ≡ false) }
+    ensures some { IfSome result (λ more. slice_split is_space text.now ≡ word.now ∷ fields_left more) }
+{
+    if text.len() < word.len() {
+        return None;
     }
+    for (at, byte) in word.iter().enumerate() {
+        if text[at] != *byte {
+            return None;
+        }
+    }
+    follows(&text[word.len()..])
 }
 
 /// The number whose digits are those of `first` and then those up to the first space, and what follows that space.

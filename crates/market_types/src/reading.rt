@@ -1,10 +1,13 @@
 //! Commands read from their texts.
-ghost use Rattle.std.specs.Prelude.{◌≡◌, ◌<◌, IfSome};
+ghost use Rattle.std.specs.Prelude.{◌≡◌, ◌<◌, IfSome, ℕ, slice_index};
+ghost use Rattle.std.specs.List.{slice_split};
 ghost use Rattle.market_types.specs.Fields.{fields_left};
-ghost use Rattle.market_types.specs.Reading.{alone, command_of, line_reading, of_number, open_reading, priority_reading, reading, request_reading, resize_reading};
+ghost use Rattle.market_types.specs.Reading.{alone, command_of, is_space, line_reading, of_number, open_reading, priority_reading, reading, request_reading, resize_reading};
 
 use crate::command::Cmd;
-use crate::field::{cut_field, cut_number, cut_seat, cut_signed, middle_level, read_level};
+use crate::field::{
+    after_word, cut_field, cut_number, cut_seat, cut_signed, middle_level, read_level,
+};
 use crate::number::{ArenaId, ControlId, SeatNo};
 
 /// The seat and the command that a line of a script spells, as `0 open 8 1 normal`: a seat below the number of seats,
@@ -28,52 +31,77 @@ pub fn read_cmd(text: &[u8], levels: u32) -> Option<Cmd>
     read_command(Some(text), levels)
 }
 
-/// The command that a text spells.
+/// The command that a text spells. Its first letter leaves one word, or two or three, to compare.
 #[tactic(auto, unfolding(crate::specs::Reading::command_of))]
 fn read_command(text: Option<&[u8]>, levels: u32) -> Option<Cmd>
     ensures { result ≡ command_of levels (fields_left text.entry) }
 {
-    let (word, more) = cut_field(text?);
-    if word == b"open".as_slice() {
-        return read_open(more, levels);
+    let text = text?;
+    if text.is_empty() {
+        return None;
     }
-    if word == b"close".as_slice() {
+    match text[0] {
+        b'o' => read_open(after_word(text, "open")?, levels),
+        b'p' => read_priority(after_word(text, "priority")?, levels),
+        b'u' => read_uncontrol(after_word(text, "uncontrol")?),
+        b'j' => alone(Cmd::Join, after_word(text, "join")?),
+        b'c' => read_c(text),
+        b'r' => read_r(text),
+        b's' => read_s(text),
+        b'l' => read_l(text),
+        _ => None,
+    }
+}
+
+/// The command that a text spells whose first letter is c.
+#[tactic(auto, unfolding(crate::specs::Reading::command_of))]
+fn read_c(text: &[u8]) -> Option<Cmd>
+    requires { slice_index text.now 0 ≡ 99 }
+    ensures { (levels : ℕ) → result ≡ command_of levels (slice_split is_space text.now) }
+{
+    if let Some(more) = after_word(text, "close") {
         return read_close(more);
     }
-    if word == b"priority".as_slice() {
-        return read_priority(more, levels);
-    }
-    if word == b"resize".as_slice() {
-        return read_resize(more);
-    }
-    if word == b"request".as_slice() {
+    read_control(after_word(text, "control")?)
+}
+
+/// The command that a text spells whose first letter is r.
+#[tactic(auto, unfolding(crate::specs::Reading::command_of))]
+fn read_r(text: &[u8]) -> Option<Cmd>
+    requires { slice_index text.now 0 ≡ 114 }
+    ensures { (levels : ℕ) → result ≡ command_of levels (slice_split is_space text.now) }
+{
+    if let Some(more) = after_word(text, "request") {
         return read_request(more);
     }
-    if word == b"control".as_slice() {
-        return read_control(more);
-    }
-    if word == b"uncontrol".as_slice() {
-        return read_uncontrol(more);
-    }
-    if word == b"join".as_slice() {
-        return alone(Cmd::Join, more);
-    }
-    if word == b"stay".as_slice() {
+    read_resize(after_word(text, "resize")?)
+}
+
+/// The command that a text spells whose first letter is s.
+#[tactic(auto, unfolding(crate::specs::Reading::command_of))]
+fn read_s(text: &[u8]) -> Option<Cmd>
+    requires { slice_index text.now 0 ≡ 115 }
+    ensures { (levels : ℕ) → result ≡ command_of levels (slice_split is_space text.now) }
+{
+    if let Some(more) = after_word(text, "stay") {
         return alone(Cmd::Stay, more);
     }
-    if word == b"leave".as_slice() {
+    read_show(after_word(text, "show")?)
+}
+
+/// The command that a text spells whose first letter is l.
+#[tactic(auto, unfolding(crate::specs::Reading::command_of))]
+fn read_l(text: &[u8]) -> Option<Cmd>
+    requires { slice_index text.now 0 ≡ 108 }
+    ensures { (levels : ℕ) → result ≡ command_of levels (slice_split is_space text.now) }
+{
+    if let Some(more) = after_word(text, "leave") {
         return alone(Cmd::Leave, more);
     }
-    if word == b"show".as_slice() {
-        return read_show(more);
-    }
-    if word == b"lists".as_slice() {
+    if let Some(more) = after_word(text, "lists") {
         return alone(Cmd::Lists, more);
     }
-    if word == b"limit".as_slice() {
-        return alone(Cmd::Limit, more);
-    }
-    None
+    alone(Cmd::Limit, after_word(text, "limit")?)
 }
 
 /// The command, where no field follows.

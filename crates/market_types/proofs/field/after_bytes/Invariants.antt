@@ -1,0 +1,6 @@
+use Rattle.std.proofs.Common.{◌≡◌, drop}
+use Rattle.market_types.specs.Cuts.{follows_word}
+use Rattle.market_types.proofs.field.after_bytes.Given as goal
+
+abbrev pub invariant-loop-at : goal.invariant-loop-at
+invariant-loop-at l = follows_word (drop l.at l.word) (drop l.at l.text) ≡ follows_word l.word l.text
