@@ -1,7 +1,7 @@
 //! Commands and replies written as texts.
 #![tactic(auto, using(crate::proofs::Written::extends_trans))]
 
-ghost use Rattle.std.specs.Prelude.{◌≡◌, ◌++◌, IfOk, IsUtf8, OnErr, OnOk, codes, decimal, string_bytes};
+ghost use Rattle.std.specs.Prelude.{◌≡◌, ◌+◌, ◌<◌, ◌++◌, IfOk, IsUtf8, OnErr, OnOk, codes, decimal, string_bytes};
 ghost use Rattle.std.specs.Fmt.{signed_decimal};
 ghost use Rattle.market_types.specs.Corrections.{counts_to};
 ghost use Rattle.market_types.specs.Texts.{cmd_text, count_text, counts_text, fault_text, level_text, limit_text, open_fault_text, reply_text, view_text, yes_no};
@@ -321,6 +321,7 @@ fn push_fault(out: &mut Vec<u8>, fault: Fault) -> Result<(), AllocError>
 }
 
 /// A label, and a number in decimal.
+#[inline(always)]
 fn push_part(out: &mut Vec<u8>, label: &str, number: u32) -> Result<(), AllocError>
     ensures ok { OnOk result (out.new.items ≡ out.old.items ++ (label.now ++ decimal number)) }
     ensures grows { Extends out.old.items out.new.items }
@@ -330,6 +331,7 @@ fn push_part(out: &mut Vec<u8>, label: &str, number: u32) -> Result<(), AllocErr
 }
 
 /// A space and a word.
+#[inline(always)]
 fn push_word(out: &mut Vec<u8>, word: &str) -> Result<(), AllocError>
     ensures ok { OnOk result (out.new.items ≡ out.old.items ++ (codes " " ++ word.now)) }
     ensures grows { Extends out.old.items out.new.items }
@@ -343,8 +345,11 @@ fn push_signed(out: &mut Vec<u8>, number: i32) -> Result<(), AllocError>
     ensures ok { OnOk result (out.new.items ≡ out.old.items ++ (codes " " ++ signed_decimal number)) }
     ensures grows { Extends out.old.items out.new.items }
 {
-    let mut digits = Buffer::new();
-    push_word(out, digits.format(number))
+    if number < 0 {
+        push_part(out, " -", number.unsigned_abs())
+    } else {
+        push_part(out, " ", number.unsigned_abs())
+    }
 }
 
 /// A number in decimal.
@@ -352,10 +357,37 @@ fn push_number(out: &mut Vec<u8>, number: u32) -> Result<(), AllocError>
     ensures ok { OnOk result (out.new.items ≡ out.old.items ++ decimal number) }
     ensures grows { Extends out.old.items out.new.items }
 {
+    // Nearly all numbers are short, and these need no buffer.
+    if number < 10 {
+        return push_digits(out, &[digit(number)]);
+    }
+    if number < 100 {
+        return push_digits(out, &[digit(number / 10), digit(number % 10)]);
+    }
     let mut digits = Buffer::new();
     push_text(out, digits.format(number))
 }
 
+/// The digit of a number below 10.
+fn digit(number: u32) -> u8
+    requires { number < 10 }
+    ensures { result ≡ 48 + number }
+{
+    b'0' + number as u8
+}
+
+/// Digits, as they stand.
+#[inline(always)]
+fn push_digits(out: &mut Vec<u8>, digits: &[u8]) -> Result<(), AllocError>
+    requires { IsUtf8 digits.now }
+    ensures ok { OnOk result (out.new.items ≡ out.old.items ++ digits.now) }
+    ensures grows { Extends out.old.items out.new.items }
+{
+    out.extend_from_slice(digits)
+}
+
+/// A text, as it stands. Where it is inlined its length is known, and it is copied with no call.
+#[inline(always)]
 fn push_text(out: &mut Vec<u8>, text: &str) -> Result<(), AllocError>
     ensures ok { OnOk result (out.new.items ≡ out.old.items ++ text.now) }
     ensures grows { Extends out.old.items out.new.items }
