@@ -352,18 +352,27 @@ fn push_signed(out: &mut Vec<u8>, number: i32) -> Result<(), AllocError>
     }
 }
 
-/// A number in decimal.
+/// A number in decimal. Nearly all numbers are short, and these need no buffer and no call.
+#[inline(always)]
 fn push_number(out: &mut Vec<u8>, number: u32) -> Result<(), AllocError>
     ensures ok { OnOk result (out.new.items ≡ out.old.items ++ decimal number) }
     ensures grows { Extends out.old.items out.new.items }
 {
-    // Nearly all numbers are short, and these need no buffer.
     if number < 10 {
         return push_digits(out, &[digit(number)]);
     }
     if number < 100 {
         return push_digits(out, &[digit(number / 10), digit(number % 10)]);
     }
+    push_long(out, number)
+}
+
+/// A number of any length in decimal.
+#[inline(never)]
+fn push_long(out: &mut Vec<u8>, number: u32) -> Result<(), AllocError>
+    ensures ok { OnOk result (out.new.items ≡ out.old.items ++ decimal number) }
+    ensures grows { Extends out.old.items out.new.items }
+{
     let mut digits = Buffer::new();
     push_text(out, digits.format(number))
 }
