@@ -35,21 +35,21 @@ pub no_join : (text : List ℕ) → slice_index text 0 ≡ 106 → IsNot (codes 
 unfolding command_of
 no_join text e = at_letter (λ t. IsNot (codes "join") t → SpellsNone t) 106 text (omega arith) e (λ rest h levels. rw (text_fields (106 ∷ rest), h) refl)
 
-pub no_c : (text : List ℕ) → slice_index text 0 ≡ 99 → IsNot (codes "close") text → IsNot (codes "control") text → SpellsNone text
+pub no_close_or_control : (text : List ℕ) → slice_index text 0 ≡ 99 → IsNot (codes "close") text → IsNot (codes "control") text → SpellsNone text
 unfolding command_of
-no_c text e = at_letter (λ t. IsNot (codes "close") t → IsNot (codes "control") t → SpellsNone t) 99 text (omega arith) e (λ rest h k levels. rw (text_fields (99 ∷ rest), h, k) refl)
+no_close_or_control text e = at_letter (λ t. IsNot (codes "close") t → IsNot (codes "control") t → SpellsNone t) 99 text (omega arith) e (λ rest h k levels. rw (text_fields (99 ∷ rest), h, k) refl)
 
-pub no_r : (text : List ℕ) → slice_index text 0 ≡ 114 → IsNot (codes "request") text → IsNot (codes "resize") text → SpellsNone text
+pub no_request_or_resize : (text : List ℕ) → slice_index text 0 ≡ 114 → IsNot (codes "request") text → IsNot (codes "resize") text → SpellsNone text
 unfolding command_of
-no_r text e = at_letter (λ t. IsNot (codes "request") t → IsNot (codes "resize") t → SpellsNone t) 114 text (omega arith) e (λ rest h k levels. rw (text_fields (114 ∷ rest), k, h) refl)
+no_request_or_resize text e = at_letter (λ t. IsNot (codes "request") t → IsNot (codes "resize") t → SpellsNone t) 114 text (omega arith) e (λ rest h k levels. rw (text_fields (114 ∷ rest), k, h) refl)
 
-pub no_s : (text : List ℕ) → slice_index text 0 ≡ 115 → IsNot (codes "stay") text → IsNot (codes "show") text → SpellsNone text
+pub no_stay_or_show : (text : List ℕ) → slice_index text 0 ≡ 115 → IsNot (codes "stay") text → IsNot (codes "show") text → SpellsNone text
 unfolding command_of
-no_s text e = at_letter (λ t. IsNot (codes "stay") t → IsNot (codes "show") t → SpellsNone t) 115 text (omega arith) e (λ rest h k levels. rw (text_fields (115 ∷ rest), h, k) refl)
+no_stay_or_show text e = at_letter (λ t. IsNot (codes "stay") t → IsNot (codes "show") t → SpellsNone t) 115 text (omega arith) e (λ rest h k levels. rw (text_fields (115 ∷ rest), h, k) refl)
 
-pub no_l : (text : List ℕ) → slice_index text 0 ≡ 108 → IsNot (codes "leave") text → IsNot (codes "lists") text → IsNot (codes "limit") text → SpellsNone text
+pub no_leave_lists_or_limit : (text : List ℕ) → slice_index text 0 ≡ 108 → IsNot (codes "leave") text → IsNot (codes "lists") text → IsNot (codes "limit") text → SpellsNone text
 unfolding command_of
-no_l text e = at_letter (λ t. IsNot (codes "leave") t → IsNot (codes "lists") t → IsNot (codes "limit") t → SpellsNone t) 108 text (omega arith) e (λ rest h k i levels. rw (text_fields (108 ∷ rest), h, k, i) refl)
+no_leave_lists_or_limit text e = at_letter (λ t. IsNot (codes "leave") t → IsNot (codes "lists") t → IsNot (codes "limit") t → SpellsNone t) 108 text (omega arith) e (λ rest h k i levels. rw (text_fields (108 ∷ rest), h, k, i) refl)
 
 no_letter_by : (space : Bool) (b : ℕ) (field : List ℕ) (fields : List (List ℕ)) (levels : ℕ) → (b ≢ 111) → (b ≢ 112) → (b ≢ 117) → (b ≢ 106) → (b ≢ 99) → (b ≢ 114) → (b ≢ 115) → (b ≢ 108) → None ≡ command_of levels (cond space [] (b ∷ field) ∷ fields)
 unfolding command_of

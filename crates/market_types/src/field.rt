@@ -142,12 +142,12 @@ pub(crate) fn cut_number(text: &[u8]) -> Option<(u32, Option<&[u8]>)>
     ensures some { IfSome result (λ p. (slice_split is_space text.now ≡ first_field text.now ∷ fields_left p.1) × (number (first_field text.now) ≡ Some p.0)) }
 {
     let (first, more) = text.split_first()?;
-    let number = with_digit(0, *first)?;
+    let digit = with_digit(0, *first)?;
     // A first 0 stands alone.
-    if number == 0 {
+    if digit == 0 {
         ended(0, more)
     } else {
-        cut_digits(number, more)
+        cut_digits(digit, more)
     }
 }
 

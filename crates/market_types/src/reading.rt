@@ -45,17 +45,17 @@ fn read_command(text: Option<&[u8]>, levels: u32) -> Option<Cmd>
         b'p' => read_priority(after_word(text, "priority")?, levels),
         b'u' => read_uncontrol(after_word(text, "uncontrol")?),
         b'j' => alone(Cmd::Join, after_word(text, "join")?),
-        b'c' => read_c(text),
-        b'r' => read_r(text),
-        b's' => read_s(text),
-        b'l' => read_l(text),
+        b'c' => read_close_or_control(text),
+        b'r' => read_request_or_resize(text),
+        b's' => read_stay_or_show(text),
+        b'l' => read_leave_lists_or_limit(text),
         _ => None,
     }
 }
 
 /// The command that a text spells whose first letter is c.
 #[tactic(auto, unfolding(crate::specs::Reading::command_of))]
-fn read_c(text: &[u8]) -> Option<Cmd>
+fn read_close_or_control(text: &[u8]) -> Option<Cmd>
     requires { slice_index text.now 0 ≡ 99 }
     ensures { (levels : ℕ) → result ≡ command_of levels (slice_split is_space text.now) }
 {
@@ -67,7 +67,7 @@ fn read_c(text: &[u8]) -> Option<Cmd>
 
 /// The command that a text spells whose first letter is r.
 #[tactic(auto, unfolding(crate::specs::Reading::command_of))]
-fn read_r(text: &[u8]) -> Option<Cmd>
+fn read_request_or_resize(text: &[u8]) -> Option<Cmd>
     requires { slice_index text.now 0 ≡ 114 }
     ensures { (levels : ℕ) → result ≡ command_of levels (slice_split is_space text.now) }
 {
@@ -79,7 +79,7 @@ fn read_r(text: &[u8]) -> Option<Cmd>
 
 /// The command that a text spells whose first letter is s.
 #[tactic(auto, unfolding(crate::specs::Reading::command_of))]
-fn read_s(text: &[u8]) -> Option<Cmd>
+fn read_stay_or_show(text: &[u8]) -> Option<Cmd>
     requires { slice_index text.now 0 ≡ 115 }
     ensures { (levels : ℕ) → result ≡ command_of levels (slice_split is_space text.now) }
 {
@@ -91,7 +91,7 @@ fn read_s(text: &[u8]) -> Option<Cmd>
 
 /// The command that a text spells whose first letter is l.
 #[tactic(auto, unfolding(crate::specs::Reading::command_of))]
-fn read_l(text: &[u8]) -> Option<Cmd>
+fn read_leave_lists_or_limit(text: &[u8]) -> Option<Cmd>
     requires { slice_index text.now 0 ≡ 108 }
     ensures { (levels : ℕ) → result ≡ command_of levels (slice_split is_space text.now) }
 {
