@@ -8,9 +8,15 @@ use Rattle.std.proofs.lemmas.Bool.{eqb-true}
 use Rattle.std.proofs.Math.ListN.{drop_of_length-le}
 use Rattle.market_types.specs.Fields.{fields_left}
 use Rattle.market_types.specs.Reading.{is_space}
-use Rattle.market_types.specs.Cuts.{first_field, follows, follows_word}
+use Rattle.market_types.specs.Cuts.{first_field, follows}
 
 -- ---- byte by byte
+
+-- the fields after a word, where it is the first field
+abbrev pub follows_word : List ℕ → List ℕ → Option (List (List ℕ))
+follows_word [] text = follows text
+follows_word (w ∷ word) [] = None
+follows_word (w ∷ word) (b ∷ text) = cond (eqb b w) (follows_word word text) None
 
 shorter_by : (same : Bool) (word text : List ℕ) → None ≡ follows_word word text → None ≡ cond same (follows_word word text) None
 shorter_by true word text h = h

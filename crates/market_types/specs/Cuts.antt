@@ -1,5 +1,5 @@
 -- What the reader's parts answer of a text's first field. No public clause has these words.
-use Rattle.std.specs.Prelude.{ℕ, List, [], ◌∷◌, if◌then◌else◌, ◌==◌, Option, Some, None, option_and_then, option_map}
+use Rattle.std.specs.Prelude.{ℕ, List, [], ◌∷◌, if◌then◌else◌, Option, Some, None, option_and_then, option_map}
 use Rattle.std.specs.Borrow.{Bor}
 use Rattle.std.specs.List.{slice_split}
 use Rattle.market_types.specs.Fields.{digit_after, fields_left}
@@ -19,12 +19,6 @@ later_fields (b ∷ text) = if is_space b then slice_split is_space text else la
 abbrev pub follows : List ℕ → Option (List (List ℕ))
 follows [] = Some []
 follows (b ∷ text) = if is_space b then Some (slice_split is_space text) else None
-
--- the fields after a word, where it is the first field
-abbrev pub follows_word : List ℕ → List ℕ → Option (List (List ℕ))
-follows_word [] text = follows text
-follows_word (w ∷ word) [] = None
-follows_word (w ∷ word) (b ∷ text) = if b == w then follows_word word text else None
 
 -- a number, where the field ends, and the fields after it
 abbrev pub ended : ℕ → List ℕ → Option (ℕ × List (List ℕ))

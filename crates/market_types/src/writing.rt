@@ -1,7 +1,7 @@
 //! Commands and replies written as texts.
 #![tactic(auto, using(crate::proofs::Written::extends_trans))]
 
-ghost use Rattle.std.specs.Prelude.{◌≡◌, ◌+◌, ◌<◌, ◌++◌, IfOk, IsUtf8, OnErr, OnOk, codes, decimal, string_bytes};
+ghost use Rattle.std.specs.Prelude.{◌≡◌, ◌+◌, ◌<◌, ◌≤◌, ◌++◌, IfOk, IsUtf8, OnErr, OnOk, codes, decimal, string_bytes};
 ghost use Rattle.std.specs.Fmt.{signed_decimal};
 ghost use Rattle.market_types.specs.Corrections.{counts_to};
 ghost use Rattle.market_types.specs.Texts.{cmd_text, count_text, counts_text, fault_text, level_text, limit_text, open_fault_text, reply_text, view_text, yes_no};
@@ -367,9 +367,26 @@ fn push_number(out: &mut Vec<u8>, number: u32) -> Result<(), AllocError>
     push_long(out, number)
 }
 
-/// A number of any length in decimal.
+/// A number of more than two digits in decimal. Three are written as they stand too.
 #[inline(never)]
 fn push_long(out: &mut Vec<u8>, number: u32) -> Result<(), AllocError>
+    requires { 100 ≤ number }
+    ensures ok { OnOk result (out.new.items ≡ out.old.items ++ decimal number) }
+    ensures grows { Extends out.old.items out.new.items }
+{
+    if number < 1000 {
+        let tens = number / 10;
+        return push_digits(
+            out,
+            &[digit(tens / 10), digit(tens % 10), digit(number % 10)],
+        );
+    }
+    push_buffered(out, number)
+}
+
+/// A number of any length in decimal.
+#[inline(never)]
+fn push_buffered(out: &mut Vec<u8>, number: u32) -> Result<(), AllocError>
     ensures ok { OnOk result (out.new.items ≡ out.old.items ++ decimal number) }
     ensures grows { Extends out.old.items out.new.items }
 {

@@ -1,5 +1,5 @@
 use Rattle.std.proofs.Common.{◌≡◌, drop}
-use Rattle.market_types.specs.Cuts.{follows_word}
+use Rattle.market_types.proofs.Words.{follows_word}
 use Rattle.market_types.proofs.field.after_bytes.Given as goal
 
 abbrev pub invariant-loop-at : goal.invariant-loop-at

@@ -14,7 +14,7 @@ returns-then-number-lt10-clause-ok c =
 pub push_digits-requires-then-number-lt100 : goal.push_digits-requires-then-number-lt100
 push_digits-requires-then-number-lt100 c =
     subst IsUtf8 (two_digits c.args.number c.digit-then-number-lt100.result c.digit-then-number-lt100-2.result c.if-number-lt10.false c.if-number-lt100.true c.digit-then-number-lt100.ensures c.digit-then-number-lt100-2.ensures)
-    (utf8-decimal c.args.number c.if-number-lt100.true)
+    (utf8-decimal c.args.number (omega arith))
 
 pub returns-then-number-lt100-clause-ok : goal.returns-then-number-lt100-clause-ok
 returns-then-number-lt100-clause-ok c =
