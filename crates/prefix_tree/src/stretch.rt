@@ -1,6 +1,5 @@
 //! Rows that stand together in a tree, for a walk in order that may pass over some.
-ghost use Rattle.std.specs.Prelude.{◌≡◌, ◌+◌, ◌^◌, ◌<◌, [], ◌∷◌, ◌++◌, length, IfNone, IfSome};
-ghost use Rattle.std.specs.Bool.{OnTrue, OnFalse};
+ghost use Rattle.std.specs.Prelude.{◌≡◌, ◌+◌, ◌^◌, ◌<◌, [], ◌∷◌, ◌++◌, IfNone, IfSome};
 ghost use Rattle.prefix_tree.specs.Rows.{requests};
 
 use crate::side::Side;
@@ -47,15 +46,6 @@ impl<'a> Stretch<'a> {
         ensures exact { result ≡ requests self.now.0 }
     {
         u64::from(self.requests)
-    }
-
-    /// Whether there are no rows. Enters no node.
-    #[inline(always)]
-    pub fn is_empty(&self) -> bool
-        ensures none { OnTrue result (self.now.0 ≡ []) }
-        ensures some { OnFalse result (0 < length self.now.0) }
-    {
-        self.side.is_empty()
     }
 
     /// The same rows, for a walk that takes its stretches by value. Enters no node.

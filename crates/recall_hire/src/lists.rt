@@ -11,6 +11,7 @@ use crate::sharing::{Sharing, whole};
 use level_list::Stretch;
 use market_types::{Correction, Imbalance, Lists, Row};
 use std::alloc::AllocError;
+use std::cmp::Ordering;
 
 /// How many arenas lists have room for as soon as one is listed.
 const FIRST_ROOM: usize = 16;
@@ -104,17 +105,13 @@ impl Listing<'_> {
     }
 
     /// The carry past a stretch where nobody is allotted a worker or has one, so that none of it is listed. None where
-    /// somebody may be: there are rows, and seats are left to be met or a worker is due.
+    /// somebody may be: seats are left to be met, or a worker is due.
     #[inline(always)]
     fn past(&self, rows: &Stretch, carry: u64, unmet: u32) -> Option<u64>
         requires shared { CanShareAll self.now.sharing carry (requests rows.now.0) }
         requires unmet { actives (staffed self.now.sharing self.now.roster.now carry rows.now.0) ≤ unmet }
         ensures { IfSome result (λ after. (visits : ℕ) (lists : Counts) → IsWalk self.now.sharing self.now.roster.now rows.now.0 carry after unmet unmet visits visits lists lists) }
     {
-        if rows.is_empty() {
-            // Half of all sides are: a call for each would take as long as for a node.
-            return Some(carry);
-        }
         if unmet > 0 {
             return None;
         }
@@ -196,13 +193,10 @@ fn put(lists: &mut Lists, row: Staffing) -> Result<(), AllocError>
     ensures listed { OnOk result (IsListed (row ∷ []) lists.old lists.new) }
     ensures succeeds { counts_in (row ∷ []) ≡ record { recalls = []; hires = [] } → IsOk result }
 {
-    if row.active == row.allotted {
-        return Ok(());
-    }
-    let (correction, count) = if row.active < row.allotted {
-        (Correction::Hire, hire(row.active, row.allotted))
-    } else {
-        (Correction::Recall, recall(row.active, row.allotted))
+    let (correction, count) = match row.active.cmp(&row.allotted) {
+        Ordering::Less => (Correction::Hire, hire(row.active, row.allotted)),
+        Ordering::Equal => return Ok(()),
+        Ordering::Greater => (Correction::Recall, recall(row.active, row.allotted)),
     };
     make_room(lists)?;
     lists.push(Imbalance {
