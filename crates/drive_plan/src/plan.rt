@@ -1,5 +1,5 @@
 //! Plans.
-ghost use Rattle.std.specs.Prelude.{◌≡◌, ◌≤◌, IfOk, length};
+ghost use Rattle.std.specs.Prelude.{◌≡◌, ◌≤◌, None, Some, true, false, IfOk, length};
 ghost use Rattle.std.specs.List.{All};
 ghost use Rattle.drive_plan.specs.Plans.{FitsArena, FitsControl, FitsJob, FitsLine, FitsMarket, after_market, with_arena, with_control, with_job, with_line};
 
@@ -157,15 +157,28 @@ impl Plan {
         Ok(Some(self))
     }
 
+    /// One job more, where the plan may have it: whether it may. Else nothing is changed.
+    pub(crate) fn push_job(&mut self, job: PlannedJob) -> Result<bool, AllocError>
+        requires { FitsJob (length self.old.arenas) job }
+        ensures taken { IfOk result (λ taken. taken ≡ true → with_job self.old job ≡ Some self.new) }
+        ensures full { IfOk result (λ taken. taken ≡ false → with_job self.old job ≡ None) }
+        ensures left { IfOk result (λ taken. taken ≡ false → self.new ≡ self.old) }
+    {
+        if self.jobs.len() >= MOST_JOBS {
+            return Ok(false);
+        }
+        self.jobs.push(job)?;
+        Ok(true)
+    }
+
     /// The plan with one job more, where it may have one.
     fn with_job(mut self, job: PlannedJob) -> Result<Option<Plan>, AllocError>
         requires { FitsJob (length self.arenas) job }
         ensures { IfOk result (λ plan. plan ≡ with_job self job) }
     {
-        if self.jobs.len() >= MOST_JOBS {
+        if !self.push_job(job)? {
             return Ok(None);
         }
-        self.jobs.push(job)?;
         Ok(Some(self))
     }
 

@@ -1,5 +1,5 @@
 //! A plan, read line by line.
-ghost use Rattle.std.specs.Prelude.{◌≡◌, ◌+◌, ◌<◌, IfOk};
+ghost use Rattle.std.specs.Prelude.{◌≡◌, ◌+◌, ◌<◌, ℕ, true, false, IfOk, OnOk};
 ghost use Rattle.std.specs.List.{count_by};
 ghost use Rattle.line_engine.specs.Lines.{is_lf};
 ghost use Rattle.drive_plan.specs.Format.{MemoryAside, after_line, after_text, begun, gone_on, is_passed_over, plan_of, stopped, told};
@@ -95,6 +95,25 @@ impl Progress {
         self.after_text(alloc, line, number)
     }
 
+    /// After one line more, where it is a job that the plan of the lines before may have: whether it is. The plan stays where it
+    /// is. Else nothing is changed.
+    fn take_job(&mut self, line: &[u8], form: LineForm) -> Result<bool, AllocError>
+        ensures taken { IfOk result (λ taken. taken ≡ true → (number : ℕ) → self.new ≡ after_line self.old (record { bytes = line.now; form = form }) number) }
+        ensures left { IfOk result (λ taken. taken ≡ false → self.new ≡ self.old) }
+    {
+        if is_passed_over(line) || form == LineForm::TooLong {
+            return Ok(false);
+        }
+        let Progress::Planned(plan) = self else {
+            return Ok(false);
+        };
+        let arenas = plan.arenas().len() as u32;
+        let Some(PlanLine::Job(job)) = read_plan_line(line, plan.levels(), arenas) else {
+            return Ok(false);
+        };
+        plan.push_job(job)
+    }
+
     /// After a line that does not fit, which has this number.
     fn stop(self, number: u64) -> Progress
         ensures { result ≡ stopped self number }
@@ -142,6 +161,19 @@ impl Reader {
             progress: Progress::Unopened,
         }
     }
+
+    /// Takes a line that is no job of a plan, as the market's or an arena's. It has the number of the lines so far.
+    // Apart, since each line would else make room for all that is needed here.
+    #[cold]
+    #[inline(never)]
+    fn take_other(&mut self, line: &[u8], form: LineForm) -> Result<(), AllocError>
+        ensures progress { OnOk result (self.new.progress ≡ after_line self.old.progress (record { bytes = line.now; form = form }) self.old.lines) }
+        ensures lines { OnOk result (self.new.lines ≡ self.old.lines) }
+    {
+        let progress = mem::replace(&mut self.progress, Progress::Unopened);
+        self.progress = progress.after_line(self.alloc, line, form, self.lines)?;
+        Ok(())
+    }
 }
 
 impl LineTaker for Reader {
@@ -180,10 +212,11 @@ impl LineTaker for Reader {
         form: LineForm,
         _replies: &mut Vec<u8>,
     ) -> Result<(), AllocError> {
-        let progress = mem::replace(&mut self.progress, Progress::Unopened);
         self.lines += 1;
-        self.progress = progress.after_line(self.alloc, line, form, self.lines)?;
-        Ok(())
+        if self.progress.take_job(line, form)? {
+            return Ok(());
+        }
+        self.take_other(line, form)
     }
 }
 
