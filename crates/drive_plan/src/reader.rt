@@ -64,6 +64,20 @@ fn go_on(plan: Plan, line: &[u8], number: u64) -> Result<Progress, AllocError>
     }
 }
 
+/// How many lines an LF ends.
+fn ended_lines(text: &[u8]) -> usize
+    ensures { result ≡ count_by is_lf text.now }
+{
+    text.iter().filter(|byte| **byte == b'\n').count()
+}
+
+/// The text ends too early: told is the line after the last that an LF ends. Only such a text is passed over for it once more.
+fn too_early(text: &[u8]) -> PlanFault
+    ensures { result ≡ PlanFault.BadPlan (count_by is_lf text.now + 1) }
+{
+    PlanFault::BadPlan(ended_lines(text) as u64 + 1)
+}
+
 impl Progress {
     /// After one line more that is not passed over, which has this number.
     fn after_text(self, alloc: Global, line: &[u8], number: u64) -> Result<Progress, AllocError>
@@ -124,15 +138,15 @@ impl Progress {
         }
     }
 
-    /// The plan, if no line follows; `early` is the line that is told where it ends too early.
-    fn into_plan(self, early: u64) -> Result<Plan, PlanFault>
-        ensures { result ≡ told self early }
+    /// The plan of this text, if no line follows.
+    fn into_plan(self, text: &[u8]) -> Result<Plan, PlanFault>
+        ensures { result ≡ told self (count_by is_lf text.now + 1) }
     {
         match self {
-            Progress::Unopened => Err(PlanFault::BadPlan(early)),
+            Progress::Unopened => Err(too_early(text)),
             Progress::Planned(plan) => {
                 if plan.arenas().is_empty() {
-                    return Err(PlanFault::BadPlan(early));
+                    return Err(too_early(text));
                 }
                 Ok(plan)
             }
@@ -220,13 +234,6 @@ impl LineTaker for Reader {
     }
 }
 
-/// How many lines an LF ends.
-fn ended_lines(text: &[u8]) -> usize
-    ensures { result ≡ count_by is_lf text.now }
-{
-    text.iter().filter(|byte| **byte == b'\n').count()
-}
-
 /// The plan that a text is, or the number of its first line that doesn't fit; where the text ends too early, without its
 /// `market` line or an arena, that of the line after its last LF. It takes the memory of the plan and of an unfinished
 /// line; out of memory is `Memory`. The text may have any length.
@@ -241,5 +248,5 @@ pub fn read_plan(alloc: Global, text: &[u8]) -> Result<Plan, PlanFault>
     let Ok(reader) = take_text(alloc, Reader::new(alloc), text) else {
         return Err(PlanFault::Memory);
     };
-    reader.progress.into_plan(ended_lines(text) as u64 + 1)
+    reader.progress.into_plan(text)
 }
