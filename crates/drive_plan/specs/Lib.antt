@@ -2,5 +2,6 @@ pub mod Values
 pub mod Outcome
 pub mod Gathering
 pub mod Reading
+pub mod Digits
 pub mod Plans
 pub mod Format

@@ -1,8 +1,8 @@
 //! The lines of a plan, read.
 ghost use Rattle.std.specs.Prelude.{◌≡◌, ◌≤◌, ℕ, IfSome};
-ghost use Rattle.std.specs.Str.{all_ascii_digits};
 ghost use Rattle.market_types.specs.Fields.{fields_left};
-ghost use Rattle.market_types.specs.Reading.{is_number};
+ghost use Rattle.market_types.specs.Reading.{is_plain};
+ghost use Rattle.drive_plan.specs.Digits.{digit_after};
 ghost use Rattle.drive_plan.specs.Plans.{FitsLine};
 ghost use Rattle.drive_plan.specs.Reading.{alone, arena_line, arena_wanted, control_line, job_line, level_in, line_of, long_number, market_line, number_in, task_of};
 
@@ -41,42 +41,38 @@ fn read_in(field: &[u8], least: u32, most: u32) -> Option<u32>
     Some(number)
 }
 
-/// Whether all bytes are decimal digits.
-fn is_digits(field: &[u8]) -> bool
-    ensures { result ≡ all_ascii_digits field.now }
+/// The number of 64 bits whose digits are those of `number` and then this one, where it fits.
+fn with_digit(number: u64, digit: u8) -> Option<u64>
+    ensures { result ≡ digit_after number digit }
 {
-    for byte in field {
-        if !byte.is_ascii_digit() {
-            return false;
-        }
+    if !digit.is_ascii_digit() {
+        return None;
     }
-    true
+    number.checked_mul(10)?.checked_add(u64::from(digit - b'0'))
 }
 
-/// Whether the field is decimal digits with no needless 0 before them.
-fn is_number(field: &[u8]) -> bool
-    ensures { result ≡ is_number field.now }
+/// The field is not empty, and begins with 0 only where that is all of it.
+fn is_plain(field: &[u8]) -> bool
+    ensures { result ≡ is_plain field.now }
 {
-    if !is_digits(field) {
-        return false;
-    }
     if field.is_empty() {
         return false;
     }
     field.len() == 1 || field[0] != b'0'
 }
 
-/// A number of 64 bits.
+/// A number of 64 bits, in one pass over its digits.
 fn read_long_number(field: &[u8]) -> Option<u64>
     ensures { result ≡ long_number field.now }
 {
-    if !is_number(field) {
+    if !is_plain(field) {
         return None;
     }
-    let Ok(text) = str::from_utf8(field) else {
-        return None;
-    };
-    text.parse::<u64>().ok()
+    let mut number = 0;
+    for digit in field {
+        number = with_digit(number, *digit)?;
+    }
+    Some(number)
 }
 
 /// A level of a market that has so many.

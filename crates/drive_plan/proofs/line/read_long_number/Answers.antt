@@ -1,14 +1,14 @@
 use Rattle.std.proofs.Common.{◌∙◌, sym}
-use Rattle.drive_plan.proofs.Numbers.{parsed, no_number, utf8_number}
+use Rattle.drive_plan.proofs.Numbers.{number-not_plain, stopped, ended}
 use Rattle.drive_plan.proofs.line.read_long_number.Goals as goal
 
-pub returns-then-not-is_number : goal.returns-then-not-is_number
-returns-then-not-is_number c = no_number c.args.field.now (sym c.if-not-is_number.ensures)
+pub returns-then-not-is_plain : goal.returns-then-not-is_plain
+returns-then-not-is_plain c = number-not_plain c.args.field.now (sym c.if-not-is_plain.ensures)
 
-pub returns-in_default : goal.returns-in_default
-returns-in_default c = absurd (c.in_default.ensures.cases.0 (utf8_number c.args.field.now (sym c.if-not-is_number.ensures)))
+pub returns-in_err-number : goal.returns-in_err-number
+returns-in_err-number c =
+    c.from_residual.ensures
+    ∙ stopped c.loop-digit.number c.loop-digit.digit-index c.args.field.now (sym c.if-not-is_plain.ensures) c.loop-digit-test.true (sym c.in_err-number.ensures) c.loop-digit.invariant
 
 pub returns : goal.returns
-returns c =
-    let text = c.in-Ok.ensures.cases.0 in
-    c.ok.ensures.value ∙ parsed c.args.field.now c.parse.result (sym c.if-not-is_number.ensures) (rw text at c.parse.ensures.value.0)
+returns c = ended c.loop-digit.number c.loop-digit.digit-index c.args.field.now (sym c.if-not-is_plain.ensures) c.loop-digit-test.false c.loop-digit.invariant
