@@ -1,5 +1,6 @@
 pub mod Sums
 pub mod Order
 pub mod Numbers
+pub mod Tasks
 pub mod Fields
 mod Examples

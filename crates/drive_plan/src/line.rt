@@ -1,10 +1,12 @@
 //! The lines of a plan, read.
-ghost use Rattle.std.specs.Prelude.{◌≡◌, ◌≤◌, ℕ, IfSome};
+ghost use Rattle.std.specs.Prelude.{◌≡◌, ◌≢◌, ◌≤◌, ◌++◌, ℕ, List, IfNone, IfSome, codes};
+ghost use Rattle.std.specs.List.{slice_split};
 ghost use Rattle.market_types.specs.Fields.{fields_left};
-ghost use Rattle.market_types.specs.Reading.{is_plain};
+ghost use Rattle.market_types.specs.Reading.{is_plain, is_space};
 ghost use Rattle.drive_plan.specs.Digits.{digit_after};
 ghost use Rattle.drive_plan.specs.Plans.{FitsLine};
-ghost use Rattle.drive_plan.specs.Reading.{alone, arena_line, arena_wanted, control_line, job_line, level_in, line_of, long_number, market_line, number_in, task_of};
+ghost use Rattle.drive_plan.specs.Reading.{alone, arena_line, arena_wanted, control_line, job_line, level_in, line_of, long_number, market_line, number_in};
+ghost use Rattle.drive_plan.specs.Tasks.{task_left};
 
 use crate::plan::PlannedArena;
 use crate::task::{PlannedJob, Task};
@@ -155,29 +157,57 @@ fn read_control(more: Option<&[u8]>) -> Option<PlanLine>
     alone(PlanLine::Control(value), more)
 }
 
-/// The task of a kind and its argument.
-fn read_task(kind: &[u8], field: &[u8]) -> Option<Task>
-    ensures { result ≡ task_of kind.now field.now }
+/// What follows `job` and a space.
+fn after_job(text: &[u8]) -> Option<&[u8]>
+    ensures { IfSome result (λ rest. text.now ≡ codes "job " ++ rest.now) }
 {
-    if kind == b"sum".as_slice() {
-        return Some(Task::Sum(read_in(field, 0, MOST_ADDED)?));
+    match text {
+        [b'j', b'o', b'b', b' ', rest @ ..] => Some(rest),
+        _ => None,
     }
-    if kind == b"digits".as_slice() {
-        return Some(Task::Digits(read_long_number(field)?));
-    }
-    None
 }
 
-fn read_job(more: Option<&[u8]>, arenas: u32) -> Option<PlanLine>
-    ensures exact { result ≡ job_line arenas (fields_left more.entry) }
+/// What follows `sum` and a space.
+fn after_sum(text: &[u8]) -> Option<&[u8]>
+    ensures none { IfNone result ((rest : List ℕ) → text.now ≢ codes "sum " ++ rest) }
+    ensures some { IfSome result (λ rest. text.now ≡ codes "sum " ++ rest.now) }
+{
+    match text {
+        [b's', b'u', b'm', b' ', rest @ ..] => Some(rest),
+        _ => None,
+    }
+}
+
+/// What follows `digits` and a space.
+fn after_digits(text: &[u8]) -> Option<&[u8]>
+    ensures none { IfNone result ((rest : List ℕ) → text.now ≢ codes "digits " ++ rest) }
+    ensures some { IfSome result (λ rest. text.now ≡ codes "digits " ++ rest.now) }
+{
+    match text {
+        [b'd', b'i', b'g', b'i', b't', b's', b' ', rest @ ..] => Some(rest),
+        _ => None,
+    }
+}
+
+/// The task that a job's line ends with. Its argument is all that is left: a space in it is no digit.
+fn read_task(text: &[u8]) -> Option<Task>
+    ensures { result ≡ task_left (slice_split is_space text.now) }
+{
+    if let Some(argument) = after_sum(text) {
+        return Some(Task::Sum(read_in(argument, 0, MOST_ADDED)?));
+    }
+    let argument = after_digits(text)?;
+    Some(Task::Digits(read_long_number(argument)?))
+}
+
+fn read_job(text: &[u8], arenas: u32) -> Option<PlanLine>
+    ensures exact { result ≡ job_line arenas (slice_split is_space text.now) }
     ensures fits { (levels : ℕ) → IfSome result (FitsLine levels arenas) }
 {
-    let (field, more) = cut_field(more?);
+    let (field, more) = cut_field(text);
     let arena = ArenaId::new(read_in(field, 1, arenas)?);
-    let (kind, more) = cut_field(more?);
-    let (field, more) = cut_field(more?);
-    let task = read_task(kind, field)?;
-    alone(PlanLine::Job(PlannedJob { arena, task }), more)
+    let task = read_task(more?)?;
+    Some(PlanLine::Job(PlannedJob { arena, task }))
 }
 
 /// What a line says of a market of so many levels, after so many arenas.
@@ -186,6 +216,10 @@ pub(crate) fn read_plan_line(line: &[u8], levels: u32, arenas: u32) -> Option<Pl
     ensures exact { result ≡ line_of levels arenas line.now }
     ensures fits { IfSome result (FitsLine levels arenas) }
 {
+    // Nearly all lines are jobs, whose word needs no search for its end.
+    if let Some(text) = after_job(line) {
+        return read_job(text, arenas);
+    }
     let (word, more) = cut_field(line);
     if word == b"market".as_slice() {
         return read_market(more);
@@ -197,7 +231,7 @@ pub(crate) fn read_plan_line(line: &[u8], levels: u32, arenas: u32) -> Option<Pl
         return read_control(more);
     }
     if word == b"job".as_slice() {
-        return read_job(more, arenas);
+        return read_job(more?, arenas);
     }
     None
 }
