@@ -1,10 +1,11 @@
 //! The lines of a plan, read.
-ghost use Rattle.std.specs.Prelude.{◌≡◌, ◌≢◌, ◌≤◌, ◌++◌, ℕ, List, IfNone, IfSome, codes};
+ghost use Rattle.std.specs.Prelude.{◌≡◌, ◌≢◌, ◌≤◌, ◌++◌, ℕ, List, Some, false, IfNone, IfSome, codes, option_map};
 ghost use Rattle.std.specs.List.{slice_split};
 ghost use Rattle.market_types.specs.Fields.{fields_left};
 ghost use Rattle.market_types.specs.Reading.{is_plain, is_space};
+ghost use Rattle.drive_plan.specs.Format.{is_passed_over};
 ghost use Rattle.drive_plan.specs.Digits.{digit_after};
-ghost use Rattle.drive_plan.specs.Plans.{FitsLine};
+ghost use Rattle.drive_plan.specs.Plans.{FitsJob, FitsLine};
 ghost use Rattle.drive_plan.specs.Reading.{alone, arena_line, arena_wanted, control_line, job_line, level_in, line_of, long_number, market_line, number_in};
 ghost use Rattle.drive_plan.specs.Tasks.{task_left};
 
@@ -200,14 +201,26 @@ fn read_task(text: &[u8]) -> Option<Task>
     Some(Task::Digits(read_long_number(argument)?))
 }
 
-fn read_job(text: &[u8], arenas: u32) -> Option<PlanLine>
-    ensures exact { result ≡ job_line arenas (slice_split is_space text.now) }
-    ensures fits { (levels : ℕ) → IfSome result (FitsLine levels arenas) }
+/// The job of a line, after its word.
+fn read_job(text: &[u8], arenas: u32) -> Option<PlannedJob>
+    ensures exact { option_map PlanLine.Job result ≡ job_line arenas (slice_split is_space text.now) }
+    ensures fits { IfSome result (FitsJob arenas) }
 {
     let (field, more) = cut_field(text);
     let arena = ArenaId::new(read_in(field, 1, arenas)?);
     let task = read_task(more?)?;
-    Some(PlanLine::Job(PlannedJob { arena, task }))
+    Some(PlannedJob { arena, task })
+}
+
+/// The job that a line says, after so many arenas. None of every other line. Nearly all lines are jobs: here their word needs no
+/// search for its end, and what else a line may say needs no room.
+#[tactic(auto, unfolding(crate::specs::Reading::line_of))]
+pub(crate) fn read_job_line(line: &[u8], arenas: u32) -> Option<PlannedJob>
+    ensures exact { (levels : ℕ) → IfSome result (λ job. line_of levels arenas line.now ≡ Some (PlanLine.Job job)) }
+    ensures fits { IfSome result (FitsJob arenas) }
+    ensures read { IfSome result (λ _. is_passed_over line.now ≡ false) }
+{
+    read_job(after_job(line)?, arenas)
 }
 
 /// What a line says of a market of so many levels, after so many arenas.
@@ -216,10 +229,6 @@ pub(crate) fn read_plan_line(line: &[u8], levels: u32, arenas: u32) -> Option<Pl
     ensures exact { result ≡ line_of levels arenas line.now }
     ensures fits { IfSome result (FitsLine levels arenas) }
 {
-    // Nearly all lines are jobs, whose word needs no search for its end.
-    if let Some(text) = after_job(line) {
-        return read_job(text, arenas);
-    }
     let (word, more) = cut_field(line);
     if word == b"market".as_slice() {
         return read_market(more);
@@ -231,7 +240,7 @@ pub(crate) fn read_plan_line(line: &[u8], levels: u32, arenas: u32) -> Option<Pl
         return read_control(more);
     }
     if word == b"job".as_slice() {
-        return read_job(more?, arenas);
+        return Some(PlanLine::Job(read_job(more?, arenas)?));
     }
     None
 }

@@ -4,7 +4,7 @@ ghost use Rattle.std.specs.List.{count_by};
 ghost use Rattle.line_engine.specs.Lines.{is_lf};
 ghost use Rattle.drive_plan.specs.Format.{MemoryAside, after_line, after_text, begun, gone_on, is_passed_over, plan_of, stopped, told};
 
-use crate::line::{PlanLine, read_plan_line};
+use crate::line::{PlanLine, read_job_line, read_plan_line};
 use crate::plan::Plan;
 use line_engine::{LONGEST_INPUT, LineForm, LineTaker, take_text};
 use std::alloc::{AllocError, Global};
@@ -115,14 +115,14 @@ impl Progress {
         ensures taken { IfOk result (λ taken. taken ≡ true → (number : ℕ) → self.new ≡ after_line self.old (record { bytes = line.now; form = form }) number) }
         ensures left { IfOk result (λ taken. taken ≡ false → self.new ≡ self.old) }
     {
-        if is_passed_over(line) || form == LineForm::TooLong {
+        if matches!(form, LineForm::TooLong) {
             return Ok(false);
         }
         let Progress::Planned(plan) = self else {
             return Ok(false);
         };
         let arenas = plan.arenas().len() as u32;
-        let Some(PlanLine::Job(job)) = read_plan_line(line, plan.levels(), arenas) else {
+        let Some(job) = read_job_line(line, arenas) else {
             return Ok(false);
         };
         plan.push_job(job)
