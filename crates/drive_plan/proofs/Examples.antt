@@ -37,6 +37,18 @@ long_digits : line_of 3 2 (codes "job 2 digits 18446744073709551615") ≡ Some (
 unfolding line_of number long_number
 long_digits = refl
 
+past_64_bits : line_of 3 2 (codes "job 2 digits 18446744073709551616") ≡ None
+unfolding line_of number long_number
+past_64_bits = refl
+
+second_argument : line_of 3 2 (codes "job 2 digits 5 6") ≡ None
+unfolding line_of number long_number
+second_argument = refl
+
+no_argument : line_of 3 2 (codes "job 2 sum") ≡ None
+unfolding line_of number
+no_argument = refl
+
 no_such_arena : line_of 3 2 (codes "job 3 sum 100") ≡ None
 unfolding line_of number
 no_such_arena = refl

@@ -2,13 +2,12 @@
 use Rattle.std.proofs.Common.{◌≡◌, ◌≢◌, ◌≤◌, ℕ, Bool, true, false, List, [], ◌∷◌, ◌++◌, None, option_map, sym, ap, ◌∙◌, refl, subst, arith, codes}
 use Rattle.std.specs.List.{All, slice_split, join_with_byte}
 use Rattle.std.specs.Str.{all_ascii_digits, bytes_eq}
-use Rattle.std.specs.Str.Parse.{AllDigits}
+use Rattle.std.specs.Str.Parse.{AllDigits, digits_value}
 use Rattle.std.proofs.lemmas.Bool.Decides.{nat_tests}
 use Rattle.std.proofs.lemmas.List.Elements.{All-nil, All-cons}
 use Rattle.std.proofs.lemmas.List.Splits.{slice_split_none, join_with_byte-slice_split}
 use Rattle.std.proofs.lemmas.Slice.Eq.{bytes_eq-Decides}
 use Rattle.std.proofs.lemmas.Str.Parse.{IsNumeralModel, numerals_by_value, tells_all_ascii_digits, digit_from_value}
-use Rattle.std.specs.Str.Parse.{digits_value}
 use Rattle.market_types.specs.Reading.{is_space, number}
 use Rattle.drive_plan.specs.declared.task.Task.TheVariants.{Sum, Digits}
 use Rattle.drive_plan.specs.Reading.{number_in, long_number, task_of}

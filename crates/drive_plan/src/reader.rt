@@ -176,7 +176,7 @@ impl Reader {
         }
     }
 
-    /// Takes a line that is no job of a plan, as the market's or an arena's. It has the number of the lines so far.
+    /// Takes a line that `take_job` leaves, as the market's or an arena's. It has the number of the lines so far.
     // Apart, since each line would else make room for all that is needed here.
     #[cold]
     #[inline(never)]
