@@ -8,6 +8,7 @@ mod by_level;
 mod calls;
 mod division;
 mod law;
+mod lot;
 mod market;
 mod opening;
 
