@@ -23,6 +23,20 @@ job 1 digits 9081
 job 2 sum 100
 ";
 
+/// Three arenas with jobs by turns, so that each queue is filled while the others are.
+const BY_TURNS: &[u8] = b"\
+market 8 64
+arena 8 1 normal 2 0
+arena 8 1 low 1 0
+arena 8 1 high 1 0
+job 3 sum 1
+job 1 sum 2
+job 2 sum 3
+job 3 sum 4
+job 1 sum 5
+job 2 digits 9081
+";
+
 /// One arena with two jobs, in need of two workers.
 const TWO_JOBS: &[u8] = b"\
 market 8 64
@@ -137,6 +151,15 @@ fn each_number_of_workers_gives_the_same_answers(rt: HostRuntime) {
     is_answered(&rt, rt.alloc(), PLAN, 1, &due);
     is_answered(&rt, rt.alloc(), PLAN, 2, &due);
     is_answered(&rt, rt.alloc(), PLAN, 16, &due);
+}
+
+#[test]
+fn arenas_by_turns_are_driven_again_and_again(rt: HostRuntime) {
+    let due = [(1, 1), (2, 3), (3, 6), (4, 10), (5, 15), (6, 18)];
+    for _ in 0..100 {
+        is_answered(&rt, rt.alloc(), BY_TURNS, 1, &due);
+        is_answered(&rt, rt.alloc(), BY_TURNS, 4, &due);
+    }
 }
 
 /// Job 1 of two, which waits for job 2, is done.
