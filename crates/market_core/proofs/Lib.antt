@@ -7,7 +7,6 @@ pub mod Moved
 mod Staffed
 mod Totals
 mod Assigned
-mod Lots
 mod LevelWalk
 mod InNeed
 mod Listing

@@ -3,6 +3,5 @@ pub mod Allotted
 pub mod Sound
 pub mod Shown
 pub mod Divided
-pub mod Lots
 pub mod Visits
 pub mod Moves

@@ -8,7 +8,6 @@ mod by_level;
 mod calls;
 mod division;
 mod law;
-mod lot;
 mod market;
 mod opening;
 

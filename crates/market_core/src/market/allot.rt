@@ -5,7 +5,6 @@ ghost use Rattle.market_types.specs.Step.{arena_at, view_of};
 ghost use Rattle.allotment.specs.Levels.{AreDemandsOf, ArePicksOf, IsLeveled, pick_of};
 ghost use Rattle.arena_store.specs.Bits.{bits};
 ghost use Rattle.market_core.specs.Divided.{IsDivisionOf};
-ghost use Rattle.market_core.specs.Lots.{IsLotOf, IsStandingOf};
 ghost use Rattle.market_core.specs.Visits.{extra_visits};
 ghost use Rattle.market_types.specs.State.{State};
 ghost use Rattle.market_types.specs.Claims.{request_of};
@@ -14,7 +13,6 @@ ghost use Rattle.market_core.specs.Allotted.{IsWithin, level_allotment};
 use super::Market;
 use crate::by_level::ByLevel;
 use crate::division::{Division, sum_of};
-use crate::lot::{Lot, Standing};
 use allotment::{assign, bound_is_given_out, mandatory_pick, no_carry_to_keep, share, top_level};
 use arena_store::StoredArena;
 use market_types::{ArenaId, ArenaView, Level};
@@ -94,86 +92,29 @@ impl Market {
         }
     }
 
-    /// What a level asks for and is assigned, where some worker may be active. It looks at no level behind it.
-    fn lot_of(&self, level: Level, limit: u32) -> Lot
-        requires some { 0 < limit }
-        requires limit { limit ≡ limit_of self.now }
-        requires high { level ≤ self.now.levels }
-        ensures { IsLotOf self.now level result }
-    {
-        bound_is_given_out();
-        let mut left = u64::from(limit);
-        let mut preceded = false;
-        for index in 0..level.index() {
-            let asked = self.arenas.demand(Level::from_index(index));
-            preceded |= asked > 0;
-            left -= asked.min(left);
-        }
-        let asked = self.arenas.demand(level);
-        Lot {
-            asked,
-            given: asked.min(left),
-            preceded,
-        }
-    }
-
-    /// How many workers a living arena is allotted, by what its level is assigned, where some worker may be active.
-    fn allotment_of(&self, stored: StoredArena, lot: Lot) -> (u32, u32)
+    /// How many workers a living arena is allotted.
+    pub(super) fn allotment_of(&self, stored: StoredArena, division: &Division) -> (u32, u32)
         requires there { arena_at stored.number self.now.arenas ≡ Some stored }
-        requires some { 0 < limit_of self.now }
-        requires lot { IsLotOf self.now stored.level lot }
+        requires divided { IsDivisionOf self.now division.now }
         ensures exact { result.0 ≡ allotment_of self.now stored.number }
-        ensures entered { 0 < request_of stored.claim → 1 ≤ result.1 }
+        ensures entered { 0 < limit_of self.now → 0 < request_of stored.claim → 1 ≤ result.1 }
         ensures visits { result.1 ≤ 2 * bits (length self.now.arenas) }
+        ensures few { result.1 ≤ 22 }
     {
-        self.arenas.stand_once();
+        if division.limit == 0 {
+            return (division.picked_workers(stored.arena()), 0);
+        }
         no_carry_to_keep();
         let request = u64::from(stored.claim().request());
         if request == 0 {
             return (0, 0);
         }
         let level = stored.level();
+        let given = division.assigned.at(level);
+        let asked = division.demands.at(level);
         let (before, visits) = self.arenas.before(level, stored.stamp());
-        let workers = share(lot.given, lot.asked, before, request);
+        let workers = share(given, asked, before, request);
         (workers as u32, visits)
-    }
-
-    /// How a living arena stands where no worker may be active.
-    // Apart, since each Show and Stay would else make room for a division at its start, and few need one.
-    #[cold]
-    #[inline(never)]
-    fn standing_by_pick(&self, stored: StoredArena) -> Standing
-        requires there { arena_at stored.number self.now.arenas ≡ Some stored }
-        requires none { limit_of self.now ≡ 0 }
-        ensures { IsStandingOf self.now stored result }
-    {
-        let division = &self.divide();
-        Standing {
-            allot: division.picked_workers(stored.arena()),
-            top: is_top(stored, &division.demands.values),
-            visits: division.visits,
-        }
-    }
-
-    /// How a living arena stands.
-    // Where some worker may be active, the levels up to its own tell it, which saves half of a Show: no division is made.
-    #[inline(always)]
-    fn standing_of(&self, stored: StoredArena) -> Standing
-        requires there { arena_at stored.number self.now.arenas ≡ Some stored }
-        ensures { IsStandingOf self.now stored result }
-    {
-        self.arenas.stand_once();
-        let limit = self.limit();
-        if limit == 0 {
-            return self.standing_by_pick(stored);
-        }
-        let lot = self.lot_of(stored.level(), limit);
-        let (allot, visits) = self.allotment_of(stored, lot);
-        Standing {
-            allot,
-            top: is_first(stored, lot),
-            visits,
-        }
     }
 
     /// What is seen of a living arena.
@@ -184,19 +125,19 @@ impl Market {
         ensures entered { 0 < request_of stored.claim → 1 ≤ result.1 }
         ensures visits { result.1 ≤ 2 * bits (length self.now.arenas) + extra_visits self.now }
     {
-        let standing = self.standing_of(stored);
-        let allot = standing.allot;
+        let division = &self.divide();
+        let (allot, more) = self.allotment_of(stored, division);
         let active = self.roster.active(stored.arena());
         let view = ArenaView {
             arena: stored.arena(),
             request: stored.claim().request(),
             allot,
-            top: standing.top,
+            top: is_top(stored, &division.demands.values),
             active,
             recall: recall(active, allot),
             hire: hire(active, allot),
         };
-        (view, standing.visits)
+        (view, division.visits + more)
     }
 
     /// What is seen of an arena, or `None` where no living arena has this number. An arena is allotted no more than it
@@ -267,16 +208,10 @@ impl Market {
         let Some(stored) = self.arenas.get(arena) else {
             return (0, 0);
         };
-        let standing = self.standing_of(stored);
-        (standing.allot, standing.visits)
+        let division = &self.divide();
+        let (allot, more) = self.allotment_of(stored, division);
+        (allot, division.visits + more)
     }
-}
-
-/// The arena is top priority, by its own level and those before it.
-fn is_first(stored: StoredArena, lot: Lot) -> bool
-    ensures { (s : State) → IsLotOf s stored.level lot → request_of stored.claim ≤ lot.asked → result ≡ is_top s stored }
-{
-    stored.claim().request() > 0 && !lot.preceded
 }
 
 /// The arena is top priority.
