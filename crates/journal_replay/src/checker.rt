@@ -77,8 +77,8 @@ fn replay(
     Ok(due.as_slice() == entry.reply)
 }
 
-/// Gives the call of a line to the market that is an entry told by its places or by its tokens, and writes the text of the reply that
-/// is due: whether the entry tells it. None of every other line, which changes nothing.
+/// Where a line is an entry that is told by its places or by its tokens, gives its call to the market, and writes the text of the
+/// reply that is due: whether the entry tells it. None of every other line, which changes nothing.
 fn replay_line<'a>(
     alloc: Global,
     market: &mut Market,

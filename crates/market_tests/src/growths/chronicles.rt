@@ -19,6 +19,14 @@ const JOURNAL: &[u8] = b"\
 {\"cmd\":\"leave\",\"reply\":\"left 1\",\"seat\":0}
 ";
 
+/// A journal as other tools spell it: with spaces, another order of keys and escapes, a longer line with one, and a key twice.
+pub(crate) const FOREIGN: &[u8] = b"\
+{\"base\": 8, \"hard\": 64, \"journal\": 2, \"levels\": 3, \"seats\": 4}
+{\"seat\": 0, \"cmd\": \"open 8 1 norma\\u006c\", \"reply\": \"arena 1\"}
+{\"seat\": 0, \"reply\": \"\\u0072\\u0065\\u0071\\u0075\\u0065\\u0073\\u0074 3\", \"cmd\": \"\\u0072equest 1 3 0\"}
+{\"seat\": 0, \"seat\": 0, \"cmd\": \"lists\", \"reply\": \"recall - hire 1:3\"}
+";
+
 /// A chronicle of four seats, opened again where the first growth was refused.
 fn opened(rt: &impl Abort, alloc: Global) -> Chronicle
     ensures { result.from ≡ 0 }
@@ -154,5 +162,16 @@ fn a_refused_growth_leaves_a_journal_to_be_checked(rt: HostRuntime) {
     }
     let again = check(rt.alloc(), JOURNAL);
     holds(&rt, matches!(&again, Ok(Verdict::Legal(5))));
+    drop(again);
+}
+
+#[test]
+fn a_refused_growth_leaves_a_foreign_journal_to_be_checked(rt: HostRuntime) {
+    if let Ok(verdict) = check(rt.alloc(), FOREIGN) {
+        holds(&rt, matches!(&verdict, Verdict::Legal(3)));
+        return;
+    }
+    let again = check(rt.alloc(), FOREIGN);
+    holds(&rt, matches!(&again, Ok(Verdict::Legal(3))));
     drop(again);
 }

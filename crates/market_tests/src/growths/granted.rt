@@ -2,6 +2,7 @@
 //! and never again.
 ghost use Rattle.std.specs.Prelude.{◌≡◌};
 
+use super::chronicles::FOREIGN;
 use super::engines::{Engine, JOURNAL, replay};
 use crate::asserts::{holds, same};
 use byte_devices::TestSink;
@@ -80,6 +81,7 @@ fn what_is_recorded_is_granted(rt: HostRuntime) {
 #[test]
 fn what_is_checked_is_granted(rt: HostRuntime) {
     holds(&rt, check(rt.alloc(), JOURNAL).is_ok());
+    holds(&rt, check(rt.alloc(), FOREIGN).is_ok());
 }
 
 fn is_granted(rt: &impl Abort, alloc: Global, engine: Engine) {
