@@ -47,8 +47,8 @@ fn read_line(alloc: Global, line: &[u8], form: LineForm) -> Result<Option<Value>
 /// Memory that is used again for each line.
 #[derive(Drop)]
 struct Room {
-    /// For the tokens of a line, and for its texts without escapes.
-    scratch: Scratch,
+    /// For the tokens of a line, and for its texts without escapes: from the first line on that is not told by its places.
+    scratch: Option<Box<Scratch>>,
     /// For the text of the reply that is due.
     due: Vec<u8>,
 }
@@ -77,9 +77,26 @@ fn replay(
     Ok(due.as_slice() == entry.reply)
 }
 
-/// Where a line is an entry that is told by its places or by its tokens, gives its call to the market, and writes the text of the
-/// reply that is due: whether the entry tells it. None of every other line, which changes nothing.
-fn replay_line<'a>(
+/// Where a line is an entry that is told by its places, gives its call to the market, and writes the text of the reply that is
+/// due: whether the entry tells it. None of every other line, which changes nothing.
+fn replay_written(
+    alloc: Global,
+    market: &mut Market,
+    line: &[u8],
+    due: &mut Vec<u8>,
+) -> Result<Option<bool>, AllocError>
+    ensures replayed { IfOk result (λ found. IfSome found (λ told. IsReplayed market.old line.now market.new due.new.items told)) }
+    ensures utf8 { IfOk result (λ found. IfSome found (λ _. IsUtf8 due.new.items)) }
+    ensures left { IfOk result (λ found. IfNone found (market.new ≡ market.old)) }
+{
+    match read_written(line, market.seats(), market.levels()) {
+        Some(entry) => Ok(Some(replay(alloc, market, due, &entry)?)),
+        None => Ok(None),
+    }
+}
+
+/// The same by a line's tokens.
+fn replay_tokens<'a>(
     alloc: Global,
     market: &mut Market,
     line: &'a [u8],
@@ -90,15 +107,35 @@ fn replay_line<'a>(
     ensures utf8 { IfOk result (λ found. IfSome found (λ _. IsUtf8 due.new.items)) }
     ensures left { IfOk result (λ found. IfNone found (market.new ≡ market.old)) }
 {
-    let (seats, levels) = (market.seats(), market.levels());
-    if let Some(entry) = read_written(line, seats, levels) {
-        return Ok(Some(replay(alloc, market, due, &entry)?));
-    }
-    match read_tokens(line, scratch, seats, levels) {
+    match read_tokens(line, scratch, market.seats(), market.levels()) {
         Ok(Some(entry)) => Ok(Some(replay(alloc, market, due, &entry)?)),
         Ok(None) => Ok(None),
         Err(_) => Err(AllocError),
     }
+}
+
+/// The same by whichever of the two tells the line. Room for tokens is made at the first line that wants it, since most
+/// journals have none.
+fn replay_line(
+    alloc: Global,
+    market: &mut Market,
+    line: &[u8],
+    room: &mut Room,
+) -> Result<Option<bool>, AllocError>
+    ensures replayed { IfOk result (λ found. IfSome found (λ told. IsReplayed market.old line.now market.new room.new.due.items told)) }
+    ensures utf8 { IfOk result (λ found. IfSome found (λ _. IsUtf8 room.new.due.items)) }
+    ensures left { IfOk result (λ found. IfNone found (market.new ≡ market.old)) }
+{
+    if let Some(told) = replay_written(alloc, market, line, &mut room.due)? {
+        return Ok(Some(told));
+    }
+    let mut scratch = match room.scratch.take() {
+        Some(scratch) => scratch,
+        None => Box::new(alloc, Scratch::new(alloc))?,
+    };
+    let found = replay_tokens(alloc, market, line, &mut scratch, &mut room.due)?;
+    room.scratch = Some(scratch);
+    Ok(found)
 }
 
 /// The reply of this text.
@@ -209,7 +246,7 @@ impl Progress {
         if extent.is_full(*entries) {
             return Ok(false);
         }
-        let Some(told) = replay_line(alloc, market, line, &mut room.scratch, &mut room.due)? else {
+        let Some(told) = replay_line(alloc, market, line, room)? else {
             return Ok(false);
         };
         if told {
@@ -272,7 +309,7 @@ impl Checker {
             alloc,
             progress: Progress::Unopened,
             room: Room {
-                scratch: Scratch::new(alloc),
+                scratch: None,
                 due: Vec::new(alloc),
             },
         }
