@@ -2,10 +2,30 @@
 ghost use Rattle.std.specs.Prelude.{None, false};
 
 use byte_devices::{DeviceFault, Sink};
-use market_types::Reply;
+use market_types::{ArenaView, Correction, Fault, Reply};
 
 /// How many bytes are mixed in at a time.
 const WORD: usize = 8;
+
+/// A number for each fault, and the number that it tells.
+fn parts_of(fault: Fault) -> (u32, u32) {
+    match fault {
+        Fault::BadSlots => (101, 0),
+        Fault::BadReserve => (102, 0),
+        Fault::TooManyArenas => (103, 0),
+        Fault::OutOfNumbers => (104, 0),
+        Fault::NoArena => (105, 0),
+        Fault::Busy(seats) => (106, seats),
+        Fault::WantedRange => (107, 0),
+        Fault::MandatoryRange => (108, 0),
+        Fault::BadValue => (109, 0),
+        Fault::TooManyControls => (110, 0),
+        Fault::NoControl => (111, 0),
+        Fault::AlreadyPlaced(arena) => (112, arena.get()),
+        Fault::NotPlaced => (113, 0),
+        Fault::BadLevel => (114, 0),
+    }
+}
 
 /// A number for all bytes that a sink takes, in whatever pieces they come, and for all numbers that are mixed in.
 #[derive(Drop)]
@@ -71,29 +91,50 @@ impl Digest {
         self.take_bytes(rest);
     }
 
+    /// Mixes two numbers of 32 bits in.
+    #[inline(always)]
+    fn mix_both(&mut self, high: u32, low: u32) {
+        self.mix(u64::from(high) << 32 | u64::from(low));
+    }
+
+    /// Mixes what is seen of an arena in.
+    fn mix_view(&mut self, view: &ArenaView) {
+        self.mix_both(view.arena.get(), view.request);
+        self.mix_both(view.allot, view.active);
+        self.mix_both(view.recall, view.hire);
+        self.mix(u64::from(view.top));
+    }
+
     /// Mixes what a reply says in.
     pub fn mix_reply(&mut self, reply: &Reply) {
         match reply {
-            Reply::Opened(arena) => self.mix(u64::from(arena.get())),
-            Reply::Closed | Reply::Moved | Reply::Uncontrolled => self.mix(1),
-            Reply::Resized(request) | Reply::Requested(request) => self.mix(u64::from(*request)),
-            Reply::Controlled(control) => self.mix(u64::from(control.get())),
-            Reply::Placed(arena) => self.mix(u64::from(arena.get()) | 1 << 32),
-            Reply::Idle => self.mix(2 << 32),
-            Reply::Stays(arena) => self.mix(u64::from(arena.get()) | 3 << 32),
-            Reply::Recalled(arena) => self.mix(u64::from(arena.get()) | 4 << 32),
-            Reply::Left(arena) => self.mix(u64::from(arena.get()) | 5 << 32),
-            Reply::Shown(view) => {
-                self.mix(u64::from(view.request) | u64::from(view.allot) << 32);
-                self.mix(u64::from(view.active) | u64::from(view.top) << 32);
-            }
+            Reply::Opened(arena) => self.mix_both(1, arena.get()),
+            Reply::Closed => self.mix_both(2, 0),
+            Reply::Moved => self.mix_both(3, 0),
+            Reply::Resized(request) => self.mix_both(4, *request),
+            Reply::Requested(request) => self.mix_both(5, *request),
+            Reply::Controlled(control) => self.mix_both(6, control.get()),
+            Reply::Uncontrolled => self.mix_both(7, 0),
+            Reply::Placed(arena) => self.mix_both(8, arena.get()),
+            Reply::Idle => self.mix_both(9, 0),
+            Reply::Stays(arena) => self.mix_both(10, arena.get()),
+            Reply::Recalled(arena) => self.mix_both(11, arena.get()),
+            Reply::Left(arena) => self.mix_both(12, arena.get()),
+            Reply::Shown(view) => self.mix_view(view),
             Reply::Listed(lists) => {
                 for listed in &lists.arenas {
-                    self.mix(u64::from(listed.arena.get()) | u64::from(listed.count) << 32);
+                    self.mix_both(listed.arena.get(), listed.count);
+                    self.mix(u64::from(listed.correction == Correction::Hire));
                 }
             }
-            Reply::Limits(limits) => self.mix(u64::from(limits.effective)),
-            Reply::Refused(_) => self.mix(6 << 32),
+            Reply::Limits(limits) => {
+                self.mix_both(limits.value, limits.limit);
+                self.mix_both(13, limits.effective);
+            }
+            Reply::Refused(fault) => {
+                let (code, number) = parts_of(*fault);
+                self.mix_both(code, number);
+            }
         }
     }
 
