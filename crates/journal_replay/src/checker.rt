@@ -114,6 +114,19 @@ fn replay_tokens<'a>(
     }
 }
 
+/// Room for the tokens of lines.
+// Apart, since each line would else make room for it on the stack.
+#[cold]
+#[inline(never)]
+fn new_scratch(alloc: Global) -> Result<Box<Scratch>, AllocError> {
+    Ok(Box::new(alloc, Scratch::new(alloc))?)
+}
+
+/// The line may be an object, as each entry is.
+fn may_be_object(line: &[u8]) -> bool {
+    matches!(line.first(), Some(b'{' | b' ' | b'\t' | b'\r'))
+}
+
 /// The same by whichever of the two tells the line. Room for tokens is made at the first line that wants it, since most
 /// journals have none.
 fn replay_line(
@@ -129,9 +142,12 @@ fn replay_line(
     if let Some(told) = replay_written(alloc, market, line, &mut room.due)? {
         return Ok(Some(told));
     }
+    if !may_be_object(line) {
+        return Ok(None);
+    }
     let mut scratch = match room.scratch.take() {
         Some(scratch) => scratch,
-        None => Box::new(alloc, Scratch::new(alloc))?,
+        None => new_scratch(alloc)?,
     };
     let found = replay_tokens(alloc, market, line, &mut scratch, &mut room.due)?;
     room.scratch = Some(scratch);
@@ -254,19 +270,27 @@ impl Progress {
             return Ok(true);
         }
         let (line, extent) = (*entries + 2, *extent);
-        self.stop(line, mem::replace(&mut room.due, Vec::new(alloc)), extent);
+        self.stop(alloc, line, &room.due, extent)?;
         Ok(true)
     }
 
-    /// This line's reply is not the one of this text, which is due.
+    /// This line's reply is not the one of this text, which is due. What is found has a text of its own, with no room to spare.
     // Apart, since each line would else make room for what is found of it.
     #[cold]
     #[inline(never)]
-    fn stop(&mut self, line: u64, due: Vec<u8>, extent: Extent)
-        requires { IsUtf8 due.items }
-        ensures { self.new ≡ Progress.Faulty (Verdict.WrongReply line due.items) extent }
+    fn stop(
+        &mut self,
+        alloc: Global,
+        line: u64,
+        due: &[u8],
+        extent: Extent,
+    ) -> Result<(), AllocError>
+        requires { IsUtf8 due.now }
+        ensures { OnOk result (self.new ≡ Progress.Faulty (Verdict.WrongReply line due.now) extent) }
     {
+        let due = Vec::from_slice(alloc, due)?;
         *self = Progress::Faulty(Verdict::WrongReply(line, due_reply(due)), extent);
+        Ok(())
     }
 
     /// The most bytes that the journal may have.

@@ -1,4 +1,4 @@
-//! The lines of a journal, without their LF.
+//! The lines of a journal: the header's without its LF, an entry's with it, written where it is to stand.
 ghost use Rattle.std.specs.Prelude.{◌≡◌, ◌++◌, codes, decimal, IfOk, OnOk};
 ghost use Rattle.serde_json.specs.View.{view};
 ghost use Rattle.journal_replay.specs.Journal.{entry_line, header_line, second_data, second_line, third_data, third_line};
