@@ -29,12 +29,15 @@ impl Reports {
         }
     }
 
+    /// The first answers stay where they are, and others are put behind them at once.
     fn keep(&mut self, done: Vec<Done>, ended: Ended) -> Result<(), AllocError> {
         self.ended.push(ended)?;
-        for answer in done {
-            self.done.push(answer)?;
+        if self.done.is_empty() {
+            self.done = done;
+            return Ok(());
         }
-        Ok(())
+        let mut more = done;
+        self.done.append(&mut more)
     }
 
     /// With the answers of a worker that ended so.
