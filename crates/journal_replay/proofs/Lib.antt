@@ -14,3 +14,4 @@ mod PlainWritten
 mod PushedEntries
 mod MemberOrders
 mod Replays
+mod SpacedLines

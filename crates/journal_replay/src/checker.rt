@@ -11,7 +11,7 @@ ghost use Rattle.journal_replay.specs.Replayed.{IsReplayed};
 
 use crate::header::Extent;
 use crate::reading::{Opened, Recorded, open_market, read_entry, read_json};
-use crate::spelled::read_written;
+use crate::spaced::read_plain;
 use crate::tokens::read_tokens;
 use crate::verdict::{DueReply, Verdict};
 use byte_devices::Source;
@@ -47,7 +47,7 @@ fn read_line(alloc: Global, line: &[u8], form: LineForm) -> Result<Option<Value>
 /// Memory that is used again for each line.
 #[derive(Drop)]
 struct Room {
-    /// For the tokens of a line, and for its texts without escapes: from the first line on that is not told by its places.
+    /// For the tokens of a line, and for its texts without escapes: from the first line on that is to be read so.
     scratch: Option<Box<Scratch>>,
     /// For the text of the reply that is due.
     due: Vec<u8>,
@@ -77,9 +77,9 @@ fn replay(
     Ok(due.as_slice() == entry.reply)
 }
 
-/// Where a line is an entry that is told by its places, gives its call to the market, and writes the text of the reply that is
+/// Where a line is an entry of plain texts, gives its call to the market, and writes the text of the reply that is
 /// due: whether the entry tells it. None of every other line, which changes nothing.
-fn replay_written(
+fn replay_plain(
     alloc: Global,
     market: &mut Market,
     line: &[u8],
@@ -89,7 +89,7 @@ fn replay_written(
     ensures utf8 { IfOk result (λ found. IfSome found (λ _. IsUtf8 due.new.items)) }
     ensures left { IfOk result (λ found. IfNone found (market.new ≡ market.old)) }
 {
-    match read_written(line, market.seats(), market.levels()) {
+    match read_plain(line, market.seats(), market.levels()) {
         Some(entry) => Ok(Some(replay(alloc, market, due, &entry)?)),
         None => Ok(None),
     }
@@ -122,7 +122,7 @@ fn new_scratch(alloc: Global) -> Result<Box<Scratch>, AllocError> {
     Ok(Box::new(alloc, Scratch::new(alloc))?)
 }
 
-/// The line may be an object, as each entry is.
+/// The line may be an object, as each entry is: it begins with a brace, or with white space.
 fn may_be_object(line: &[u8]) -> bool {
     matches!(line.first(), Some(b'{' | b' ' | b'\t' | b'\r'))
 }
@@ -139,7 +139,7 @@ fn replay_line(
     ensures utf8 { IfOk result (λ found. IfSome found (λ _. IsUtf8 room.new.due.items)) }
     ensures left { IfOk result (λ found. IfNone found (market.new ≡ market.old)) }
 {
-    if let Some(told) = replay_written(alloc, market, line, &mut room.due)? {
+    if let Some(told) = replay_plain(alloc, market, line, &mut room.due)? {
         return Ok(Some(told));
     }
     if !may_be_object(line) {
@@ -240,7 +240,7 @@ impl Progress {
         }
     }
 
-    /// After one line more, where the market is replaying and the line is an entry that is told by its places or by its tokens:
+    /// After one line more, where the market is replaying and the line is an entry of plain texts, or one that is told by its tokens:
     /// whether it is. The market stays where it is, and memory that is kept serves for each line. Else nothing is changed.
     fn take_entry(
         &mut self,

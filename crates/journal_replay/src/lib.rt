@@ -12,6 +12,7 @@ mod journal;
 mod law;
 mod line;
 mod reading;
+mod spaced;
 mod spelled;
 mod tokens;
 mod verdict;

@@ -32,7 +32,7 @@ fn are_plain(text: &[u8]) -> bool
 
 /// The plain text before the first quote, and what follows the quote.
 #[inline(always)]
-fn cut_plain(text: &[u8]) -> Option<(&[u8], &[u8])>
+pub(crate) fn cut_plain(text: &[u8]) -> Option<(&[u8], &[u8])>
     ensures cut { IfSome result (λ cut. text.now ≡ cut.0.now ++ 34 ∷ cut.1.now) }
     ensures plain { IfSome result (λ cut. are_plain cut.0.now ≡ true) }
 {
@@ -45,7 +45,7 @@ fn cut_plain(text: &[u8]) -> Option<(&[u8], &[u8])>
 
 /// What follows a label.
 #[inline(always)]
-fn behind<'a>(text: &'a [u8], label: &[u8]) -> Option<&'a [u8]>
+pub(crate) fn behind<'a>(text: &'a [u8], label: &[u8]) -> Option<&'a [u8]>
     ensures { IfSome result (λ rest. text.entry.now ≡ label.now ++ rest.now) }
 {
     text.strip_prefix(label)

@@ -1,4 +1,4 @@
-//! Lines of entries as other tools spell them: with other spacing, another order of keys, escapes. They are read token by token in
+//! Lines of entries with escapes or with other white space than spaces, as other tools may spell them. They are read token by token in
 //! room that is kept, where a tree of values with its map, keys and texts took most of the time of such a replay. Of a line whose
 //! tokens are not those of an entry, each key once, nothing is told here: it is read as JSON.
 ghost use Rattle.std.specs.Prelude.{◌≡◌, ◌<◌, ◌^◌, ◌++◌, ◌∷◌, [], Some, IfOk, IfSome, option_and_then};
@@ -17,8 +17,8 @@ use std::str;
 /// A member of an entry.
 #[derive(Clone, Copy)]
 pub(crate) enum Member<'a> {
-    Cmd(&'a str),
-    Reply(&'a str),
+    Cmd(&'a [u8]),
+    Reply(&'a [u8]),
     Seat(u32),
 }
 
@@ -34,13 +34,13 @@ fn next_member<'a>(reader: &mut Reader<'a>) -> Option<Member<'a>>
         let Token::String(text) = value else {
             return None;
         };
-        return Some(Member::Cmd(text));
+        return Some(Member::Cmd(text.as_bytes()));
     }
     if key == "reply" {
         let Token::String(text) = value else {
             return None;
         };
-        return Some(Member::Reply(text));
+        return Some(Member::Reply(text.as_bytes()));
     }
     if key == "seat" {
         let Token::Number(digits) = value else {
@@ -53,14 +53,18 @@ fn next_member<'a>(reader: &mut Reader<'a>) -> Option<Member<'a>>
 
 /// The fields of an entry.
 #[derive(Clone, Copy)]
-struct Fields<'a> {
-    cmd: &'a str,
-    reply: &'a str,
-    seat: u32,
+pub(crate) struct Fields<'a> {
+    pub(crate) cmd: &'a [u8],
+    pub(crate) reply: &'a [u8],
+    pub(crate) seat: u32,
 }
 
 /// The fields of an entry that has these members, each once.
-fn fields_of<'a>(first: Member<'a>, second: Member<'a>, third: Member<'a>) -> Option<Fields<'a>>
+pub(crate) fn fields_of<'a>(
+    first: Member<'a>,
+    second: Member<'a>,
+    third: Member<'a>,
+) -> Option<Fields<'a>>
     ensures { IfSome result (λ f. f.seat < 2 ^ 64
         → data_of (begin_object ∷ (member_tokens first.entry ++ (member_tokens second.entry ++ (member_tokens third.entry ++ end_object ∷ [])))) ≡ Some (entry_data f.cmd.now f.reply.now f.seat)) }
 {
@@ -128,7 +132,7 @@ pub(crate) fn read_tokens<'a>(
     let Some(fields) = whole_fields(&mut reader) else {
         return Ok(None);
     };
-    let Some(cmd) = read_cmd(fields.cmd.as_bytes(), levels) else {
+    let Some(cmd) = read_cmd(fields.cmd, levels) else {
         return Ok(None);
     };
     if fields.seat >= u32::from(seats) {
@@ -137,6 +141,6 @@ pub(crate) fn read_tokens<'a>(
     Ok(Some(Recorded {
         seat: SeatNo::new(fields.seat as u8),
         cmd,
-        reply: fields.reply.as_bytes(),
+        reply: fields.reply,
     }))
 }

@@ -1,6 +1,5 @@
 use Rattle.std.proofs.Common.{◌<◌, ◌^◌, List, ℕ, Some, ap, sym, ◌∙◌, arith}
 use Rattle.serde_json.specs.Read.{read}
-use Rattle.market_types.specs.Reading.{reading}
 use Rattle.journal_replay.specs.Reading.{Recorded}
 use Rattle.journal_replay.proofs.Json.{json-read}
 use Rattle.journal_replay.proofs.SpelledEntries.{token-entry}
@@ -15,6 +14,5 @@ returns-clause-exact c =
     let told : ℕ → List ℕ → Recorded = λ n reply. record { seat = n; cmd = c.in-Some-read_cmd.cmd; reply = reply } in
     token-entry c.args.seats c.args.levels seat c.args.line.now c.in-Ok.text.now c.in-Some.fields.cmd.now c.in-Some.fields.reply.now c.in-Ok-new.reader c.in-Some-read_cmd.cmd
     (json-read c.args.line.now utf8.1 ∙ ap read (sym utf8.0)) c.in-Ok-new.ensures.ok (c.in-Some.ensures fits) small
-    (c.in-Some-read_cmd.ensures.exact ∙ ap (reading c.args.levels) c.as_bytes.ensures.value)
+    c.in-Some-read_cmd.ensures.exact
     ∙ ap (λ n. Some (told n c.in-Some.fields.reply.now)) (sym c.new-2.ensures)
-    ∙ ap (λ r. Some (told c.new-2.result r)) (sym c.as_bytes-2.ensures.value)

@@ -1,5 +1,5 @@
 use Rattle.journal_replay.proofs.Replays.{replays}
-use Rattle.journal_replay.proofs.checker.replay_written.Goals as goal
+use Rattle.journal_replay.proofs.checker.replay_plain.Goals as goal
 
 pub returns-in_ok-replay-in-Some-clause-replayed : goal.returns-in_ok-replay-in-Some-clause-replayed
 returns-in_ok-replay-in-Some-clause-replayed c =
