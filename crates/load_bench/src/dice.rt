@@ -1,7 +1,7 @@
 //! Numbers at random.
 ghost use Rattle.std.specs.Prelude.{◌<◌};
 
-use rand::{RngExt, SeedableRng};
+use rand::{Rng, RngExt, SeedableRng};
 use rand_xoshiro::SplitMix64;
 
 /// Numbers at random, the same ones for the same seed.
@@ -11,11 +11,12 @@ pub struct Dice {
 }
 
 impl Dice {
-    /// Of this seed, for the input of this index.
+    /// Of this seed, for the input of this index. They begin at a number that is drawn, far from those of every other input: states that
+    /// stand a few steps apart would give the same numbers a few draws later.
     pub fn new(seed: u32, index: u64) -> Self {
-        let mixed = index.wrapping_mul(0x9E37_79B9_7F4A_7C15);
+        let mut begin = SplitMix64::seed_from_u64((u64::from(seed) << 32) ^ index);
         Dice {
-            random: SplitMix64::seed_from_u64(u64::from(seed).wrapping_add(mixed)),
+            random: SplitMix64::seed_from_u64(begin.next_u64()),
         }
     }
 

@@ -122,6 +122,7 @@ impl Digest {
             Reply::Left(arena) => self.mix_both(12, arena.get()),
             Reply::Shown(view) => self.mix_view(view),
             Reply::Listed(lists) => {
+                self.mix(lists.arenas.len() as u64);
                 for listed in &lists.arenas {
                     self.mix_both(listed.arena.get(), listed.count);
                     self.mix(u64::from(listed.correction == Correction::Hire));
