@@ -7,6 +7,7 @@
 #![tactic(auto)]
 
 mod checker;
+mod fields;
 mod header;
 mod journal;
 mod law;

@@ -1,6 +1,6 @@
 //! Lines of entries with spaces between their parts, or with another order of keys, whose texts are plain: their members are cut one
 //! by one, with no index of the line and no reader of tokens, which took a third of such a replay. What is cut is proved to be what
-//! the lexer of JSON finds there. Every other line, as one with escapes or a key twice, is read by its tokens.
+//! the lexer of JSON finds there. Every other line, as one with escapes, many spaces or a key twice, is read by its tokens.
 ghost use Rattle.std.specs.Prelude.{◌≡◌, ◌<◌, ◌≤◌, ◌^◌, ◌++◌, ◌∷◌, true, length, Some, IfSome, decimal, option_and_then};
 ghost use Rattle.std.specs.Bool.{OnTrue};
 ghost use Rattle.json.specs.Lex.{between, class, lex, operator, operator_lexeme, token, tokens};
@@ -10,18 +10,25 @@ ghost use Rattle.journal_replay.specs.Journal.{entry_data};
 ghost use Rattle.journal_replay.specs.Members.{data_of, member_lexemes};
 ghost use Rattle.journal_replay.specs.Reading.{entry_in, json_of};
 
+use crate::fields::{Fields, entry_of};
 use crate::reading::Recorded;
 use crate::spelled::{behind, cut_plain, read_written};
-use crate::tokens::{Fields, Member, fields_of};
-use market_types::{SeatNo, read_cmd, read_number};
+use crate::tokens::{Member, fields_of};
+use market_types::read_number;
 use std::str;
 
-/// What follows the spaces that a text begins with.
+/// More spaces than these in one place are left to the reader of tokens, which passes over many at a time.
+const MOST_SPACES: u32 = 64;
+
+/// What follows the spaces that a text begins with, or the first of them where they are many.
 fn skip_spaces(text: &[u8]) -> &[u8]
     ensures { lex between text.now ≡ lex between result.now }
 {
     let mut rest = text;
-    while let Some((first, more)) = rest.split_first() {
+    for _ in 0..MOST_SPACES {
+        let Some((first, more)) = rest.split_first() else {
+            return rest;
+        };
         if *first != b' ' {
             return rest;
         }
@@ -133,14 +140,10 @@ fn read_spaced(line: &[u8], seats: u8, levels: u32) -> Option<Recorded<'_>>
     ensures exact { IfSome result (λ e. option_and_then (entry_in seats levels) (json_of line.now) ≡ Some (record { seat = e.seat; cmd = e.cmd; reply = e.reply.now })) }
     ensures seat { IfSome result (λ e. e.seat < seats) }
 {
-    let Fields { cmd, reply, seat } = spaced_fields(line)?;
+    let fields = spaced_fields(line)?;
+    // It is, since each of its bytes was told; to look again takes a few nanoseconds, and no proof.
     let Ok(_text) = str::from_utf8(line) else {
         return None;
     };
-    let cmd = read_cmd(cmd, levels)?;
-    if seat >= u32::from(seats) {
-        return None;
-    }
-    let seat = SeatNo::new(seat as u8);
-    Some(Recorded { seat, cmd, reply })
+    entry_of(fields, seats, levels)
 }

@@ -1,14 +1,15 @@
 //! Lines of entries that are spelled as entries are written here. Nearly every line of nearly every journal is: its fields are told
 //! by their places, with no tree of values, no key and no string in memory of its own. To read such a line as JSON took most of
-//! the time of a replay. That it is the JSON which it is taken for is the round trip of what is written; every other line is read
-//! as JSON.
+//! the time of a replay. That it is the JSON which it is taken for is the round trip of what is written; every other line is read in
+//! other ways.
 ghost use Rattle.std.specs.Prelude.{◌≡◌, ◌<◌, ◌++◌, ◌∷◌, true, codes, decimal, Some, IfSome, option_and_then};
 ghost use Rattle.journal_replay.specs.Journal.{fields_line};
 ghost use Rattle.journal_replay.specs.Plain.{are_plain, is_plain};
 ghost use Rattle.journal_replay.specs.Reading.{entry_in, json_of};
 
+use crate::fields::{Fields, entry_of};
 use crate::reading::Recorded;
-use market_types::{SeatNo, read_cmd, read_number};
+use market_types::read_number;
 use memchr::memchr;
 
 /// The byte stands in a text as it is.
@@ -59,14 +60,6 @@ fn last_number(text: &[u8]) -> Option<u32>
     read_number(digits)
 }
 
-/// The fields of an entry's line, whose texts are plain.
-#[derive(Clone, Copy)]
-struct Fields<'a> {
-    cmd: &'a [u8],
-    reply: &'a [u8],
-    seat: u32,
-}
-
 /// The fields of a line that is spelled as an entry is written, of plain texts.
 fn written_fields(line: &[u8]) -> Option<Fields<'_>>
     ensures spelled { IfSome result (λ f. line.now ≡ fields_line f.cmd.now f.reply.now f.seat) }
@@ -88,11 +81,5 @@ pub(crate) fn read_written(line: &[u8], seats: u8, levels: u32) -> Option<Record
     ensures exact { IfSome result (λ e. option_and_then (entry_in seats levels) (json_of line.now) ≡ Some (record { seat = e.seat; cmd = e.cmd; reply = e.reply.now })) }
     ensures seat { IfSome result (λ e. e.seat < seats) }
 {
-    let Fields { cmd, reply, seat } = written_fields(line)?;
-    let cmd = read_cmd(cmd, levels)?;
-    if seat >= u32::from(seats) {
-        return None;
-    }
-    let seat = SeatNo::new(seat as u8);
-    Some(Recorded { seat, cmd, reply })
+    entry_of(written_fields(line)?, seats, levels)
 }

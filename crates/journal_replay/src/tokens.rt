@@ -8,9 +8,10 @@ ghost use Rattle.journal_replay.specs.Journal.{entry_data};
 ghost use Rattle.journal_replay.specs.Members.{data_of, member_tokens};
 ghost use Rattle.journal_replay.specs.Reading.{entry_in, json_of};
 
+use crate::fields::{Fields, entry_of};
 use crate::reading::Recorded;
 use json::{Reader, Scratch, Token};
-use market_types::{SeatNo, read_cmd, read_number};
+use market_types::read_number;
 use std::alloc::AllocError;
 use std::str;
 
@@ -49,14 +50,6 @@ fn next_member<'a>(reader: &mut Reader<'a>) -> Option<Member<'a>>
         return Some(Member::Seat(read_number(digits.as_bytes())?));
     }
     None
-}
-
-/// The fields of an entry.
-#[derive(Clone, Copy)]
-pub(crate) struct Fields<'a> {
-    pub(crate) cmd: &'a [u8],
-    pub(crate) reply: &'a [u8],
-    pub(crate) seat: u32,
 }
 
 /// The fields of an entry that has these members, each once.
@@ -132,15 +125,5 @@ pub(crate) fn read_tokens<'a>(
     let Some(fields) = whole_fields(&mut reader) else {
         return Ok(None);
     };
-    let Some(cmd) = read_cmd(fields.cmd, levels) else {
-        return Ok(None);
-    };
-    if fields.seat >= u32::from(seats) {
-        return Ok(None);
-    }
-    Ok(Some(Recorded {
-        seat: SeatNo::new(fields.seat as u8),
-        cmd,
-        reply: fields.reply,
-    }))
+    Ok(entry_of(fields, seats, levels))
 }
