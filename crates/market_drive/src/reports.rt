@@ -1,5 +1,5 @@
 //! What the workers of a plan tell in the end.
-ghost use Rattle.std.specs.Prelude.{◌<◌, IfErr, IfOk};
+ghost use Rattle.std.specs.Prelude.{◌≡◌, ◌<◌, ◌++◌, IfErr, IfOk, OnOk};
 ghost use Rattle.drive_plan.specs.Outcome.{IsOutcome};
 ghost use Rattle.market_drive.specs.Driving.{IsLate};
 
@@ -30,14 +30,15 @@ impl Reports {
     }
 
     /// The first answers stay where they are, and others are put behind them at once.
-    fn keep(&mut self, done: Vec<Done>, ended: Ended) -> Result<(), AllocError> {
+    fn keep(&mut self, mut done: Vec<Done>, ended: Ended) -> Result<(), AllocError>
+        ensures { OnOk result (self.new.done.items ≡ self.old.done.items ++ done.items) }
+    {
         self.ended.push(ended)?;
         if self.done.is_empty() {
             self.done = done;
             return Ok(());
         }
-        let mut more = done;
-        self.done.append(&mut more)
+        self.done.append(&mut done)
     }
 
     /// With the answers of a worker that ended so.
