@@ -2,5 +2,6 @@
 mod answers;
 mod drives;
 mod markets;
+mod orders;
 mod plans;
 mod workers;
