@@ -29,6 +29,13 @@ fn push(rt: &impl Abort, text: &mut Vec<u8>, more: &[u8]) {
     holds(rt, text.extend_from_slice(more).is_ok());
 }
 
+/// Puts so many spaces behind the text.
+fn push_spaces(rt: &impl Abort, text: &mut Vec<u8>, spaces: usize) {
+    for _ in 0..spaces {
+        push(rt, text, b" ");
+    }
+}
+
 /// What is found of the first bytes of the journal.
 fn found_of_front(bytes: usize) -> &'static str {
     match bytes {
@@ -61,6 +68,48 @@ fn with_spaces(rt: &impl Abort, alloc: Global, bytes: usize) -> Vec<u8> {
     }
     push(rt, &mut text, b"\n");
     text
+}
+
+/// An entry, cut where spaces may stand.
+const PARTS: [&str; 14] = [
+    "{",
+    "\"cmd\"",
+    ":",
+    "\"open 8 1 normal\"",
+    ",",
+    "\"reply\"",
+    ":",
+    "\"arena 1\"",
+    ",",
+    "\"seat\"",
+    ":",
+    "0",
+    "}",
+    "",
+];
+
+/// The header, and an entry with so many spaces before one of its parts.
+fn with_spaces_before(rt: &impl Abort, alloc: Global, place: usize, spaces: usize) -> Vec<u8> {
+    let mut text = text_of(rt, alloc, &[HEADER]);
+    for (at, part) in PARTS.iter().enumerate() {
+        if at == place {
+            push_spaces(rt, &mut text, spaces);
+        }
+        push(rt, &mut text, part.as_bytes());
+    }
+    push(rt, &mut text, b"\n");
+    text
+}
+
+/// Few spaces and many are passed over in ways of their own.
+#[test]
+fn an_entry_has_any_number_of_spaces_in_each_place(rt: HostRuntime) {
+    for place in 0..PARTS.len() {
+        for spaces in [1, 63, 64, 65, 66, 1_000] {
+            let text = with_spaces_before(&rt, rt.alloc(), place, spaces);
+            finds(&rt, rt.alloc(), &text, "legal 1");
+        }
+    }
 }
 
 #[test]

@@ -78,7 +78,7 @@ fn replay(
 }
 
 /// Where a line is an entry of plain texts, gives its call to the market, and writes the text of the reply that is
-/// due: whether the entry tells it. None of every other line, which changes nothing.
+/// due: whether the entry tells it. None of a line that is left to its tokens or is no entry, which changes nothing.
 fn replay_plain(
     alloc: Global,
     market: &mut Market,

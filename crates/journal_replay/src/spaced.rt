@@ -20,7 +20,7 @@ use std::str;
 /// More spaces than these in one place are left to the reader of tokens, which passes over many at a time.
 const MOST_SPACES: u32 = 64;
 
-/// What follows the spaces that a text begins with, or the first of them where they are many.
+/// What follows the spaces that a text begins with, or the first 64 where they are more.
 fn skip_spaces(text: &[u8]) -> &[u8]
     ensures { lex between text.now ≡ lex between result.now }
 {
@@ -121,7 +121,8 @@ fn spaced_fields(line: &[u8]) -> Option<Fields<'_>>
     fields_of(first, second, third)
 }
 
-/// The entry that a line tells whose texts are plain, in a market of so many seats and levels. None of every other line.
+/// The entry that a line tells whose texts are plain, in a market of so many seats and levels. None of a line that is left to its
+/// tokens, and of one that is no entry.
 pub(crate) fn read_plain(line: &[u8], seats: u8, levels: u32) -> Option<Recorded<'_>>
     ensures exact { IfSome result (λ e. option_and_then (entry_in seats levels) (json_of line.now) ≡ Some (record { seat = e.seat; cmd = e.cmd; reply = e.reply.now })) }
     ensures seat { IfSome result (λ e. e.seat < seats) }
@@ -141,7 +142,7 @@ fn read_spaced(line: &[u8], seats: u8, levels: u32) -> Option<Recorded<'_>>
     ensures seat { IfSome result (λ e. e.seat < seats) }
 {
     let fields = spaced_fields(line)?;
-    // It is, since each of its bytes was told; to look again takes a few nanoseconds, and no proof.
+    // The line is UTF-8, since each of its bytes was told: to look again takes a few nanoseconds, and no proof.
     let Ok(_text) = str::from_utf8(line) else {
         return None;
     };

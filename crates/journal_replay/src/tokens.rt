@@ -1,4 +1,4 @@
-//! Lines of entries with escapes or with other white space than spaces, as other tools may spell them. They are read token by token in
+//! Lines of entries with escapes, many spaces or other white space, as other tools may spell them. They are read token by token in
 //! room that is kept, where a tree of values with its map, keys and texts took most of the time of such a replay. Of a line whose
 //! tokens are not those of an entry, each key once, nothing is told here: it is read as JSON.
 ghost use Rattle.std.specs.Prelude.{◌≡◌, ◌<◌, ◌^◌, ◌++◌, ◌∷◌, [], Some, IfOk, IfSome, option_and_then};
