@@ -8,8 +8,8 @@ use std::rt::Env;
 pub const USAGE: &str = "\
 Usage: load_bench LOAD SEED COUNT ROUNDS
 
-Works a load, which is replay, foreign, journal, run, embed, drive or all of them, and prints a digest
-of what came out: the same for the same words.
+Works a load, which is replay, foreign, journal, run, embed, drive, churn or all of them, and prints a
+digest of what came out: the same for the same words.
 
   SEED    a number of 32 bits: each gives other inputs of the same kinds and sizes
   COUNT   how many calls, entries or jobs each input has
@@ -70,6 +70,7 @@ impl Choice {
             "run" => Choice::One(Load::Run, size),
             "embed" => Choice::One(Load::Embed, size),
             "drive" => Choice::One(Load::Drive, size),
+            "churn" => Choice::One(Load::Churn, size),
             "all" => Choice::All(size),
             _ => Choice::Unknown,
         }

@@ -1,15 +1,17 @@
 //! The loads.
 use crate::author::Author;
+use crate::churn::Churn;
 use crate::dice::Dice;
 use crate::digest::Digest;
 use crate::journals::{Style, journal};
 use crate::plans::{CREWS, Crew, plan};
 use crate::scripts::script;
-use crate::shape::{SHAPES, Shape};
+use crate::shape::{CHURNS, SHAPES, Shape, WORN, WORN_LAST};
 use anyhow::Result;
 use byte_devices::TestSource;
 use market_core::Market;
 use market_prog::{run_drive, run_journal, run_replay, run_script};
+use market_types::LastNumber;
 use std::alloc::Global;
 use std::sync::Wait;
 use std::thread::Threads;
@@ -29,17 +31,20 @@ pub enum Load {
     Embed,
     /// Plans are driven.
     Drive,
+    /// A program gives commands to markets of its own, where arenas come and go and most workers find no work.
+    Churn,
 }
 
 impl Load {
     /// Every load, as the program runs them.
-    pub const ALL: [Load; 6] = [
+    pub const ALL: [Load; 7] = [
         Load::Replay,
         Load::Foreign,
         Load::Journal,
         Load::Run,
         Load::Embed,
         Load::Drive,
+        Load::Churn,
     ];
 
     /// Its word on the command line.
@@ -51,6 +56,7 @@ impl Load {
             Load::Run => "run",
             Load::Embed => "embed",
             Load::Drive => "drive",
+            Load::Churn => "churn",
         }
     }
 }
@@ -147,6 +153,42 @@ fn embed(alloc: Global, size: Size, round: u32, digest: &mut Digest) -> Result<(
     Ok(())
 }
 
+/// Gives the calls of a market where arenas come and go to one of this shape, whose numbers end with the last.
+fn churn_one(
+    alloc: Global,
+    dice: Dice,
+    shape: Shape,
+    last: LastNumber,
+    calls: u32,
+    digest: &mut Digest,
+) -> Result<()> {
+    let base = shape.base;
+    let mut market = Market::with_last(alloc, base, 65_535, shape.seats, shape.levels, last)?;
+    let mut churn = Churn::new(dice, shape);
+    for _ in 0..calls {
+        let call = churn.next_call();
+        if call.seat.get() < market.seats() {
+            let reply = market.apply(alloc, call.seat, call.cmd)?;
+            churn.note(call.seat, &reply);
+            digest.mix_reply(&reply);
+        }
+    }
+    Ok(())
+}
+
+/// Gives the calls of markets where arenas come and go, at last to one whose numbers run out.
+fn churn(alloc: Global, size: Size, round: u32, digest: &mut Digest) -> Result<()> {
+    let mut index = u64::from(round).wrapping_mul(1_000);
+    for shape in CHURNS {
+        let dice = Dice::new(size.seed, index);
+        churn_one(alloc, dice, shape, LastNumber::USUAL, size.count, digest)?;
+        index = index.wrapping_add(1);
+    }
+    let dice = Dice::new(size.seed, index);
+    let last = LastNumber::new(WORN_LAST).unwrap_or(LastNumber::USUAL);
+    churn_one(alloc, dice, WORN, last, size.count / 64, digest)
+}
+
 /// Makes plans, and drives them.
 fn drive<T: Threads + Wait + Sync>(
     rt: &T,
@@ -181,6 +223,7 @@ fn work_once<T: Threads + Wait + Sync>(
         Load::Run => work_scripts(alloc, size, round, false, digest),
         Load::Embed => embed(alloc, size, round, digest),
         Load::Drive => drive(rt, alloc, size, round, digest),
+        Load::Churn => churn(alloc, size, round, digest),
     }
 }
 

@@ -4,6 +4,7 @@
 
 mod author;
 mod choice;
+mod churn;
 mod dice;
 mod digest;
 mod journals;

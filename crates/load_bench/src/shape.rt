@@ -25,8 +25,8 @@ pub struct Shape {
     ghost few_arenas: { arenas ≤ 1000 },
 }
 
-/// From a small server to the largest market. In the last one many arenas at one level share few workers: the deepest tree, and
-/// most of its Joins are in vain.
+/// From a small server to the largest market. In the last one many arenas at one level share few workers: the deepest tree, and three
+/// Stays in five are of a seat that was recalled before and is not placed. Next to no Join is in vain.
 pub const SHAPES: [Shape; 6] = [
     Shape {
         base: 8,
@@ -65,6 +65,45 @@ pub const SHAPES: [Shape; 6] = [
         arenas: 1000,
     },
 ];
+
+/// Those where arenas come and go: near the most that live, at one level, three and eight, and few. Their limits leave seats without work.
+pub const CHURNS: [Shape; 4] = [
+    Shape {
+        base: 24,
+        seats: 64,
+        levels: 1,
+        arenas: 1000,
+    },
+    Shape {
+        base: 33,
+        seats: 64,
+        levels: 3,
+        arenas: 1000,
+    },
+    Shape {
+        base: 49,
+        seats: 64,
+        levels: 8,
+        arenas: 1000,
+    },
+    Shape {
+        base: 9,
+        seats: 16,
+        levels: 3,
+        arenas: 60,
+    },
+];
+
+/// A market whose numbers run out.
+pub const WORN: Shape = Shape {
+    base: 9,
+    seats: 16,
+    levels: 3,
+    arenas: 60,
+};
+
+/// Its last number.
+pub const WORN_LAST: u32 = 1_000;
 
 impl Shape {
     /// What its market is opened with.
