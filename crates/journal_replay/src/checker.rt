@@ -47,7 +47,7 @@ fn read_line(alloc: Global, line: &[u8], form: LineForm) -> Result<Option<Value>
 /// Memory that is used again for each line.
 #[derive(Drop)]
 struct Room {
-    /// For the tokens of a line, and for its texts without escapes: from the first line on that is to be read so.
+    /// For the tokens of a line, and for its texts once their escapes are undone: from the first line on that is to be read so.
     scratch: Option<Box<Scratch>>,
     /// For the text of the reply that is due.
     due: Vec<u8>,
@@ -402,8 +402,9 @@ impl LineTaker for Checker {
 /// What is found of a journal's text, of whatever length: whether its calls, replayed on a new market, get the replies
 /// that it tells, as `Legal` with the number of entries, or the first line at which they don't. Journals of versions 1, 2 and 3
 /// are read; those of version 3 alone may have more than 1,048,576 entries. What a line is as JSON is serde_json's reading of it, so that other spacing
-/// and another order of keys are accepted. It asks for no free places. It takes the memory of the market, of a line and of
-/// its replies; out of memory is the `Err`.
+/// and another order of keys are accepted. It asks for no free places. It takes the memory of the market, and room that is kept from
+/// line to line: 16 KB for tokens from the first line on that is read by them, and for the texts of such a line and for the due reply
+/// up to twice the longest of them. Out of memory is the `Err`.
 pub fn check(alloc: Global, text: &[u8]) -> Result<Verdict, AllocError>
     ensures verdict { IfOk result (λ found. found ≡ verdict text.now) }
 {

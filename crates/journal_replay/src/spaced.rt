@@ -1,6 +1,7 @@
 //! Lines of entries with spaces between their parts, or with another order of keys, whose texts are plain: their members are cut one
 //! by one, with no index of the line and no reader of tokens, which took a third of such a replay. What is cut is proved to be what
-//! the lexer of JSON finds there. Every other line, as one with escapes, many spaces or a key twice, is read by its tokens.
+//! the lexer of JSON finds there. Every other line goes on to its tokens: one with escapes or many spaces is read by them, one with a key
+//! twice is read as JSON in the end.
 ghost use Rattle.std.specs.Prelude.{◌≡◌, ◌<◌, ◌≤◌, ◌^◌, ◌++◌, ◌∷◌, true, length, Some, IfSome, decimal, option_and_then};
 ghost use Rattle.std.specs.Bool.{OnTrue};
 ghost use Rattle.json.specs.Lex.{between, class, lex, operator, operator_lexeme, token, tokens};

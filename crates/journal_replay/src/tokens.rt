@@ -1,6 +1,6 @@
 //! Lines of entries with escapes, many spaces or other white space, as other tools may spell them. They are read token by token in
 //! room that is kept, where a tree of values with its map, keys and texts took most of the time of such a replay. Of a line whose
-//! tokens are not those of an entry, each key once, nothing is told here: it is read as JSON.
+//! tokens are not those of an entry, each key once, nothing is told here: one with a key twice, as every other, is read as JSON.
 ghost use Rattle.std.specs.Prelude.{◌≡◌, ◌<◌, ◌^◌, ◌++◌, ◌∷◌, [], Some, IfOk, IfSome, option_and_then};
 ghost use Rattle.json.specs.Token.{begin_object, end_object};
 ghost use Rattle.serde_json.specs.Read.{read};

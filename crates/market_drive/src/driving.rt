@@ -55,7 +55,7 @@ fn drive_plan_of<G: Gate + Sync, R: Threads + Wait + Sync>(
     outcome
 }
 
-/// Reads a plan, and gives the answers to its jobs in order of number: the same for every number of workers, 1 to 16, each of
+/// Reads a plan, and gives the answers to its jobs in order of number: at Ok the same by every number of workers, 1 to 16, each of
 /// which works in a thread of its own, or in the calling thread where none can be made. A gate is asked before each job and told
 /// after it. Beside the answers it gives the office that was closed, with the history of its calls.
 ///

@@ -1,5 +1,5 @@
-//! Jobs run by workers that a market moves between arenas: [`drive`] reads a plan, and gives the answers to its jobs, the same
-//! for every number of workers. [`drive_to_close`] gives the office's history beside them.
+//! Jobs run by workers that a market moves between arenas: [`drive`] reads a plan, and gives the answers to its jobs. All drives of
+//! a plan that are finished give the same, by any number of workers. [`drive_to_close`] gives the office's history beside them.
 //!
 //! It opens an office for the plan's market, feeds a queue for each arena, lets each worker work in a thread of its own
 //! (`worker_main`), and puts their answers in order. `lines` are the queues, `racks` the right to pop of each worker, `opener` and

@@ -143,8 +143,7 @@ impl<C: Ledger, W: Ledger> Office<C, W> {
     }
 
     /// An office that keeps no entries. Its history exists in proofs alone, so that a call takes no memory but the market's own,
-    /// a vector that has a few entries at most, one for each seat and two, and for the time of a Lists a copy of its reply. It
-    /// never answers `HistoryFull` in the first
+    /// and room for a few entries, at most one for each seat and two. It never answers `HistoryFull` in the first
     /// 18,446,744,073,708,503,039 calls. All else is as with `open`: the numbers and their faults, and what each call does.
     pub fn open_unrecorded(
         alloc: Global,

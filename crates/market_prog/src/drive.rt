@@ -76,8 +76,8 @@ pub fn run_drive_through<G: Gate + Sync, T: Threads + Wait + Sync, R: Source, W:
 }
 
 /// Drives the plan that a source has left, of at most 268,435,456 bytes, with so many workers, 1 to 16, each in a thread of its
-/// own, and writes a line for each of its jobs, in order of number; or where it has no outcome the line of its fault. What is
-/// written is the same for every number of workers. Nothing is written before the plan was driven.
+/// own, and writes a line for each of its jobs, in order of number; or where it has no outcome the line of its fault. All drives of
+/// a plan that are finished write the same, by any number of workers. Nothing is written before the plan was driven.
 ///
 /// A plan that is refused for want of memory, `Refused(Memory)`, leaves nothing written. Whichever other fault comes first stops
 /// it: a read that fails is `Read`, a plan that is too long `TooLong`, running out of memory for the input or for the text

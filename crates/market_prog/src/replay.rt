@@ -29,7 +29,7 @@ fn tell<W: Sink>(alloc: Global, found: &Verdict, sink: &mut W) -> Result<(), Run
 
 /// Replays the journal that a source has left, and writes the line of its verdict: legal with
 /// the number of its entries, or its first faulty line. Nothing is written before the journal was read to its end. It takes
-/// the memory of the market, of one line and its replies, and of one piece of 65,536 bytes.
+/// the memory of the market, of `check`, which keeps room from line to line, and of one piece of 65,536 bytes.
 ///
 /// Whichever fault comes first stops it. A read that fails is `Read`, a journal of more than 268,435,456 bytes `TooLong`, where no
 /// header of version 3 begins it, a write that fails or takes none `Write`, running out of memory `Memory`; it answers no other.
