@@ -2,9 +2,10 @@ mod ByStamp
 mod Digits
 mod Found
 mod LevelRows
-mod Table
+mod ByNumber
 mod Stored
 mod Indices
 mod Search
 mod Once
+mod InPlace
 pub mod Crossing

@@ -20,7 +20,7 @@ use Rattle.arena_store.proofs.LevelRows.{level_rows-with_claim, level_rows-with_
 use Rattle.arena_store.proofs.Found.{Found, found-at, found-matches, found-levels}
 use Rattle.level_list.specs.Bits.{bits}
 use Rattle.arena_store.proofs.Digits.{bits-more, bits-few}
-use Rattle.arena_store.proofs.Table.{table-found, table-claimed, table-removed, table-promoted, table-pushed, rising-set, apart-by_stamp, newest-with_claim, newest-without, newest-cons}
+use Rattle.arena_store.proofs.ByNumber.{table-found, table-claimed, table-removed, table-promoted, table-pushed, rising-set, apart-by_stamp, newest-with_claim, newest-without, newest-cons}
 
 abbrev IsLevel : Arena → Type 0
 IsLevel a = (1 ≤ a.level) × (a.level ≤ 8)

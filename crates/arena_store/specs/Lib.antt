@@ -1,4 +1,5 @@
 pub use Rattle.level_list.specs.Bits
 pub mod Arenas
 pub mod Changed
+pub mod Held
 pub mod Store

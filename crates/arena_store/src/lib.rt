@@ -12,6 +12,7 @@ mod change;
 mod lookup;
 mod store;
 mod stored_arena;
+mod table;
 
 pub use change::Change;
 pub use level_list::Stretch;

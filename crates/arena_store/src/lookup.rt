@@ -1,46 +1,41 @@
-//! Where an arena stands in a table with rising numbers.
-ghost use Rattle.std.specs.Prelude.{◌≡◌, ◌≢◌, ℕ, ◌<◌, ◌≤◌, length, slice_index_or, IfNone, IfSome};
+//! Where a number stands among rising numbers.
+ghost use Rattle.std.specs.Prelude.{◌≢◌, ◌≡◌, ℕ, ◌<◌, ◌≤◌, length, slice_index_or, IfNone, IfSome};
 ghost use Rattle.std.specs.List.{All};
-ghost use Rattle.market_types.specs.State.{Arena};
-ghost use Rattle.arena_store.specs.Store.{IsByNumber};
+ghost use Rattle.arena_store.specs.Held.{IsRising};
 
-use crate::stored_arena::StoredArena;
-use market_types::ArenaId;
-
-/// The index of the arena of this number.
-pub fn index_of(table: &[StoredArena], arena: ArenaId) -> Option<usize>
-    requires { IsByNumber table.now }
-    ensures missing { IfNone result (All (λ (a : Arena). a.number ≢ arena) table.now) }
-    ensures there { IfSome result (λ index. index < length table.now) }
-    ensures found { IfSome result (λ index. (d : Arena) → (slice_index_or table.now index d).number ≡ arena) }
+/// The index of this number.
+pub fn index_of(keys: &[u32], number: u32) -> Option<usize>
+    requires { IsRising keys.now }
+    ensures missing { IfNone result (All (λ (key : ℕ). key ≢ number) keys.now) }
+    ensures there { IfSome result (λ index. index < length keys.now) }
+    ensures found { IfSome result (λ index. (d : ℕ) → slice_index_or keys.now index d ≡ number) }
 {
-    let (low, high) = bounds_of(table, arena);
-    let near = table[low..high].binary_search_by_key(&arena.get(), |stored| stored.arena().get());
+    let (low, high) = bounds_of(keys, number);
+    let near = keys[low..high].binary_search(&number);
     Some(low + near.ok()?)
 }
 
-/// The indices from which and before which the arena stands, if anywhere: there are no more arenas between two than numbers
-/// between theirs. Where few numbers are missing, the two are close.
-fn bounds_of(table: &[StoredArena], arena: ArenaId) -> (usize, usize)
-    requires { IsByNumber table.now }
+/// The indices from which and before which the number stands, if anywhere: there are no more of them between two than
+/// numbers between those. Where few numbers are missing, the two are close.
+fn bounds_of(keys: &[u32], number: u32) -> (usize, usize)
+    requires { IsRising keys.now }
     ensures order { result.0 ≤ result.1 }
-    ensures within { result.1 ≤ length table.now }
-    ensures before { (index : ℕ) (d : Arena) → index < result.0 → (slice_index_or table.now index d).number < arena }
-    ensures behind { (index : ℕ) (d : Arena) → result.1 ≤ index → index < length table.now
-        → arena < (slice_index_or table.now index d).number }
+    ensures within { result.1 ≤ length keys.now }
+    ensures before { (index d : ℕ) → index < result.0 → slice_index_or keys.now index d < number }
+    ensures behind { (index d : ℕ) → result.1 ≤ index → index < length keys.now
+        → number < slice_index_or keys.now index d }
 {
-    if table.is_empty() {
+    if keys.is_empty() {
         return (0, 0);
     }
-    let end = table.len() - 1;
-    let number = arena.get();
-    let first = table[0].arena().get();
-    let last = table[end].arena().get();
+    let end = keys.len() - 1;
+    let first = keys[0];
+    let last = keys[end];
     if number < first {
         return (0, 0);
     }
     if last < number {
-        return (table.len(), table.len());
+        return (keys.len(), keys.len());
     }
     let low = end.saturating_sub((last - number) as usize);
     let high = end.min((number - first) as usize);

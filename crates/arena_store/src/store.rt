@@ -11,8 +11,8 @@ ghost use Rattle.level_list.specs.Bits.{bits};
 ghost use Rattle.level_list.specs.Rows.{requests};
 
 use crate::change::Change;
-use crate::lookup::index_of;
 use crate::stored_arena::StoredArena;
+use crate::table::Table;
 use arena_record::ArenaRecord;
 use level_list::{LevelList, Stretch};
 use market_types::{ArenaId, Fault, Level};
@@ -22,8 +22,8 @@ use std::marker::Model;
 /// The living arenas, at most 1,024. Contracts see them as a list, the greatest stamp first.
 #[derive(Drop)]
 pub struct Arenas {
-    /// By rising number, so that a new arena goes to the end.
-    table: Vec<StoredArena>,
+    /// By number.
+    table: Table,
     /// One for each level, level 1 first.
     lists: [LevelList; 8],
     /// How many arenas have enqueued work.
@@ -37,9 +37,9 @@ impl Model for Arenas {
 
     ghost Value = { List Arena };
 
-    ghost view = { λ a. by_stamp a.table.items };
+    ghost view = { λ a. by_stamp a.table.arenas };
 
-    ghost invariant = { λ a. IsStored a.table.items a.lists a.enqueued };
+    ghost invariant = { λ a. IsStored a.table.arenas a.lists a.enqueued };
 }
 
 impl Arenas {
@@ -51,7 +51,7 @@ impl Arenas {
         ensures { result ≡ [] }
     {
         Arenas {
-            table: Vec::new(alloc),
+            table: Table::new(alloc),
             lists: [
                 LevelList::new(),
                 LevelList::new(),
@@ -89,8 +89,8 @@ impl Arenas {
         ensures exact { result ≡ arena_at arena self.now }
         ensures number { IfSome result (λ found. found.number ≡ arena) }
     {
-        let index = index_of(&self.table, arena)?;
-        Some(self.table[index])
+        let place = self.table.place_of(arena)?;
+        Some(self.table.at(place))
     }
 
     /// Some arena has enqueued work.
@@ -178,7 +178,7 @@ impl Arenas {
         ensures entered { IfOk result (λ visits. 1 ≤ visits) }
         ensures visits { IfOk result (λ visits. visits ≤ 2 * bits (length self.old) + 1) }
     {
-        self.table.reserve(1)?;
+        self.table.reserve()?;
         let list = &mut self.lists[arena.level().index()];
         let visits = list.push(alloc, arena.row())?;
         self.table.push_reserved(arena);
@@ -196,13 +196,13 @@ impl Arenas {
         ensures entered { IfOk result (λ done. 1 ≤ done.1) }
         ensures visits { IfOk result (λ done. done.1 ≤ 2 * bits (length self.old)) }
     {
-        let Some(index) = index_of(&self.table, arena) else {
+        let Some(place) = self.table.place_to_change(arena) else {
             return Err(Fault::NoArena);
         };
-        let old = self.table[index];
+        let old = self.table.at(place);
         let claim = change.made_to(old.claim())?;
         let new = old.with_claim(claim);
-        self.table[index] = new;
+        self.table.set(place, new);
         self.enqueued = self.enqueued - counted(old.claim()) + counted(claim);
         let row = new.row();
         let list = &mut self.lists[old.level().index()];
@@ -219,7 +219,7 @@ impl Arenas {
         ensures entered { IfSome result (λ visits. 1 ≤ visits) }
         ensures visits { IfSome result (λ visits. visits ≤ 2 * bits (length self.old)) }
     {
-        let index = index_of(&self.table, arena)?;
+        let index = self.table.index_of(arena)?;
         let old = self.table.remove(index);
         self.enqueued -= counted(old.claim());
         let list = &mut self.lists[old.level().index()];
@@ -238,8 +238,8 @@ impl Arenas {
         ensures entered { IfSome result (λ visits. 2 ≤ visits) }
         ensures visits { IfSome result (λ visits. visits ≤ 4 * bits (length self.old) + 1) }
     {
-        let index = index_of(&self.table, arena)?;
-        let old = self.table[index];
+        let place = self.table.place_to_change(arena)?;
+        let old = self.table.at(place);
         let from = &mut self.lists[old.level().index()];
         let (taken, out) = from.take(old.stamp());
         let Some(taken) = taken else {
@@ -247,7 +247,7 @@ impl Arenas {
         };
         let to = &mut self.lists[level.index()];
         let back = to.put(taken, stamp);
-        self.table[index] = old.promoted(stamp, level);
+        self.table.set(place, old.promoted(stamp, level));
         Some(out + back)
     }
 }

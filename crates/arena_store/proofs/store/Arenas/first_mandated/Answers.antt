@@ -11,13 +11,13 @@ returns-in-Some c =
     let s = c.self.inside in
     let index : c.index.result ≡ c.args.level - 1 = omega arith in
     let d = c.index-self-index.result in
-    let visits : c.first_mandated-row.result.1 ≤ 2 * bits (length (by_stamp s.table.items)) =
-    list-visits s.table.items s.lists s.enqueued c.self.invariant c.args.level c.index.result d (omega arith) (omega arith) index c.first_mandated-row.result.1 c.first_mandated-row.ensures.visits in
+    let visits : c.first_mandated-row.result.1 ≤ 2 * bits (length (by_stamp s.table.arenas)) =
+    list-visits s.table.arenas s.lists s.enqueued c.self.invariant c.args.level c.index.result d (omega arith) (omega arith) index c.first_mandated-row.result.1 c.first_mandated-row.ensures.visits in
     rw (← c.self.view_is) (record {
-      exact = ap (option_map (λ (r : Row). r.arena)) (sym c.in-Some.is) ∙ list-mandated s.table.items s.lists s.enqueued c.self.invariant c.args.level c.index.result d (omega arith) (omega arith) index c.first_mandated-row.result.0 c.first_mandated-row.ensures.exact;
-      entered = list-entered s.table.items s.lists s.enqueued c.self.invariant c.args.level c.index.result d (omega arith) (omega arith) index c.first_mandated-row.result.1 c.first_mandated-row.ensures.entered;
+      exact = ap (option_map (λ (r : Row). r.arena)) (sym c.in-Some.is) ∙ list-mandated s.table.arenas s.lists s.enqueued c.self.invariant c.args.level c.index.result d (omega arith) (omega arith) index c.first_mandated-row.result.0 c.first_mandated-row.ensures.exact;
+      entered = list-entered s.table.arenas s.lists s.enqueued c.self.invariant c.args.level c.index.result d (omega arith) (omega arith) index c.first_mandated-row.result.1 c.first_mandated-row.ensures.entered;
       visits = visits;
-      few = omega (arith, visits, all-visits s.table.items s.lists s.enqueued c.self.invariant);
+      few = omega (arith, visits, all-visits s.table.arenas s.lists s.enqueued c.self.invariant);
     })
 
 pub returns-in-None : goal.returns-in-None
@@ -25,11 +25,11 @@ returns-in-None c =
     let s = c.self.inside in
     let index : c.index.result ≡ c.args.level - 1 = omega arith in
     let d = c.index-self-index.result in
-    let visits : c.first_mandated-row.result.1 ≤ 2 * bits (length (by_stamp s.table.items)) =
-    list-visits s.table.items s.lists s.enqueued c.self.invariant c.args.level c.index.result d (omega arith) (omega arith) index c.first_mandated-row.result.1 c.first_mandated-row.ensures.visits in
+    let visits : c.first_mandated-row.result.1 ≤ 2 * bits (length (by_stamp s.table.arenas)) =
+    list-visits s.table.arenas s.lists s.enqueued c.self.invariant c.args.level c.index.result d (omega arith) (omega arith) index c.first_mandated-row.result.1 c.first_mandated-row.ensures.visits in
     rw (← c.self.view_is) (record {
-      exact = ap (option_map (λ (r : Row). r.arena)) (sym c.in-None.is) ∙ list-mandated s.table.items s.lists s.enqueued c.self.invariant c.args.level c.index.result d (omega arith) (omega arith) index c.first_mandated-row.result.0 c.first_mandated-row.ensures.exact;
-      entered = list-entered s.table.items s.lists s.enqueued c.self.invariant c.args.level c.index.result d (omega arith) (omega arith) index c.first_mandated-row.result.1 c.first_mandated-row.ensures.entered;
+      exact = ap (option_map (λ (r : Row). r.arena)) (sym c.in-None.is) ∙ list-mandated s.table.arenas s.lists s.enqueued c.self.invariant c.args.level c.index.result d (omega arith) (omega arith) index c.first_mandated-row.result.0 c.first_mandated-row.ensures.exact;
+      entered = list-entered s.table.arenas s.lists s.enqueued c.self.invariant c.args.level c.index.result d (omega arith) (omega arith) index c.first_mandated-row.result.1 c.first_mandated-row.ensures.entered;
       visits = visits;
-      few = omega (arith, visits, all-visits s.table.items s.lists s.enqueued c.self.invariant);
+      few = omega (arith, visits, all-visits s.table.arenas s.lists s.enqueued c.self.invariant);
     })

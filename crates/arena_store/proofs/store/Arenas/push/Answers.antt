@@ -5,12 +5,15 @@ use Rattle.arena_store.proofs.ByStamp.{length-by_stamp}
 use Rattle.arena_store.proofs.Stored.{list-few, list-newest, list-visits_one, stored-pushed, view-pushed}
 use Rattle.arena_store.proofs.store.Arenas.push.Goals as goal
 
+pub reserve-requires : goal.reserve-requires
+reserve-requires c = omega (arith, length-by_stamp c.self.inside.table.arenas, ap length c.self.view_is, c.requires.room)
+
 pub push-requires-clause-room : goal.push-requires-clause-room
 push-requires-clause-room c =
     let s = c.self.inside in
     let level : c.index.result ≡ c.args.arena.level - 1 = omega (arith, c.level.ensures) in
-    let room : length s.table.items < 1024 = omega (arith, length-by_stamp s.table.items, ap length c.self.view_is, c.requires.room) in
-    omega (arith, list-few s.table.items s.lists s.enqueued c.self.invariant c.args.arena.level c.index.result c.index-self-index.result (omega arith) (omega arith) level)
+    let room : length s.table.arenas < 1024 = omega (arith, length-by_stamp s.table.arenas, ap length c.self.view_is, c.requires.room) in
+    omega (arith, list-few s.table.arenas s.lists s.enqueued c.self.invariant c.args.arena.level c.index.result c.index-self-index.result (omega arith) (omega arith) level)
 
 pub push-requires-clause-newest : goal.push-requires-clause-newest
 push-requires-clause-newest c =
@@ -18,7 +21,7 @@ push-requires-clause-newest c =
     let level : c.index.result ≡ c.args.arena.level - 1 = omega (arith, c.level.ensures) in
     let older = rw (← c.self.view_is) at c.requires.newest in
     let stamp : c.row.result.stamp ≡ c.args.arena.stamp = ap (λ (r : Row). r.stamp) c.row.ensures.exact in
-    rw stamp (list-newest s.table.items s.lists s.enqueued c.self.invariant c.args.arena.level c.index.result c.index-self-index.result (omega arith) (omega arith) level c.args.arena.stamp older)
+    rw stamp (list-newest s.table.arenas s.lists s.enqueued c.self.invariant c.args.arena.level c.index.result c.index-self-index.result (omega arith) (omega arith) level c.args.arena.stamp older)
 
 pub invariant_of-self-2 : goal.invariant_of-self-2
 invariant_of-self-2 c =
@@ -26,21 +29,21 @@ invariant_of-self-2 c =
     let level : c.index.result ≡ c.args.arena.level - 1 = omega (arith, c.level.ensures) in
     let older = rw (← c.self.view_is) at c.requires.newest in
     let last = rw (← c.self.view_is) at c.requires.last in
-    let room : length s.table.items < 1024 = omega (arith, length-by_stamp s.table.items, ap length c.self.view_is, c.requires.room) in
+    let room : length s.table.arenas < 1024 = omega (arith, length-by_stamp s.table.arenas, ap length c.self.view_is, c.requires.room) in
     let rows = c.in_ok-visits.ensures.rows ∙ ap (λ (r : Row). r ∷ get_or s.lists c.index.result c.index-self-index.result) c.row.ensures.exact in
-    rw (c.push_reserved.ensures.items, c.in_ok-reserve.ensures.items)
-    (stored-pushed s.table.items s.lists s.enqueued c.args.arena c.index.result c.index-self-index.result _ _ c.self.invariant room older last (omega arith, omega arith) level
+    rw (c.push_reserved.ensures, c.in_ok-reserve.ensures.unchanged)
+    (stored-pushed s.table.arenas s.lists s.enqueued c.args.arena c.index.result c.index-self-index.result _ _ c.self.invariant room older last (omega arith, omega arith) level
     rows (ap (λ k. s.enqueued + k) (c.counted.ensures ∙ ap (λ (q : Claim). cond (ltb 0 q.mandatory) 1 0) c.claim.ensures)))
 
 pub returns-clause-pushed : goal.returns-clause-pushed
 returns-clause-pushed c =
     let s = c.self.inside in
     let older = rw (← c.self.view_is) at c.requires.newest in
-    rw (c.push_reserved.ensures.items, c.in_ok-reserve.ensures.items, ← c.self.view_is) (view-pushed s.table.items c.args.arena older)
+    rw (c.push_reserved.ensures, c.in_ok-reserve.ensures.unchanged, ← c.self.view_is) (view-pushed s.table.arenas c.args.arena older)
 
 pub returns-clause-visits : goal.returns-clause-visits
 returns-clause-visits c =
     let s = c.self.inside in
     let level : c.index.result ≡ c.args.arena.level - 1 = omega (arith, c.level.ensures) in
-    rw (← c.self.view_is) (list-visits_one s.table.items s.lists s.enqueued c.self.invariant c.args.arena.level c.index.result c.index-self-index.result (omega arith) (omega arith) level
+    rw (← c.self.view_is) (list-visits_one s.table.arenas s.lists s.enqueued c.self.invariant c.args.arena.level c.index.result c.index-self-index.result (omega arith) (omega arith) level
     c.in_ok-visits.visits c.in_ok-visits.ensures.visits.1)

@@ -8,21 +8,21 @@ use Rattle.arena_store.proofs.store.Arenas.remove.Goals as goal
 
 pub returns-in_err-index-clause-exact : goal.returns-in_err-index-clause-exact
 returns-in_err-index-clause-exact c =
-    let missing = rw c.deref.ensures.value at c.in_err-index.ensures.missing in
-    rw (← c.self.view_is) (sym (removed-missing c.args.arena c.self.inside.table.items missing))
+    let missing = c.in_err-index.ensures.missing in
+    rw (← c.self.view_is) (sym (removed-missing c.args.arena c.self.inside.table.arenas missing))
 
 pub returns-in_err-index-clause-missing : goal.returns-in_err-index-clause-missing
 returns-in_err-index-clause-missing c =
-    let missing = rw c.deref.ensures.value at c.in_err-index.ensures.missing in
-    rw (c.from_residual.ensures, ← c.self.view_is) (missing-by_stamp c.args.arena c.self.inside.table.items missing)
+    let missing = c.in_err-index.ensures.missing in
+    rw (c.from_residual.ensures, ← c.self.view_is) (missing-by_stamp c.args.arena c.self.inside.table.arenas missing)
 
 pub returns-clause-there : goal.returns-clause-there
 returns-clause-there c =
     let s = c.self.inside in
-    let there = rw c.deref.ensures.value at c.in_ok-index.ensures.there in
-    let found = rw c.deref.ensures.value at c.in_ok-index.ensures.found in
-    let here : arena_at c.args.arena (by_stamp s.table.items) ≡ Some c.remove-old.result =
-    found-by_stamp c.args.arena c.in_ok-index.index s.table.items c.remove-old.result c.self.invariant.by_number there c.remove-old.ensures.value found in
+    let there = c.in_ok-index.ensures.there in
+    let found = c.in_ok-index.ensures.found in
+    let here : arena_at c.args.arena (by_stamp s.table.arenas) ≡ Some c.remove-old.result =
+    found-by_stamp c.args.arena c.in_ok-index.index s.table.arenas c.remove-old.result c.self.invariant.by_number there c.remove-old.ensures.value found in
     rw (← c.self.view_is, here) refl
 
 pub invariant_of-self : goal.invariant_of-self
@@ -30,38 +30,38 @@ invariant_of-self c =
     let s = c.self.inside in
     let x = c.remove-old.result in
     let i = c.in_ok-index.index in
-    let there = rw c.deref.ensures.value at c.in_ok-index.ensures.there in
+    let there = c.in_ok-index.ensures.there in
     let index : c.index.result ≡ x.level - 1 = omega (arith, c.level.ensures) in
     let rows = c.take-taken.ensures.rows ∙ ap (λ k. without_row k (get_or s.lists c.index.result c.index-self-index.result)) c.stamp.ensures in
     let old : c.counted.result ≡ cond (ltb 0 x.claim.mandatory) 1 0 = c.counted.ensures ∙ ap (λ (q : Claim). cond (ltb 0 q.mandatory) 1 0) c.claim.ensures in
     rw c.remove-old.ensures.items
-    (stored-removed s.table.items s.lists s.enqueued i x c.self.invariant there c.remove-old.ensures.value c.index.result c.index-self-index.result _ _ index rows
-    (omega (arith, counted-within s.table.items s.lists s.enqueued i x c.self.invariant there c.remove-old.ensures.value, old)))
+    (stored-removed s.table.arenas s.lists s.enqueued i x c.self.invariant there c.remove-old.ensures.value c.index.result c.index-self-index.result _ _ index rows
+    (omega (arith, counted-within s.table.arenas s.lists s.enqueued i x c.self.invariant there c.remove-old.ensures.value, old)))
 
 pub returns-clause-exact : goal.returns-clause-exact
 returns-clause-exact c =
     let s = c.self.inside in
     let x = c.remove-old.result in
     let i = c.in_ok-index.index in
-    let there = rw c.deref.ensures.value at c.in_ok-index.ensures.there in
-    let found = rw c.deref.ensures.value at c.in_ok-index.ensures.found in
+    let there = c.in_ok-index.ensures.there in
+    let found = c.in_ok-index.ensures.found in
     let number : x.number ≡ c.args.arena = ap (λ (a : Arena). a.number) c.remove-old.ensures.value ∙ found x in
     rw (c.remove-old.ensures.items, ← c.self.view_is)
-    (view-removed s.table.items s.lists s.enqueued i x c.self.invariant there c.remove-old.ensures.value ∙ ap (λ k. without k (by_stamp s.table.items)) number)
+    (view-removed s.table.arenas s.lists s.enqueued i x c.self.invariant there c.remove-old.ensures.value ∙ ap (λ k. without k (by_stamp s.table.arenas)) number)
 
 pub returns-clause-visits : goal.returns-clause-visits
 returns-clause-visits c =
     let s = c.self.inside in
     let x = c.remove-old.result in
-    let there = rw c.deref.ensures.value at c.in_ok-index.ensures.there in
+    let there = c.in_ok-index.ensures.there in
     let level : c.index.result ≡ x.level - 1 = omega (arith, c.level.ensures) in
-    let within = level-here s.table.items s.lists s.enqueued c.in_ok-index.index x c.self.invariant there c.remove-old.ensures.value in
-    rw (← c.self.view_is) (list-visits s.table.items s.lists s.enqueued c.self.invariant x.level c.index.result c.index-self-index.result within.0 within.1 level c.take-taken.result.1 c.take-taken.ensures.visits)
+    let within = level-here s.table.arenas s.lists s.enqueued c.in_ok-index.index x c.self.invariant there c.remove-old.ensures.value in
+    rw (← c.self.view_is) (list-visits s.table.arenas s.lists s.enqueued c.self.invariant x.level c.index.result c.index-self-index.result within.0 within.1 level c.take-taken.result.1 c.take-taken.ensures.visits)
 
 pub returns-clause-entered : goal.returns-clause-entered
 returns-clause-entered c =
     let s = c.self.inside in
     let x = c.remove-old.result in
-    let there = rw c.deref.ensures.value at c.in_ok-index.ensures.there in
+    let there = c.in_ok-index.ensures.there in
     let level : c.index.result ≡ x.level - 1 = omega (arith, c.level.ensures) in
-    c.take-taken.ensures.entered (some-here s.table.items s.lists s.enqueued c.in_ok-index.index x c.self.invariant there c.remove-old.ensures.value c.index.result c.index-self-index.result level)
+    c.take-taken.ensures.entered (some-here s.table.arenas s.lists s.enqueued c.in_ok-index.index x c.self.invariant there c.remove-old.ensures.value c.index.result c.index-self-index.result level)
