@@ -153,3 +153,133 @@ fn a_line_is_utf8_and_nests_little(rt: HostRuntime) {
     let text = with_arrays(&rt, rt.alloc(), 128);
     finds(&rt, rt.alloc(), &text, "J2 bad json line 2");
 }
+
+/// Puts the same bytes behind the text so many times.
+fn push_often(rt: &impl Abort, text: &mut Vec<u8>, more: &[u8], times: u32) {
+    for _ in 0..times {
+        push(rt, text, more);
+    }
+}
+
+/// A line of 65,536 bytes: it begins and ends so, and has the same bytes so many times between.
+struct LongLine {
+    begin: &'static [u8],
+    again: &'static [u8],
+    times: u32,
+    end: &'static [u8],
+}
+
+impl LongLine {
+    /// The line, with an LF.
+    fn text(&self, rt: &impl Abort, alloc: Global) -> Vec<u8> {
+        let mut text = Vec::new(alloc);
+        push(rt, &mut text, self.begin);
+        push_often(rt, &mut text, self.again, self.times);
+        push(rt, &mut text, self.end);
+        same(rt, text.len(), 65_536);
+        push(rt, &mut text, b"\n");
+        text
+    }
+}
+
+/// A text without its end, and one that is not UTF-8.
+const NO_JSON: [LongLine; 2] = [
+    LongLine {
+        begin: b"\"",
+        again: b"a",
+        times: 65_535,
+        end: b"",
+    },
+    LongLine {
+        begin: b"\"",
+        again: b"\xff",
+        times: 65_534,
+        end: b"\"",
+    },
+];
+
+/// An array, an object of other keys, and a command of escapes that spells none.
+const NO_ENTRY: [LongLine; 3] = [
+    LongLine {
+        begin: b"[",
+        again: b"0,",
+        times: 32_766,
+        end: b"0 ]",
+    },
+    LongLine {
+        begin: b"{\"a\":0",
+        again: b",\"a\":0",
+        times: 10_921,
+        end: b"   }",
+    },
+    LongLine {
+        begin: b"{\"cmd\":\"",
+        again: b"\\u0061",
+        times: 10_917,
+        end: b"\",\"reply\":\"ok\",\"seat\":0  }",
+    },
+];
+
+/// A reply of escapes.
+const WRONG: LongLine = LongLine {
+    begin: b"{\"cmd\":\"limit\",\"reply\":\"",
+    again: b"\\u0061",
+    times: 10_916,
+    end: b"\",\"seat\":0     }",
+};
+
+/// What is found of the line behind a header.
+fn finds_behind(rt: &impl Abort, alloc: Global, line: &LongLine, found: &str) {
+    let mut text = text_of(rt, alloc, &[HEADER]);
+    push(rt, &mut text, &line.text(rt, alloc));
+    finds(rt, alloc, &text, found);
+}
+
+#[test]
+fn a_bad_line_has_65_536_bytes_too(rt: HostRuntime) {
+    for line in &NO_JSON {
+        finds_behind(&rt, rt.alloc(), line, "J2 bad json line 2");
+        finds(
+            &rt,
+            rt.alloc(),
+            &line.text(&rt, rt.alloc()),
+            "J1 bad header",
+        );
+    }
+    for line in &NO_ENTRY {
+        finds_behind(&rt, rt.alloc(), line, "J3 bad record line 2");
+        finds(
+            &rt,
+            rt.alloc(),
+            &line.text(&rt, rt.alloc()),
+            "J1 bad header",
+        );
+    }
+    let found = "J4 wrong reply line 2 due value 8 limit 7 effective 7";
+    finds_behind(&rt, rt.alloc(), &WRONG, found);
+}
+
+const LONG_HEADER: LongLine = LongLine {
+    begin: b"{\"base\":8,\"hard\":64,\"journal\":1,\"seats\":4",
+    again: b" ",
+    times: 65_494,
+    end: b"}",
+};
+
+const LONG_ENTRY: LongLine = LongLine {
+    begin: b"{\"cmd\":\"limit\",\"reply\":\"value 8 limit 7 effective 7\",\"seat\":0",
+    again: b" ",
+    times: 65_474,
+    end: b"}",
+};
+
+/// A text in memory may be longer than an input: it takes 270 MB, and less than a second.
+#[test]
+fn a_journal_of_more_than_268_435_456_bytes_is_checked(rt: HostRuntime) {
+    let mut text = LONG_HEADER.text(&rt, rt.alloc());
+    let entry = LONG_ENTRY.text(&rt, rt.alloc());
+    holds(&rt, text.reserve(4_096 * 65_537).is_ok());
+    push_often(&rt, &mut text, &entry, 4_096);
+    holds(&rt, text.len() > 268_435_456);
+    finds(&rt, rt.alloc(), &text, "legal 4096");
+}

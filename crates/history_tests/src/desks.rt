@@ -15,7 +15,7 @@ use std::sync::ledger::{Blank, Ledger};
 use worker_ledger::{Book, Share, Totals};
 
 /// What seat 0 is answered.
-fn answer<C: Ledger, W: Ledger>(
+pub(crate) fn answer<C: Ledger, W: Ledger>(
     desk: &mut Desk<C, W>,
     share: &mut Share<C, W>,
     alloc: Global,
@@ -94,7 +94,10 @@ fn join<C: Ledger, W: Ledger>(
 }
 
 /// How many calls the desk's history has, and what its book has, all shares being back.
-fn gathered<C: Ledger, W: Ledger>(desk: Desk<C, W>, shares: Vec<Share<C, W>>) -> (u64, Totals)
+pub(crate) fn gathered<C: Ledger, W: Ledger>(
+    desk: Desk<C, W>,
+    shares: Vec<Share<C, W>>,
+) -> (u64, Totals)
     requires all { (vec_len shares ≡ C.parts) × (vec_len shares ≡ W.parts) }
 {
     let (chronicle, book) = desk.into_parts();

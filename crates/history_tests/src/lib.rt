@@ -17,6 +17,8 @@ mod desks;
 #[cfg(test)]
 mod journals;
 #[cfg(test)]
+mod largest;
+#[cfg(test)]
 mod ledgers;
 #[cfg(test)]
 mod lines;
