@@ -18,6 +18,8 @@ mod journals;
 #[cfg(test)]
 mod limits;
 #[cfg(test)]
+mod longest;
+#[cfg(test)]
 mod plans;
 #[cfg(test)]
 mod replays;

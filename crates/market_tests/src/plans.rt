@@ -102,10 +102,12 @@ fn with_a_long_line(alloc: Global, first: u8, bytes: u32) -> Result<Vec<u8>, All
 #[test]
 fn a_long_line_is_bad_unless_it_is_a_comment(rt: HostRuntime) {
     for bytes in [256, 257, 65_537] {
-        let Ok(text) = with_a_long_line(rt.alloc(), b'm', bytes) else {
-            panic!(&rt; "no memory");
-        };
-        is_bad(&rt, rt.alloc(), &text, 1);
+        for first in [b'm', b'\xff'] {
+            let Ok(text) = with_a_long_line(rt.alloc(), first, bytes) else {
+                panic!(&rt; "no memory");
+            };
+            is_bad(&rt, rt.alloc(), &text, 1);
+        }
         let Ok(text) = with_a_long_line(rt.alloc(), b'#', bytes) else {
             panic!(&rt; "no memory");
         };

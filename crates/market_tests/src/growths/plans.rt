@@ -11,8 +11,9 @@ use std::alloc::Global;
 use std::process::Abort;
 use std::rt::HostRuntime;
 use std::sync::Wait;
+use std::sync::atomic::{AtomicU64, Ordering};
 use std::thread::Threads;
-use worker_main::OpenGate;
+use worker_main::{Gate, OpenGate};
 
 const PLAN: &[u8] = b"\
 market 8 64
@@ -92,27 +93,96 @@ fn a_refused_growth_invents_no_unservable_arena(rt: HostRuntime) {
     holds(&rt, first_unservable(&rt, rt.alloc(), PLAN).is_none());
 }
 
-/// The plan is driven, again where a growth was refused.
-fn is_driven<R: Threads + Wait + Sync + Abort>(rt: &R, alloc: Global) {
-    let mut wants: u32 = 0;
-    for _ in 0..2 {
-        match drive(rt, alloc, PLAN, 2, &OpenGate) {
-            Ok(done) => {
-                let found = done.iter().map(|done| (done.number, done.value));
-                holds(rt, found.eq([(1, 55), (2, 18), (3, 5050)]));
-            }
-            Err(fault) => {
-                same(rt, fault, DriveFault::Memory);
-                wants = wants.saturating_add(1);
-            }
+/// Whether two workers drive the plan, which then has these answers; where it is not driven, a growth was refused.
+fn is_driven<G: Gate + Sync, R: Threads + Wait + Sync + Abort>(
+    rt: &R,
+    alloc: Global,
+    text: &[u8],
+    gate: &G,
+    due: &[(u32, u64)],
+) -> bool {
+    match drive(rt, alloc, text, 2, gate) {
+        Ok(done) => {
+            let found = done.iter().map(|done| (done.number, done.value));
+            holds(rt, found.eq(due.iter().copied()));
+            true
+        }
+        Err(fault) => {
+            same(rt, fault, DriveFault::Memory);
+            false
         }
     }
-    holds(rt, wants <= 1);
 }
 
 #[test]
 fn a_refused_growth_leaves_a_plan_to_be_driven(rt: HostRuntime) {
-    is_driven(&rt, rt.alloc());
+    let due = [(1, 55), (2, 18), (3, 5050)];
+    let first = is_driven(&rt, rt.alloc(), PLAN, &OpenGate, &due);
+    let second = is_driven(&rt, rt.alloc(), PLAN, &OpenGate, &due);
+    holds(&rt, first || second);
+}
+
+/// Nine jobs of an arena with two workers. Of nine answers no vector of a worker has room for the other's too, whichever did how many.
+const NINE: &[u8] = b"\
+market 8 64
+arena 8 1 normal 2 0
+job 1 sum 1
+job 1 sum 2
+job 1 sum 3
+job 1 sum 4
+job 1 sum 5
+job 1 sum 6
+job 1 sum 7
+job 1 sum 8
+job 1 sum 9
+";
+
+/// Holds job 1 until job 2 is done, so that each worker does a job; where none does job 2, it lets job 1 through in the end.
+#[derive(Drop)]
+struct SecondFirst {
+    done: AtomicU64,
+    asked: AtomicU64,
+}
+
+impl SecondFirst {
+    fn new() -> Self {
+        SecondFirst {
+            done: AtomicU64::new(0),
+            asked: AtomicU64::new(0),
+        }
+    }
+}
+
+impl Gate for SecondFirst {
+    fn before(&self, number: u32) -> bool {
+        number != 1
+            || self.done.load(Ordering::SeqCst) == 1
+            || self.asked.fetch_add(1, Ordering::SeqCst) > 100_000
+    }
+
+    fn after(&self, number: u32) {
+        if number == 2 {
+            self.done.store(1, Ordering::SeqCst);
+        }
+    }
+}
+
+#[test]
+fn a_refused_growth_leaves_the_answers_of_two_workers_to_be_joined(rt: HostRuntime) {
+    let due = [
+        (1, 1),
+        (2, 3),
+        (3, 6),
+        (4, 10),
+        (5, 15),
+        (6, 21),
+        (7, 28),
+        (8, 36),
+        (9, 45),
+    ];
+    let first = is_driven(&rt, rt.alloc(), NINE, &SecondFirst::new(), &due);
+    let second = is_driven(&rt, rt.alloc(), NINE, &SecondFirst::new(), &due);
+    holds(&rt, first || second);
 }
 
 /// Drives a plan that comes in pieces, and says what came of it with what was written.
