@@ -166,7 +166,7 @@ fn count_lines(text: &[u8]) -> usize {
     text.iter().filter(|byte| **byte == b'\n').count()
 }
 
-/// It takes 200 MB: a part of 60, and a journal of 80.
+/// It takes 140 MB: half of it is the journal.
 #[test]
 fn the_longest_history_is_cut_out_and_written(rt: HostRuntime) {
     let alloc = rt.alloc();

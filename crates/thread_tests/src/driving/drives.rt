@@ -255,11 +255,14 @@ arena 8 1 low 1 0
     is_answered(&rt, rt.alloc(), text, 4, &[]);
 }
 
-/// A plan of 64 arenas on three levels that are each in need of two workers, with 1,024 jobs each, one after the other.
-fn long_plan(alloc: Global) -> Result<Vec<u8>, AllocError> {
+/// The largest plan of so many arenas: 256 controls, and 65,536 jobs for the arenas by turns. The arenas stand on three levels, and are
+/// each in need of two workers.
+fn long_plan(alloc: Global, arenas: u32) -> Result<Vec<u8>, AllocError>
+    requires some { 0 < arenas }
+{
     let mut text = Vec::new(alloc);
     text.extend_from_slice(b"market 8 64\n")?;
-    for arena in 0..64u32 {
+    for arena in 0..arenas {
         let line = match arena % 3 {
             0 => b"arena 8 1 high 2 0\n".as_slice(),
             1 => b"arena 8 1 normal 2 0\n".as_slice(),
@@ -267,29 +270,42 @@ fn long_plan(alloc: Global) -> Result<Vec<u8>, AllocError> {
         };
         text.extend_from_slice(line)?;
     }
+    for _ in 0..256 {
+        text.extend_from_slice(b"control 9\n")?;
+    }
     for job in 0..65_536u32 {
-        let line = format!(in alloc; "job {} digits {job}\n", job % 64 + 1)?;
+        let arena = (job % arenas).wrapping_add(1);
+        let line = format!(in alloc; "job {arena} digits {job}\n")?;
         text.extend_from_slice(line.as_bytes())?;
     }
     Ok(text)
 }
 
+/// Sixteen workers answer the jobs of so many arenas as one does.
+fn is_answered_alike<R: Threads + Wait + Sync + Abort>(rt: &R, alloc: Global, arenas: u32)
+    requires some { 0 < arenas }
+{
+    let Ok(text) = long_plan(alloc, arenas) else {
+        panic!(rt; "no memory");
+    };
+    let Ok(one) = drive(rt, alloc, &text, 1, &OpenGate) else {
+        panic!(rt; "one worker has no answers");
+    };
+    let Ok(sixteen) = drive(rt, alloc, &text, 16, &OpenGate) else {
+        panic!(rt; "sixteen workers have no answers");
+    };
+    holds(rt, one.len() == 65_536 && sixteen.len() == 65_536);
+    for (one, other) in one.iter().zip(sixteen.iter()) {
+        same(rt, (one.number, one.value), (other.number, other.value));
+    }
+    same(rt, (one[9_081].number, one[9_081].value), (9_082, 18));
+}
+
+/// A queue has as many places as its arena has jobs: 1,024 at the most arenas, and all at one.
 #[test]
 fn sixteen_workers_answer_65_536_jobs_as_one_does(rt: HostRuntime) {
-    let Ok(text) = long_plan(rt.alloc()) else {
-        panic!(&rt; "no memory");
-    };
-    let Ok(one) = drive(&rt, rt.alloc(), &text, 1, &OpenGate) else {
-        panic!(&rt; "one worker has no answers");
-    };
-    let Ok(sixteen) = drive(&rt, rt.alloc(), &text, 16, &OpenGate) else {
-        panic!(&rt; "sixteen workers have no answers");
-    };
-    holds(&rt, one.len() == 65_536 && sixteen.len() == 65_536);
-    for (one, other) in one.iter().zip(sixteen.iter()) {
-        same(&rt, (one.number, one.value), (other.number, other.value));
-    }
-    same(&rt, (one[9_081].number, one[9_081].value), (9_082, 18));
+    is_answered_alike(&rt, rt.alloc(), 64);
+    is_answered_alike(&rt, rt.alloc(), 1);
 }
 
 /// When all workers have gone, nobody is placed at either arena, nor in need of a worker.

@@ -3,7 +3,7 @@ use crate::asserts::same;
 use drive_plan::{Plan, read_plan};
 use market_types::{ArenaId, Cmd, Level};
 use plan_market::{plan_commands, unservable};
-use std::alloc::Global;
+use std::alloc::{AllocError, Global};
 use std::process::Abort;
 use std::rt::HostRuntime;
 
@@ -64,4 +64,32 @@ fn the_first_arena_without_a_worker_to_come_is_told(rt: HostRuntime) {
     let reserved = "market 8 64\narena 8 1 low 1 0\narena 2 2 normal 5 0\njob 2 sum 10\n";
     let second = Some(ArenaId::new(2));
     same(&rt, first_unservable(&rt, rt.alloc(), reserved), second);
+}
+
+/// The text of a plan of 64 arenas and 256 controls, and a job for the last arena.
+fn most_text(alloc: Global) -> Result<String, AllocError> {
+    let mut text = String::new(alloc);
+    text.push_str("market 8 64\n")?;
+    for _ in 0..64 {
+        text.push_str("arena 8 1 normal 2 1\n")?;
+    }
+    for _ in 0..256 {
+        text.push_str("control 9\n")?;
+    }
+    text.push_str("job 64 sum 10\n")?;
+    Ok(text)
+}
+
+#[test]
+fn a_plan_has_384_commands_at_most(rt: HostRuntime) {
+    let Ok(text) = most_text(rt.alloc()) else {
+        panic!(&rt; "no memory");
+    };
+    let Ok(commands) = plan_commands(rt.alloc(), &plan(&rt, rt.alloc(), &text)) else {
+        panic!(&rt; "no memory for the commands");
+    };
+    same(&rt, commands.len(), 256 + 64 + 64);
+    let last = Cmd::Request(ArenaId::new(64), 2, 1);
+    same(&rt, commands.last(), Some(&last));
+    same(&rt, first_unservable(&rt, rt.alloc(), &text), None);
 }

@@ -69,3 +69,14 @@ fn sixteen_threads_lose_and_double_nothing(rt: HostRuntime) {
     same(&rt, settled, Ok(()));
     holds(&rt, each_once(&rt, alloc, &got, 8, 125_000));
 }
+
+/// The largest queue with the most feeders and takers, each with as many jobs as it has places.
+#[test]
+fn sixteen_feeders_and_sixteen_takers_share_65_536_places(rt: HostRuntime) {
+    let alloc = rt.alloc();
+    let Ok(Exchanged { got, settled }) = exchange(&rt, alloc, 65_536, 16, 65_536) else {
+        panic!(&rt; "no memory");
+    };
+    same(&rt, settled, Ok(()));
+    holds(&rt, each_once(&rt, alloc, &got, 16, 65_536));
+}
