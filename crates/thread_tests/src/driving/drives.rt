@@ -281,6 +281,29 @@ fn long_plan(alloc: Global, arenas: u32) -> Result<Vec<u8>, AllocError>
     Ok(text)
 }
 
+/// The answers of so many workers to all 65,536 jobs.
+fn all_answers<R: Threads + Wait + Sync + Abort>(
+    rt: &R,
+    alloc: Global,
+    text: &[u8],
+    workers: usize,
+) -> Vec<Done>
+    requires { (0 < workers) × (workers ≤ 16) }
+{
+    let Ok(done) = drive(rt, alloc, text, workers, &OpenGate) else {
+        panic!(rt; "no answers");
+    };
+    same(rt, done.len(), 65_536);
+    done
+}
+
+/// Each answer has the number and the value of the other at its place.
+fn are_alike(rt: &impl Abort, some: &[Done], others: &[Done]) {
+    for (one, other) in some.iter().zip(others.iter()) {
+        same(rt, (one.number, one.value), (other.number, other.value));
+    }
+}
+
 /// Sixteen workers answer the jobs of so many arenas as one does.
 fn is_answered_alike<R: Threads + Wait + Sync + Abort>(rt: &R, alloc: Global, arenas: u32)
     requires some { 0 < arenas }
@@ -288,17 +311,15 @@ fn is_answered_alike<R: Threads + Wait + Sync + Abort>(rt: &R, alloc: Global, ar
     let Ok(text) = long_plan(alloc, arenas) else {
         panic!(rt; "no memory");
     };
-    let Ok(one) = drive(rt, alloc, &text, 1, &OpenGate) else {
-        panic!(rt; "one worker has no answers");
-    };
-    let Ok(sixteen) = drive(rt, alloc, &text, 16, &OpenGate) else {
-        panic!(rt; "sixteen workers have no answers");
-    };
-    holds(rt, one.len() == 65_536 && sixteen.len() == 65_536);
-    for (one, other) in one.iter().zip(sixteen.iter()) {
-        same(rt, (one.number, one.value), (other.number, other.value));
-    }
-    same(rt, (one[9_081].number, one[9_081].value), (9_082, 18));
+    let one = all_answers(rt, alloc, &text, 1);
+    let sixteen = all_answers(rt, alloc, &text, 16);
+    are_alike(rt, &one, &sixteen);
+    let due = Some((9_082, 18));
+    same(
+        rt,
+        one.get(9_081).map(|done| (done.number, done.value)),
+        due,
+    );
 }
 
 /// A queue has as many places as its arena has jobs: 1,024 at the most arenas, and all at one.

@@ -70,13 +70,13 @@ fn sixteen_threads_lose_and_double_nothing(rt: HostRuntime) {
     holds(&rt, each_once(&rt, alloc, &got, 8, 125_000));
 }
 
-/// The largest queue with the most feeders and takers, each with as many jobs as it has places.
+/// The largest queue with the most feeders and takers, each of as many jobs as a feeder may store: it takes 180 MB.
 #[test]
 fn sixteen_feeders_and_sixteen_takers_share_65_536_places(rt: HostRuntime) {
     let alloc = rt.alloc();
-    let Ok(Exchanged { got, settled }) = exchange(&rt, alloc, 65_536, 16, 65_536) else {
+    let Ok(Exchanged { got, settled }) = exchange(&rt, alloc, 65_536, 16, 1_048_576) else {
         panic!(&rt; "no memory");
     };
     same(&rt, settled, Ok(()));
-    holds(&rt, each_once(&rt, alloc, &got, 16, 65_536));
+    holds(&rt, each_once(&rt, alloc, &got, 16, 1_048_576));
 }
