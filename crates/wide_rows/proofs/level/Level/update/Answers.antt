@@ -1,0 +1,45 @@
+use Rattle.std.proofs.Common.{◌≡◌, ◌+◌, ◌-◌, refl, arith, Some}
+use Rattle.prefix_tree.specs.Rows.{row_at, set_row}
+use Rattle.prefix_tree.proofs.Updates.{set-requests, request-within}
+use Rattle.wide_rows.specs.Leveled.{IsLevel}
+use Rattle.wide_rows.specs.Forms.{leveled}
+use Rattle.wide_rows.proofs.OneLevel.{level_set, total_fits}
+use Rattle.wide_rows.proofs.level.Level.update.Goals as goal
+use Rattle.wide_rows.proofs.level.Level.update.Goals.{Joined-self, in-Empty, in-Leaf, in-Shelf}
+
+pub overflow_sub-self : goal.overflow_sub-self
+overflow_sub-self c =
+    let there : row_at c.args.row.now.stamp (leveled c.self.inside.form).rows ≡ Some c.args.row.now = rw c.self.view_is c.requires.there in
+    omega (arith, c.self.invariant.summed, request-within c.args.row.now.stamp (leveled c.self.inside.form).rows c.args.row.now there)
+
+pub overflow_add-self : goal.overflow_add-self
+overflow_add-self c = omega (arith, c.self.invariant.summed, c.requires.request, total_fits (leveled c.self.inside.form) c.self.invariant.sound)
+
+-- what the form is seen as now
+changed : (c : Joined-self) → leveled c.match-self.self-inside.form ≡ record (leveled c.self.inside.form) { rows = set_row c.args.row.now.stamp c.args.request c.args.mandated (leveled c.self.inside.form).rows }
+changed c = elim c.match-self.branch [
+  | in-Empty w ↦ rw (w.self-inside-is, w.in-Empty.is) refl
+  | in-Leaf w ↦ rw (w.self-inside-is, w.in-Leaf.is, w.set.ensures, w.deref_mut.ensures.value) refl
+  | in-Shelf w ↦ rw (w.self-inside-is, w.in-Shelf.is, w.update.ensures.changed, w.deref_mut-in-Shelf.ensures.value) refl
+]
+
+summed : (c : Joined-self) → c.match-self.self-inside.total ≡ c.self.inside.total - c.args.row.now.request + c.args.request
+summed c = elim c.match-self.branch [
+  | in-Empty w ↦ rw w.self-inside-is refl
+  | in-Leaf w ↦ rw w.self-inside-is refl
+  | in-Shelf w ↦ rw w.self-inside-is refl
+]
+
+sound : (c : Joined-self) → IsLevel (leveled c.match-self.self-inside.form)
+sound c = level_set (leveled c.self.inside.form) (leveled c.match-self.self-inside.form) c.args.row.now.stamp c.args.request c.args.mandated c.self.invariant.sound c.requires.request (changed c)
+
+pub invariant_of-self : goal.invariant_of-self
+invariant_of-self c =
+    let old = leveled c.self.inside.form in
+    let there : row_at c.args.row.now.stamp old.rows ≡ Some c.args.row.now = rw c.self.view_is c.requires.there in
+    let rows = set-requests c.args.row.now.stamp c.args.request c.args.mandated old.rows c.args.row.now c.self.invariant.sound.newest_first there in
+    let within = request-within c.args.row.now.stamp old.rows c.args.row.now there in
+    record { sound = sound c; summed = rw (changed c) (omega (arith, summed c, c.self.invariant.summed, rows, within)) }
+
+pub returns-clause-sound : goal.returns-clause-sound
+returns-clause-sound c = sound c

@@ -1,0 +1,15 @@
+use Rattle.std.proofs.Common.{◌∙◌, [], sym, arith}
+use Rattle.std.proofs.lemmas.Bool.{ltb-true}
+use Rattle.std.proofs.lemmas.List.Elements.{All-get_or}
+use Rattle.prefix_tree.specs.Rows.{IsNewestFirst}
+use Rattle.wide_rows.specs.Leveled.{rows_at}
+use Rattle.wide_rows.proofs.Seen.{first-older}
+use Rattle.wide_rows.proofs.looked.is_newest.Goals as goal
+
+pub returns : goal.returns
+returns c older =
+    let rows = rows_at c.args.level c.args.levels.now in
+    first-older c.args.stamp rows c.in-Some.newest
+    (All-get_or IsNewestFirst c.args.levels.now c.args.level [] (omega (arith, c.requires.level, c.len-rows.ensures.eight)) c.len-rows.ensures.newest_first)
+    (sym c.walk-first.ensures.exact ∙ c.in-Some.is)
+    (ltb-true c.in-Some.newest.stamp c.args.stamp older)

@@ -1,0 +1,10 @@
+pub mod Columns
+pub mod Forms
+pub mod Joined
+pub mod Kept
+pub mod Leaves
+pub mod Leveled
+pub mod Passed
+pub mod Shelves
+pub mod Spares
+pub mod Storeys

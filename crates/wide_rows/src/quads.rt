@@ -1,0 +1,172 @@
+//! The rows of a leaf by quads, four lanes side by side: a walk passes over a quad whose sum is low.
+//!
+//! ```text
+//!   lane        0  1  2  3 |  4  5  6  7 |  8  9 10 11 | 12 13 14 15
+//!   requests    3  0  6  1 |  0  0  0  0 |  2  9  0  0 |  0  0  0  0
+//!   sums            10     |      0      |     11      |      0          all four at once, by vectors
+//!   left        0 and 1: the rows of quad 2 come next, then those of quad 0
+//! ```
+ghost use Rattle.std.specs.Prelude.{◌≡◌, ℕ, ◌+◌, ◌*◌, ◌^◌, ◌<◌, ◌≤◌, List, [], ◌∷◌, length, IfNone, IfSome};
+ghost use Rattle.std.specs.Bool.{OnTrue, OnFalse};
+ghost use Rattle.wide_rows.specs.Leaves.{IsLeaf, rows_in};
+ghost use Rattle.wide_rows.specs.Passed.{IsPassed, IsDue, AreQuads, quad_rows, rows_of_quads};
+
+use crate::columns::Columns;
+use crate::search;
+use market_types::Row;
+use std::marker::Model;
+
+/// Up to four rows that stand side by side. Contracts see those that are left of them, newest first.
+#[derive(Drop)]
+pub struct Quad<'a> {
+    columns: &'a Columns,
+    /// The lane of the oldest.
+    first: u32,
+    /// How many are left.
+    count: u32,
+}
+
+impl<'a> Model for Quad<'a> {
+    ghost use Rattle.std.specs.Prelude.{List, ◌+◌, ◌≤◌};
+    ghost use Rattle.market_types.specs.declared.row.Row.{Row};
+    ghost use Rattle.wide_rows.specs.Passed.{rows_from};
+
+    ghost Value = { List Row };
+
+    ghost view = { λ a. rows_from a.columns.now a.first a.count };
+
+    ghost invariant = { λ a. a.first + a.count ≤ 16 };
+}
+
+impl<'a> Quad<'a> {
+    /// The rows of a quad.
+    #[inline(always)]
+    fn new(columns: &'a Columns, quad: u32) -> Quad<'a>
+        requires room { columns.now.count ≤ 16 }
+        requires some { 4 * quad < columns.now.count }
+        ensures rows { result ≡ quad_rows columns.now quad }
+        ensures some { 0 < length result }
+        ensures four { length result ≤ 4 }
+    {
+        let first = 4 * quad;
+        Quad {
+            columns,
+            first,
+            count: (columns.count - first).min(4),
+        }
+    }
+
+    /// The next row, which is a visit. None where none is left.
+    #[inline(always)]
+    pub fn next(&mut self, visits: &mut u32) -> Option<Row>
+        requires few { visits.old < 2 ^ 31 }
+        ensures none { IfNone result (self.old ≡ []) }
+        ensures some { IfSome result (λ row. self.old ≡ row ∷ self.new) }
+        ensures uncounted { IfNone result (visits.new ≡ visits.old) }
+        ensures counted { IfSome result (λ _. visits.new ≡ visits.old + 1) }
+    {
+        if self.count == 0 {
+            return None;
+        }
+        *visits += 1;
+        self.count -= 1;
+        Some(self.columns.row(self.first + self.count))
+    }
+}
+
+/// Rows of a leaf, those of its first quads. Contracts see them as a list, newest first.
+#[derive(Drop)]
+pub(crate) struct Quads<'a> {
+    columns: &'a Columns,
+    /// What each quad asks for.
+    sums: [u32; 4],
+    /// How many quads are left.
+    left: u32,
+}
+
+impl<'a> Model for Quads<'a> {
+    ghost use Rattle.std.specs.Prelude.{List};
+    ghost use Rattle.market_types.specs.declared.row.Row.{Row};
+    ghost use Rattle.wide_rows.specs.Passed.{rows_of_quads, AreQuads};
+
+    ghost Value = { List Row };
+
+    ghost view = { λ a. rows_of_quads a.columns.now a.left };
+
+    ghost invariant = { λ a. AreQuads a.columns.now a.sums a.left };
+}
+
+/// Goes on to the next quad where the demand is reached. False where there is none.
+#[inline(always)]
+fn pass(
+    columns: &Columns,
+    sums: &[u32; 4],
+    left: &mut u32,
+    workers: u64,
+    demand: u64,
+    carry: &mut u64,
+) -> bool
+    requires quads { AreQuads columns.now sums.now left.old }
+    requires few { workers < 2 ^ 31 }
+    requires small { demand < 2 ^ 32 }
+    requires low { carry.old < 2 ^ 32 }
+    ensures due { OnTrue result (IsDue workers demand (rows_of_quads columns.now left.old) (quad_rows columns.now left.new) (rows_of_quads columns.now left.new) carry.old carry.new) }
+    ensures left { OnTrue result (left.new < left.old) }
+    ensures none { OnFalse result (IsPassed workers demand (rows_of_quads columns.now left.old) [] carry.old carry.new) }
+    ensures empty { OnFalse result (left.new ≡ 0) }
+    ensures low { carry.new < 2 ^ 32 }
+{
+    let _ = &columns.count;
+    while *left > 0 {
+        *left -= 1;
+        let due = workers * u64::from(sums[*left as usize]) + *carry;
+        if due >= demand {
+            return true;
+        }
+        *carry = due;
+    }
+    false
+}
+
+impl<'a> Quads<'a> {
+    /// All rows of a leaf.
+    #[inline(always)]
+    pub(crate) fn new(columns: &'a Columns) -> Quads<'a>
+        requires leaf { IsLeaf columns.now }
+        ensures { result ≡ rows_in columns.now }
+    {
+        Quads {
+            columns,
+            sums: search::quad_sums(&columns.requests),
+            left: (columns.count + 3) / 4,
+        }
+    }
+
+    /// The next quad where what the rows up to its end ask for, times the workers, on top of the carry reaches the demand. The
+    /// carry goes on past all rows before it. None where no quad is left.
+    #[inline(always)]
+    pub(crate) fn next_due(
+        &mut self,
+        workers: u64,
+        demand: u64,
+        carry: &mut u64,
+    ) -> Option<Quad<'a>>
+        requires few { workers < 2 ^ 31 }
+        requires small { demand < 2 ^ 32 }
+        requires low { carry.old < 2 ^ 32 }
+        ensures due { IfSome result (λ quad. IsDue workers demand self.old quad self.new carry.old carry.new) }
+        ensures some { IfSome result (λ quad. 0 < length quad) }
+        ensures four { IfSome result (λ quad. length quad ≤ 4) }
+        ensures none { IfNone result (IsPassed workers demand self.old [] carry.old carry.new) }
+        ensures empty { IfNone result (self.new ≡ []) }
+        ensures low { carry.new < 2 ^ 32 }
+    {
+        let mut left = self.left;
+        let found = pass(self.columns, &self.sums, &mut left, workers, demand, carry);
+        self.left = left;
+        if !found {
+            return None;
+        }
+        Some(Quad::new(self.columns, left))
+    }
+}

@@ -1,0 +1,155 @@
+//! What no clause says: that the calls succeed where memory is ample, and values worked out by the rule.
+ghost use Rattle.std.specs.Prelude.{◌≡◌};
+
+use crate::asserts::{holds, same};
+use crate::levels::Levels;
+use crate::looked::{promoted, pushed, updated};
+use market_types::{ArenaId, Row};
+use std::rt::HostRuntime;
+
+/// The row of an arena with the number of its stamp.
+fn row(stamp: u32, request: u32, mandated: bool) -> Row
+    ensures stamp { result.stamp ≡ stamp }
+    ensures request { result.request ≡ request }
+{
+    Row {
+        stamp,
+        arena: ArenaId::new(stamp),
+        request,
+        mandated,
+    }
+}
+
+/// A full store: 128 rows at each level, stamp after stamp level by level. A row at level L, counted from 0, asks for L + 1, and
+/// the rows of rounds 3 and 63, counted from 0, are mandated.
+#[test]
+fn keeps_rows_at_eight_levels(rt: HostRuntime) {
+    let mut levels = Levels::new(rt.alloc());
+    for round in 0..128u32 {
+        for level in 0..8u32 {
+            let row = row(8 * round + level + 1, level + 1, round == 3 || round == 63);
+            pushed(&rt, rt.alloc(), &mut levels, level as usize, row);
+        }
+    }
+    same(&rt, levels.len(), 1024);
+    for level in 0..8u32 {
+        same(
+            &rt,
+            levels.demand(level as usize),
+            128 * u64::from(level + 1),
+        );
+        same(
+            &rt,
+            levels.first_mandated(level as usize).0,
+            Some(row(8 * 63 + level + 1, level + 1, true)),
+        );
+        for newer in 0..128u32 {
+            let stamp = 8 * (127 - newer) + level + 1;
+            same(
+                &rt,
+                levels.before(level as usize, stamp).0,
+                u64::from(newer * (level + 1)),
+            );
+            same(
+                &rt,
+                levels.walk(level as usize, newer as usize).0,
+                Some(row(stamp, level + 1, newer == 124 || newer == 64)),
+            );
+        }
+        same(&rt, levels.walk(level as usize, 128).0, None);
+    }
+    // the row of round 63 at level 2 asks for 100 more, and is no longer mandated
+    updated(&rt, &mut levels, 2, 64, 103, false);
+    same(&rt, levels.demand(2), 484);
+    same(&rt, levels.before(2, 0).0, 484);
+    same(&rt, levels.before(2, u32::MAX).0, 0);
+    same(&rt, levels.walk(2, 64).0, Some(row(507, 103, false)));
+    same(&rt, levels.first_mandated(2).0, Some(row(27, 3, true)));
+    // the newest row of level 7 goes
+    same(&rt, levels.take(7, 1024).0, Some(row(1024, 8, false)));
+    same(&rt, levels.take(7, 1024).0, None);
+    same(&rt, levels.len(), 1023);
+    same(&rt, levels.walk(7, 0).0, Some(row(1016, 8, false)));
+    same(&rt, levels.demand(7), 1016);
+    // the oldest row of level 0 comes first at level 7, and the next one first at its own
+    promoted(&rt, &mut levels, 0, 127, 7, 2000);
+    same(&rt, levels.demand(0), 127);
+    same(&rt, levels.demand(7), 1017);
+    same(&rt, levels.walk(0, 127).0, None);
+    same(&rt, levels.walk(0, 126).0, Some(row(9, 1, false)));
+    promoted(&rt, &mut levels, 0, 126, 0, 2001);
+    same(&rt, levels.demand(0), 127);
+    same(&rt, levels.before(0, 2000).0, 1);
+    same(&rt, levels.before(0, 17).0, 126);
+    same(&rt, levels.len(), 1023);
+    holds(&rt, levels.walk(0, 0).0.is_some());
+    drop(levels);
+}
+
+/// All rows at one level, each with the largest request: they come, are found, and go from the oldest on.
+#[test]
+fn keeps_all_rows_at_one_level(rt: HostRuntime) {
+    let mut levels = Levels::new(rt.alloc());
+    for stamp in 1..=1024u32 {
+        pushed(&rt, rt.alloc(), &mut levels, 4, row(stamp, 65535, false));
+    }
+    same(&rt, levels.len(), 1024);
+    same(&rt, levels.demand(4), 1024 * 65535);
+    same(&rt, levels.demand(3), 0);
+    for stamp in 1..=1024u32 {
+        let (before, visits) = levels.before(4, stamp);
+        same(&rt, before, u64::from(1024 - stamp) * 65535);
+        holds(&rt, 1 <= visits && visits <= 22);
+    }
+    for stamp in 1..=1024u32 {
+        same(&rt, levels.take(4, stamp).0, Some(row(stamp, 65535, false)));
+        same(&rt, levels.demand(4), u64::from(1024 - stamp) * 65535);
+    }
+    same(&rt, levels.len(), 0);
+    same(&rt, levels.walk(4, 0).0, None);
+    drop(levels);
+}
+
+/// The 300 rows of a level, each of which asks for 1, are walked one after the other; and where 100 are due, the first quad with
+/// the 100th of them is next.
+#[test]
+fn walks_through_a_level_in_order(rt: HostRuntime) {
+    let mut levels = Levels::new(rt.alloc());
+    for stamp in 1..301u32 {
+        pushed(&rt, rt.alloc(), &mut levels, 2, row(stamp, 1, false));
+    }
+    let span = levels.whole(2);
+    same(&rt, span.requests(), 300);
+    let Some(mut walk) = span.walk() else {
+        panic!(&rt; "no rows");
+    };
+    let mut due = 300u32;
+    for _ in 0..300 {
+        let Some(mut quad) = walk.next() else { break };
+        for _ in 0..4 {
+            let mut visits = 0;
+            let Some(next) = quad.next(&mut visits) else {
+                break;
+            };
+            same(&rt, next, row(due, 1, false));
+            due = due.wrapping_sub(1);
+        }
+    }
+    same(&rt, due, 0);
+    let Some(mut walk) = span.walk() else {
+        panic!(&rt; "no rows");
+    };
+    let mut carry = 0;
+    let Some(mut quad) = walk.next_due(1, 100, &mut carry) else {
+        panic!(&rt; "nobody is due");
+    };
+    holds(&rt, 96 <= carry && carry < 100);
+    let mut visits = 0;
+    let next = quad.next(&mut visits);
+    same(
+        &rt,
+        next,
+        Some(row(300u32.wrapping_sub(carry as u32), 1, false)),
+    );
+    same(&rt, visits, 1);
+}
