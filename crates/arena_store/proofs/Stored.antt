@@ -1,9 +1,9 @@
 -- What the store keeps, through each change.
-use Rattle.std.proofs.Common.{◌≡◌, ◌≢◌, ℕ, suc, ◌+◌, ◌-◌, ◌*◌, ◌<◌, ◌≤◌, true, false, cond, eqb, ltb, not, List, [], ◌∷◌, ◌++◌, length, get_or, set, take, drop, map, Option, Some, None, refl, sym, ap, ◌∙◌, arith, inl, inr, length-append, Bool}
-use Rattle.std.specs.List.{All, filter, find, remove, sum_by, count_by, list_any}
+use Rattle.std.proofs.Common.{◌≡◌, ◌≢◌, ℕ, suc, ◌+◌, ◌-◌, ◌*◌, ◌<◌, ◌≤◌, true, false, cond, eqb, ltb, not, List, [], ◌∷◌, ◌++◌, length, get_or, set, take, drop, min, Option, Some, None, refl, sym, ap, ◌∙◌, arith, inl, inr, length-append, Bool}
+use Rattle.std.specs.List.{All, find, remove, sum_by, count_by, list_any}
 use Rattle.std.specs.Option.{option_map}
 use Rattle.std.proofs.lemmas.Bool.{cases_eq, cases_Bool, eq-eqb, ne_eqb, lt-ltb}
-use Rattle.std.proofs.lemmas.List.Elements.{All-weaker, All-append, All-push, All-set, All-take, All-drop, All-filter, All-get_or}
+use Rattle.std.proofs.lemmas.List.Elements.{All-head, All-tail, All-weaker, All-append, All-push, All-set, All-take, All-drop, All-filter, All-get_or}
 use Rattle.std.proofs.lemmas.List.{get_or-set_same, get_or-set_other, length-set, length-map}
 use Rattle.std.proofs.lemmas.List.Edits.{length-remove}
 use Rattle.std.proofs.lemmas.List.Quantifiers.{all_pairs_push, all_pairs_remove}
@@ -18,8 +18,10 @@ use Rattle.arena_store.specs.Store.{by_stamp, IsByNumber, IsListed, IsStored, ha
 use Rattle.arena_store.proofs.ByStamp.{IsOlder, All-by_stamp, by_stamp-All, sum_by-by_stamp, length-by_stamp, arena_at-by_stamp_none, without-missing}
 use Rattle.arena_store.proofs.LevelRows.{level_rows-with_claim, level_rows-with_claim_other, level_rows-without, level_rows-without_other, level_row-at, level_rows-older, level_rows-mandated, length-level_rows}
 use Rattle.arena_store.proofs.Found.{Found, found-at, found-matches, found-levels}
-use Rattle.level_list.specs.Bits.{bits}
-use Rattle.arena_store.proofs.Digits.{bits-more, bits-few}
+use Rattle.prefix_tree.specs.Bits.{bits}
+use Rattle.prefix_tree.specs.Rows.{row_at, set_row, without as without_row}
+use Rattle.wide_rows.specs.Leveled.{rows_at, total_rows, with_first, without_at}
+use Rattle.arena_store.proofs.Digits.{bits-more, bits-few, few-digits}
 use Rattle.arena_store.proofs.ByNumber.{table-found, table-claimed, table-removed, table-promoted, table-pushed, rising-set, apart-by_stamp, newest-with_claim, newest-without, newest-cons}
 
 abbrev IsLevel : Arena → Type 0
@@ -110,19 +112,42 @@ level_rows-own x xs = rw (eq-eqb x.level x.level refl) refl
 level_rows-others : (x : Arena) (xs : List Arena) (k : ℕ) → x.level ≢ k → level_rows k (x ∷ xs) ≡ level_rows k xs
 level_rows-others x xs k m = rw (ne_eqb x.level k m) refl
 
-pub listed-cons : (lists : List (List Row)) (arenas : List Arena) (x : Arena) (index : ℕ) (d rows : List Row) → IsListed lists arenas → (1 ≤ x.level) × (x.level ≤ 8)
-    → index ≡ x.level - 1 → rows ≡ level_row x ∷ get_or lists index d → IsListed (set lists index rows) (x ∷ arenas)
-listed-cons lists arenas x index d rows h level p e =
-    let right : rows ≡ level_row x ∷ get_or lists (x.level - 1) d = e ∙ ap (λ n. level_row x ∷ get_or lists n d) p in
-    rw p (listed-set lists arenas (x ∷ arenas) x.level rows h level.0 level.1
-    (right ∙ ap (λ rs. level_row x ∷ rs) (h.rows x.level d level.0 level.1) ∙ sym (level_rows-own x arenas))
+-- levels with no rows have none together
+total-none : (lists : List (List Row)) → ((i : ℕ) → i < length lists → get_or lists i [] ≡ []) → total_rows lists ≡ 0
+total-none [] none = refl
+total-none (rows ∷ lists) none =
+    let here : rows ≡ [] = none 0 (omega arith) in
+    let rest = total-none lists (λ i within. none (suc i) (omega arith)) in
+    omega (arith, sum_by-cons (λ (r : List Row). length r) rows lists, ap length here, rest)
+
+-- the lists have a row for each arena
+total-listed : (lists : List (List Row)) (arenas : List Arena) → IsListed lists arenas → All IsLevel arenas → total_rows lists ≡ length arenas
+total-listed lists [] h leveled =
+    total-none lists (λ i within. let same : i ≡ (i + 1) - 1 = omega arith in let width = h.width in ap (λ k. get_or lists k []) same ∙ h.rows (i + 1) [] (omega arith) (omega arith))
+total-listed lists (x ∷ arenas) h leveled =
+    let level : IsLevel x = All-head IsLevel x arenas leveled in
+    let others : List Row = level_rows x.level arenas in
+    let fewer : IsListed (set lists (x.level - 1) others) arenas = listed-set lists (x ∷ arenas) arenas x.level others h level.0 level.1 refl (λ k m. sym (level_rows-others x arenas k m)) in
+    let rest = total-listed (set lists (x.level - 1) others) arenas fewer (All-tail IsLevel x arenas leveled) in
+    let here = h.rows x.level [] level.0 level.1 ∙ level_rows-own x arenas in
+    let sums = sum_by-set (λ (r : List Row). length r) lists (x.level - 1) others [] (let width = h.width in omega arith) in
+    omega (arith, sums, ap length here, rest)
+
+pub total-stored : (xs : List Arena) (lists : List (List Row)) (n : ℕ) → IsStored xs lists n → total_rows lists ≡ length xs
+total-stored xs lists n h = total-listed lists (by_stamp xs) h.listed (All-by_stamp IsLevel xs h.leveled) ∙ length-by_stamp xs
+
+pub listed-cons : (lists : List (List Row)) (arenas : List Arena) (x : Arena) (index : ℕ) → IsListed lists arenas → (1 ≤ x.level) × (x.level ≤ 8)
+    → index ≡ x.level - 1 → IsListed (with_first index (level_row x) lists) (x ∷ arenas)
+listed-cons lists arenas x index h level p =
+    rw p (listed-set lists arenas (x ∷ arenas) x.level (level_row x ∷ rows_at (x.level - 1) lists) h level.0 level.1
+    (ap (λ rows. level_row x ∷ rows) (h.rows x.level [] level.0 level.1) ∙ sym (level_rows-own x arenas))
     (λ k m. level_rows-others x arenas k m))
 
-pub stored-pushed : (xs : List Arena) (lists : List (List Row)) (n : ℕ) (x : Arena) (index : ℕ) (d rows : List Row) (m : ℕ) → IsStored xs lists n → length xs < 1024
+pub stored-pushed : (xs : List Arena) (lists : List (List Row)) (n : ℕ) (x : Arena) (index m : ℕ) → IsStored xs lists n → length xs < 1024
     → All (IsOlder x.stamp) (by_stamp xs) → All (λ (b : Arena). b.number < x.number) (by_stamp xs) → (1 ≤ x.level) × (x.level ≤ 8)
-    → index ≡ x.level - 1 → rows ≡ level_row x ∷ get_or lists index d → m ≡ n + cond (has_work x) 1 0
-    → IsStored (xs ++ x ∷ []) (set lists index rows) m
-stored-pushed xs lists n x index d rows m h room older last level p e f =
+    → index ≡ x.level - 1 → m ≡ n + cond (has_work x) 1 0
+    → IsStored (xs ++ x ∷ []) (with_first index (level_row x) lists) m
+stored-pushed xs lists n x index m h room older last level p f =
     let sorted = table-pushed xs x (by_stamp-All (IsOlder x.stamp) xs older) in
     let before : All (λ (b : Arena). b.number < x.number) xs = by_stamp-All (λ (b : Arena). b.number < x.number) xs last in
     record {
@@ -130,7 +155,7 @@ stored-pushed xs lists n x index d rows m h room older last level p e f =
       by_number = all_pairs_push (λ (a b : Arena). a.number < b.number) xs x h.by_number (λ k d within. before k d within);
       newest_first = rw sorted (newest-cons x (by_stamp xs) older h.newest_first);
       leveled = All-push IsLevel xs x h.leveled level;
-      listed = rw sorted (listed-cons lists (by_stamp xs) x index d rows h.listed level p e);
+      listed = rw sorted (listed-cons lists (by_stamp xs) x index h.listed level p);
       enqueued = f ∙ ap (λ k. k + cond (has_work x) 1 0) h.enqueued ∙ sym (sum_by_push (λ (a : Arena). cond (has_work a) 1 0) xs x);
     }
 
@@ -153,16 +178,16 @@ module _ (xs : List Arena) (lists : List (List Row)) (n i : ℕ) (x : Arena) (h 
   level-here = rw e (All-get_or IsLevel xs i x within h.leveled)
 
   -- its row stands in the list of its level
-  pub row-here : (index : ℕ) (d : List Row) → index ≡ x.level - 1 → find (λ (r : Row). eqb r.stamp x.stamp) (get_or lists index d) ≡ Some (level_row x)
-  row-here index d p =
+  pub row-here : (index : ℕ) → index ≡ x.level - 1 → row_at x.stamp (rows_at index lists) ≡ Some (level_row x)
+  row-here index p =
       let level = level-here in
-      ap (λ k. find (λ (r : Row). eqb r.stamp x.stamp) (get_or lists k d)) p
-      ∙ ap (find (λ (r : Row). eqb r.stamp x.stamp)) (h.listed.rows x.level d level.0 level.1)
+      ap (λ k. row_at x.stamp (rows_at k lists)) p
+      ∙ ap (row_at x.stamp) (h.listed.rows x.level [] level.0 level.1)
       ∙ level_row-at x.number x.stamp (by_stamp xs) x (found-matches x.number x (by_stamp xs) found-here) (table-found xs i x h.by_number within e)
 
   -- so that list is not empty
-  pub some-here : (index : ℕ) (d : List Row) → index ≡ x.level - 1 → 0 < length (get_or lists index d)
-  some-here index d p = found-some (λ (r : Row). eqb r.stamp x.stamp) (get_or lists index d) (level_row x) (row-here index d p)
+  pub some-here : (index : ℕ) → index ≡ x.level - 1 → 0 < length (rows_at index lists)
+  some-here index p = found-some (λ (r : Row). eqb r.stamp x.stamp) (rows_at index lists) (level_row x) (row-here index p)
 
   -- it is counted if it has enqueued work
   pub counted-within : cond (has_work x) 1 0 ≤ n
@@ -177,13 +202,10 @@ module _ (xs : List Arena) (lists : List (List Row)) (n i : ℕ) (x : Arena) (h 
   pub view-claimed : (c : Claim) → by_stamp (set xs i (record x { claim = c })) ≡ with_claim x.number c (by_stamp xs)
   view-claimed c = table-claimed xs i x c h.by_number within e
 
-  pub stored-claimed : (c : Claim) (index : ℕ) (d rows : List Row) (m : ℕ) → index ≡ x.level - 1
-      → rows ≡ map (λ (r : Row). cond (eqb r.stamp x.stamp) (record r { request = request_of c; mandated = is_mandated c }) r) (get_or lists index d)
-      → m + cond (has_work x) 1 0 ≡ n + cond (ltb 0 c.mandatory) 1 0
-      → IsStored (set xs i (record x { claim = c })) (set lists index rows) m
-  stored-claimed c index d rows m p f g =
-      let change : List Row → List Row = map (λ (r : Row). cond (eqb r.stamp x.stamp) (record r { request = request_of c; mandated = is_mandated c }) r) in
-      let right : rows ≡ change (get_or lists (x.level - 1) d) = f ∙ ap (λ k. change (get_or lists k d)) p in
+  pub stored-claimed : (c : Claim) (index m : ℕ) → index ≡ x.level - 1 → m + cond (has_work x) 1 0 ≡ n + cond (ltb 0 c.mandatory) 1 0
+      → IsStored (set xs i (record x { claim = c })) (set lists index (set_row x.stamp (request_of c) (is_mandated c) (rows_at index lists))) m
+  stored-claimed c index m p g =
+      let change : List Row → List Row = set_row x.stamp (request_of c) (is_mandated c) in
       let y : Arena = record x { claim = c } in
       let sorted = view-claimed c in
       let level = level-here in
@@ -195,8 +217,8 @@ module _ (xs : List Arena) (lists : List (List Row)) (n i : ℕ) (x : Arena) (h 
         by_number = rising-set xs i x y e refl h.by_number;
         newest_first = rw sorted (newest-with_claim x.number c (by_stamp xs) h.newest_first);
         leveled = All-set IsLevel xs i y level h.leveled;
-        listed = rw (sorted, p) (listed-set lists (by_stamp xs) (with_claim x.number c (by_stamp xs)) x.level rows h.listed level.0 level.1
-            (right ∙ ap change (h.listed.rows x.level d level.0 level.1)
+        listed = rw (sorted, p) (listed-set lists (by_stamp xs) (with_claim x.number c (by_stamp xs)) x.level (change (rows_at (x.level - 1) lists)) h.listed level.0 level.1
+            (ap change (h.listed.rows x.level [] level.0 level.1)
             ∙ sym (level_rows-with_claim x.level x.number x.stamp c (by_stamp xs) matches))
             (λ k apart. level_rows-with_claim_other k x.number x.level c (by_stamp xs) levels apart));
         enqueued =
@@ -210,21 +232,18 @@ module _ (xs : List Arena) (lists : List (List Row)) (n i : ℕ) (x : Arena) (h 
   pub view-removed : by_stamp (remove xs i) ≡ without x.number (by_stamp xs)
   view-removed = let same : suc i ≡ i + 1 = omega arith in ap (λ k. by_stamp (take i xs ++ drop k xs)) same ∙ table-removed xs i x h.by_number within e
 
-  pub listed-removed : (index : ℕ) (d rows : List Row) → index ≡ x.level - 1 → rows ≡ filter (λ (r : Row). not (eqb r.stamp x.stamp)) (get_or lists index d)
-      → IsListed (set lists index rows) (without x.number (by_stamp xs))
-  listed-removed index d rows p f =
-      let change : List Row → List Row = filter (λ (r : Row). not (eqb r.stamp x.stamp)) in
-      let right : rows ≡ change (get_or lists (x.level - 1) d) = f ∙ ap (λ k. change (get_or lists k d)) p in
+  pub listed-removed : (index : ℕ) → index ≡ x.level - 1 → IsListed (without_at index x.stamp lists) (without x.number (by_stamp xs))
+  listed-removed index p =
+      let change : List Row → List Row = without_row x.stamp in
       let level = level-here in
       let matches = found-matches x.number x (by_stamp xs) found-here in
       let levels = found-levels x.number x (by_stamp xs) found-here in
-      rw p (listed-set lists (by_stamp xs) (without x.number (by_stamp xs)) x.level rows h.listed level.0 level.1
-      (right ∙ ap change (h.listed.rows x.level d level.0 level.1) ∙ sym (level_rows-without x.level x.number x.stamp (by_stamp xs) matches))
+      rw p (listed-set lists (by_stamp xs) (without x.number (by_stamp xs)) x.level (change (rows_at (x.level - 1) lists)) h.listed level.0 level.1
+      (ap change (h.listed.rows x.level [] level.0 level.1) ∙ sym (level_rows-without x.level x.number x.stamp (by_stamp xs) matches))
       (λ k apart. level_rows-without_other k x.number x.level (by_stamp xs) levels apart))
 
-  pub stored-removed : (index : ℕ) (d rows : List Row) (m : ℕ) → index ≡ x.level - 1 → rows ≡ filter (λ (r : Row). not (eqb r.stamp x.stamp)) (get_or lists index d)
-      → m + cond (has_work x) 1 0 ≡ n → IsStored (remove xs i) (set lists index rows) m
-  stored-removed index d rows m p f g =
+  pub stored-removed : (index m : ℕ) → index ≡ x.level - 1 → m + cond (has_work x) 1 0 ≡ n → IsStored (remove xs i) (without_at index x.stamp lists) m
+  stored-removed index m p g =
       let sorted = view-removed in
       let w : Arena → ℕ = λ (a : Arena). cond (has_work a) 1 0 in
       record {
@@ -232,7 +251,7 @@ module _ (xs : List Arena) (lists : List (List Row)) (n i : ℕ) (x : Arena) (h 
         by_number = all_pairs_remove (λ (a b : Arena). a.number < b.number) xs i within h.by_number;
         newest_first = rw sorted (newest-without x.number (by_stamp xs) h.newest_first);
         leveled = All-append IsLevel (take i xs) (drop (suc i) xs) (All-take IsLevel i xs h.leveled) (All-drop IsLevel (suc i) xs h.leveled);
-        listed = rw sorted (listed-removed index d rows p f);
+        listed = rw sorted (listed-removed index p);
         enqueued =
             let sums : sum_by w (remove xs i) + w (get_or xs i x) ≡ sum_by w xs = sum_by-remove w xs i x within in
             let here : w (get_or xs i x) ≡ w x = ap w (sym e) in
@@ -244,41 +263,32 @@ module _ (xs : List Arena) (lists : List (List Row)) (n i : ℕ) (x : Arena) (h 
   pub view-promoted : (y : Arena) → All (IsOlder y.stamp) (by_stamp xs) → by_stamp (set xs i y) ≡ y ∷ without x.number (by_stamp xs)
   view-promoted y older = table-promoted xs i x y h.by_number within e (by_stamp-All (IsOlder y.stamp) xs older)
 
-  -- an arena fewer
-  pub room-removed : length (without x.number (by_stamp xs)) < 1024
-  room-removed =
-      omega (arith, ap length view-removed, length-by_stamp (remove xs i), length-remove xs i within, h.few)
-
   -- the lists with the arena taken out of one and put first into another
-  module _ (y : Arena) (older : All (IsOlder y.stamp) (by_stamp xs)) (level : (1 ≤ y.level) × (y.level ≤ 8))
-      (from to : ℕ) (d e' : List Row) (mid : List (List Row)) (rows : List Row)
-      (p : from ≡ x.level - 1) (q : to ≡ y.level - 1) (e1 : mid ≡ set lists from rows)
-      (e2 : rows ≡ filter (λ (r : Row). not (eqb r.stamp x.stamp)) (get_or lists from d)) where
-    listed-mid : IsListed mid (without x.number (by_stamp xs))
-    listed-mid = rw e1 (listed-removed from d rows p e2)
+  module _ (y : Arena) (older : All (IsOlder y.stamp) (by_stamp xs)) (level : (1 ≤ y.level) × (y.level ≤ 8)) (from to : ℕ) (p : from ≡ x.level - 1) (q : to ≡ y.level - 1) where
+    listed-mid : IsListed (without_at from x.stamp lists) (without x.number (by_stamp xs))
+    listed-mid = listed-removed from p
 
     older-mid : All (IsOlder y.stamp) (without x.number (by_stamp xs))
     older-mid = All-filter (λ (b : Arena). not (has_number x.number b)) (IsOlder y.stamp) (by_stamp xs) older
 
-    there : get_or mid to e' ≡ level_rows y.level (without x.number (by_stamp xs))
-    there = ap (λ k. get_or mid k e') q ∙ listed-mid.rows y.level e' level.0 level.1
+    there : rows_at to (without_at from x.stamp lists) ≡ level_rows y.level (without x.number (by_stamp xs))
+    there = ap (λ k. get_or (without_at from x.stamp lists) k []) q ∙ listed-mid.rows y.level [] level.0 level.1
 
-    pub promoted-room : length (get_or mid to e') < 1024
-    promoted-room = omega (arith, ap length there, length-level_rows y.level (without x.number (by_stamp xs)), room-removed)
-
-    pub promoted-newest : All (λ (r : Row). r.stamp < y.stamp) (get_or mid to e')
+    pub promoted-newest : All (λ (r : Row). r.stamp < y.stamp) (rows_at to (without_at from x.stamp lists))
     promoted-newest = rw there (level_rows-older y.level y.stamp (without x.number (by_stamp xs)) older-mid)
 
-    -- a visit to a list is within the bound for all arenas
-    pub promoted-visits : (v : ℕ) → v ≤ 2 * bits (length (get_or mid to e')) + 1 → v ≤ 2 * bits (length (by_stamp xs)) + 1
+    -- the visits to both lists are within the bound for all arenas
+    pub promoted-visits : (v : ℕ) → v ≤ 2 * bits (length (rows_at from lists)) + 2 * bits (length (rows_at to (without_at from x.stamp lists))) + 1 → v ≤ 4 * bits (length (by_stamp xs)) + 1
     promoted-visits v k =
+        let own = level-here in
+        let here : rows_at from lists ≡ level_rows x.level (by_stamp xs) = ap (λ j. get_or lists j []) p ∙ h.listed.rows x.level [] own.0 own.1 in
+        let part : length (rows_at from lists) ≤ length (by_stamp xs) = omega (arith, ap length here, length-level_rows x.level (by_stamp xs)) in
         let size : length (without x.number (by_stamp xs)) ≤ length (by_stamp xs) = omega (arith, ap length view-removed, length-by_stamp (remove xs i), length-by_stamp xs, length-remove xs i within) in
-        let less : length (get_or mid to e') ≤ length (by_stamp xs) = omega (arith, ap length there, length-level_rows y.level (without x.number (by_stamp xs)), size) in
-        omega (arith, bits-more (length (get_or mid to e')) (length (by_stamp xs)) less)
+        let less : length (rows_at to (without_at from x.stamp lists)) ≤ length (by_stamp xs) = omega (arith, ap length there, length-level_rows y.level (without x.number (by_stamp xs)), size) in
+        omega (arith, k, bits-more (length (rows_at from lists)) (length (by_stamp xs)) part, bits-more (length (rows_at to (without_at from x.stamp lists))) (length (by_stamp xs)) less)
 
-    pub stored-promoted : (after : List Row) → y.number ≡ x.number → y.claim ≡ x.claim → after ≡ level_row y ∷ get_or mid to e'
-        → IsStored (set xs i y) (set mid to after) n
-    stored-promoted after number claim e3 =
+    pub stored-promoted : y.number ≡ x.number → y.claim ≡ x.claim → IsStored (set xs i y) (with_first to (level_row y) (without_at from x.stamp lists)) n
+    stored-promoted number claim =
         let sorted = view-promoted y older in
         let w : Arena → ℕ = λ (a : Arena). cond (has_work a) 1 0 in
         record {
@@ -286,7 +296,7 @@ module _ (xs : List Arena) (lists : List (List Row)) (n i : ℕ) (x : Arena) (h 
           by_number = rising-set xs i x y e number h.by_number;
           newest_first = rw sorted (newest-cons y (without x.number (by_stamp xs)) older-mid (newest-without x.number (by_stamp xs) h.newest_first));
           leveled = All-set IsLevel xs i y level h.leveled;
-          listed = rw sorted (listed-cons mid (without x.number (by_stamp xs)) y to e' after listed-mid level q e3);
+          listed = rw sorted (listed-cons (without_at from x.stamp lists) (without x.number (by_stamp xs)) y to listed-mid level q);
           enqueued =
               let sums : sum_by w (set xs i y) + w (get_or xs i x) ≡ sum_by w xs + w y = sum_by-set w xs i y x within in
               let here : w (get_or xs i x) ≡ w x = ap w (sym e) in
@@ -300,29 +310,33 @@ arena-of : (o : Option Arena) → option_map (λ (r : Row). r.arena) (option_map
 arena-of None = refl
 arena-of (Some a) = refl
 
-module _ (xs : List Arena) (lists : List (List Row)) (n : ℕ) (h : IsStored xs lists n) (level index : ℕ) (d : List Row) (low : 1 ≤ level) (high : level ≤ 8) (p : index ≡ level - 1) where
-  pub list-at : get_or lists index d ≡ level_rows level (by_stamp xs)
-  list-at = ap (λ k. get_or lists k d) p ∙ h.listed.rows level d low high
+module _ (xs : List Arena) (lists : List (List Row)) (n : ℕ) (h : IsStored xs lists n) (level index : ℕ) (low : 1 ≤ level) (high : level ≤ 8) (p : index ≡ level - 1) where
+  pub list-at : rows_at index lists ≡ level_rows level (by_stamp xs)
+  list-at = ap (λ k. rows_at k lists) p ∙ h.listed.rows level [] low high
 
-  pub list-few : length (get_or lists index d) ≤ length xs
+  pub list-few : length (rows_at index lists) ≤ length xs
   list-few = omega (arith, ap length list-at, length-level_rows level (by_stamp xs), length-by_stamp xs)
 
   -- where the level has arenas its list is entered
-  pub list-entered : (v : ℕ) → (0 < length (get_or lists index d) → 1 ≤ v) → 0 < length (at_level level (by_stamp xs)) → 1 ≤ v
+  pub list-entered : (v : ℕ) → (0 < length (rows_at index lists) → 1 ≤ v) → 0 < length (at_level level (by_stamp xs)) → 1 ≤ v
   list-entered v e some = e (rw list-at (omega (arith, length-map (at_level level (by_stamp xs)) level_row)))
 
-  pub list-newest : (t : ℕ) → All (IsOlder t) (by_stamp xs) → All (λ (r : Row). r.stamp < t) (get_or lists index d)
+  pub list-newest : (t : ℕ) → All (IsOlder t) (by_stamp xs) → All (λ (r : Row). r.stamp < t) (rows_at index lists)
   list-newest t older = rw list-at (level_rows-older level t (by_stamp xs) older)
 
   -- a visit to a list is within the bound for all arenas
-  pub list-visits : (v : ℕ) → v ≤ 2 * bits (length (get_or lists index d)) → v ≤ 2 * bits (length (by_stamp xs))
-  list-visits v e = omega (arith, bits-more (length (get_or lists index d)) (length (by_stamp xs)) (omega (arith, list-few, length-by_stamp xs)))
+  pub list-visits : (v : ℕ) → v ≤ 2 * bits (length (rows_at index lists)) → v ≤ 2 * bits (length (by_stamp xs))
+  list-visits v e = omega (arith, bits-more (length (rows_at index lists)) (length (by_stamp xs)) (omega (arith, list-few, length-by_stamp xs)))
 
-  pub list-visits_one : (v : ℕ) → v ≤ 2 * bits (length (get_or lists index d)) + 1 → v ≤ 2 * bits (length (by_stamp xs)) + 1
-  list-visits_one v e = omega (arith, bits-more (length (get_or lists index d)) (length (by_stamp xs)) (omega (arith, list-few, length-by_stamp xs)))
+  -- four visits for one that is looked at, or as many as there are
+  pub list-height : min 4 (length (rows_at index lists)) ≤ 2 * bits (length (by_stamp xs))
+  list-height = list-visits (min 4 (length (rows_at index lists))) (few-digits (length (rows_at index lists)))
+
+  pub list-visits_one : (v : ℕ) → v ≤ 2 * bits (length (rows_at index lists)) + 1 → v ≤ 2 * bits (length (by_stamp xs)) + 1
+  list-visits_one v e = omega (arith, bits-more (length (rows_at index lists)) (length (by_stamp xs)) (omega (arith, list-few, length-by_stamp xs)))
 
   -- the first mandated row is that of the first mandated arena
-  pub list-mandated : (o : Option Row) → o ≡ find (λ (r : Row). r.mandated) (get_or lists index d)
+  pub list-mandated : (o : Option Row) → o ≡ find (λ (r : Row). r.mandated) (rows_at index lists)
       → option_map (λ (r : Row). r.arena) o ≡ option_map (λ (a : Arena). a.number) (find (λ (a : Arena). is_mandated a.claim) (at_level level (by_stamp xs)))
   list-mandated o e =
       ap (option_map (λ (r : Row). r.arena)) (e ∙ ap (find (λ (r : Row). r.mandated)) list-at ∙ level_rows-mandated level (by_stamp xs))

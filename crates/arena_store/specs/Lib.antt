@@ -1,4 +1,4 @@
-pub use Rattle.level_list.specs.Bits
+pub use Rattle.prefix_tree.specs.Bits
 pub mod Arenas
 pub mod Changed
 pub mod Held

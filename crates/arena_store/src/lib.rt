@@ -2,10 +2,10 @@
 //!
 //! An [`Arenas`] holds them as [`StoredArena`]s: number, stamp, level and claim. Contracts see it as one list, the greatest
 //! stamp first. It tells what a level's arenas ask for, all of them or those before one, without a walk over them, and
-//! shows a level as a [`Stretch`] to whoever walks. A claim is changed by a [`Change`]; a new arena, or one that gets a new
+//! shows a level as a [`Span`] to whoever walks. A claim is changed by a [`Change`]; a new arena, or one that gets a new
 //! stamp, goes first. Only `push` takes memory.
 //!
-//! Each call that goes into a level's tree says how many of its nodes it entered. To find an arena by its number enters none.
+//! Each call that goes into a level's rows says how many visits it made, as `wide_rows` counts them. To find an arena by its number makes none.
 #![tactic(auto)]
 
 mod change;
@@ -15,6 +15,6 @@ mod stored_arena;
 mod table;
 
 pub use change::Change;
-pub use level_list::Stretch;
 pub use store::Arenas;
 pub use stored_arena::StoredArena;
+pub use wide_rows::Span;

@@ -1,4 +1,4 @@
-//! The living arenas: a table by number, and for each level a list by stamp.
+//! The living arenas: a table by number, and for each level a list of rows by stamp.
 ghost use Rattle.std.specs.Prelude.{◌≡◌, ℕ, ◌-◌, slice_index, ◌+◌, ◌*◌, ◌<◌, ◌≤◌, ◌∷◌, [], None, Some, Ok, Err, length, take, slice_get, nat_lt, if◌then◌else◌, option_map, IsSome, OnSome, IfNone, IfSome, IfOk, IfErr, OnOk, OnErr};
 ghost use Rattle.std.specs.List.{All, find};
 ghost use Rattle.market_types.specs.State.{Arena};
@@ -7,25 +7,25 @@ ghost use Rattle.market_types.specs.Allotment.{total_request, at_level, has_mand
 ghost use Rattle.market_types.specs.Step.{arena_at, with_claim, without};
 ghost use Rattle.arena_store.specs.Arenas.{StandOnce, newer, level_rows};
 ghost use Rattle.arena_store.specs.Changed.{changed_at};
-ghost use Rattle.level_list.specs.Bits.{bits};
-ghost use Rattle.level_list.specs.Rows.{requests};
+ghost use Rattle.prefix_tree.specs.Bits.{bits};
+ghost use Rattle.prefix_tree.specs.Rows.{requests};
 
 use crate::change::Change;
 use crate::stored_arena::StoredArena;
 use crate::table::Table;
 use arena_record::ArenaRecord;
-use level_list::{LevelList, Stretch};
 use market_types::{ArenaId, Fault, Level};
 use std::alloc::{AllocError, Global};
 use std::marker::Model;
+use wide_rows::{Levels, Span};
 
 /// The living arenas, at most 1,024. Contracts see them as a list, the greatest stamp first.
 #[derive(Drop)]
 pub struct Arenas {
     /// By number.
     table: Table,
-    /// One for each level, level 1 first.
-    lists: [LevelList; 8],
+    /// The rows of each level, level 1 first.
+    lists: Levels,
     /// How many arenas have enqueued work.
     enqueued: u32,
 }
@@ -52,16 +52,7 @@ impl Arenas {
     {
         Arenas {
             table: Table::new(alloc),
-            lists: [
-                LevelList::new(),
-                LevelList::new(),
-                LevelList::new(),
-                LevelList::new(),
-                LevelList::new(),
-                LevelList::new(),
-                LevelList::new(),
-                LevelList::new(),
-            ],
+            lists: Levels::new(alloc),
             enqueued: 0,
         }
     }
@@ -105,7 +96,7 @@ impl Arenas {
         ensures exact { result ≡ total_request (at_level level self.now) }
         ensures small { result ≤ 1024 * 65535 }
     {
-        self.lists[level.index()].demand()
+        self.lists.demand(level.index())
     }
 
     /// What the arenas of a level ask for that are newer than this stamp.
@@ -115,7 +106,7 @@ impl Arenas {
         ensures visits { result.1 ≤ 2 * bits (length self.now) }
         ensures few { result.1 ≤ 22 }
     {
-        self.lists[level.index()].before(stamp)
+        self.lists.before(level.index(), stamp)
     }
 
     /// What each level asks for, level 1 first.
@@ -140,7 +131,7 @@ impl Arenas {
         ensures visits { result.1 ≤ 2 * bits (length self.now) }
         ensures few { result.1 ≤ 22 }
     {
-        let (row, visits) = self.lists[level.index()].first_mandated();
+        let (row, visits) = self.lists.first_mandated(level.index());
         match row {
             Some(row) => (Some(row.arena), visits),
             None => (None, visits),
@@ -152,20 +143,20 @@ impl Arenas {
         ensures exact { result ≡ slice_get (at_level level self.now) index }
         ensures there { IfSome result (λ found. arena_at found.number self.now ≡ Some found) }
     {
-        let (row, _visits) = self.lists[level.index()].walk(index);
+        let (row, _visits) = self.lists.walk(level.index(), index);
         let row = row?;
         self.get(row.arena)
     }
 
     /// What the list of a level keeps of its arenas, for a walk in order that may pass over some.
-    pub fn whole(&self, level: Level) -> Stretch<'_>
+    pub fn whole(&self, level: Level) -> Span<'_>
         ensures rows { result.0 ≡ level_rows level self.now }
         ensures asked { requests result.0 ≡ total_request (at_level level self.now) }
         ensures height { result.1 ≤ 2 * bits (length self.now) }
         ensures short { length result.0 ≤ 1024 }
         ensures few { length self.now ≤ 1024 }
     {
-        self.lists[level.index()].whole()
+        self.lists.whole(level.index())
     }
 
     /// A new arena, newer than all others.
@@ -179,8 +170,7 @@ impl Arenas {
         ensures visits { IfOk result (λ visits. visits ≤ 2 * bits (length self.old) + 1) }
     {
         self.table.reserve()?;
-        let list = &mut self.lists[arena.level().index()];
-        let visits = list.push(alloc, arena.row())?;
+        let visits = self.lists.push(alloc, arena.level().index(), arena.row())?;
         self.table.push_reserved(arena);
         self.enqueued += counted(arena.claim());
         Ok(visits)
@@ -205,8 +195,8 @@ impl Arenas {
         self.table.set(place, new);
         self.enqueued = self.enqueued - counted(old.claim()) + counted(claim);
         let row = new.row();
-        let list = &mut self.lists[old.level().index()];
-        let visits = list.update(old.row(), row.request, row.mandated);
+        let level = old.level().index();
+        let visits = self.lists.update(level, old.row(), row.request, row.mandated);
         Ok((claim, visits))
     }
 
@@ -222,8 +212,7 @@ impl Arenas {
         let index = self.table.index_of(arena)?;
         let old = self.table.remove(index);
         self.enqueued -= counted(old.claim());
-        let list = &mut self.lists[old.level().index()];
-        let (_taken, visits) = list.take(old.stamp());
+        let (_taken, visits) = self.lists.take(old.level().index(), old.stamp());
         Some(visits)
     }
 
@@ -240,15 +229,10 @@ impl Arenas {
     {
         let place = self.table.place_to_change(arena)?;
         let old = self.table.at(place);
-        let from = &mut self.lists[old.level().index()];
-        let (taken, out) = from.take(old.stamp());
-        let Some(taken) = taken else {
-            unreachable!();
-        };
-        let to = &mut self.lists[level.index()];
-        let back = to.put(taken, stamp);
+        let from = old.level().index();
+        let visits = self.lists.promote(from, old.stamp(), level.index(), stamp);
         self.table.set(place, old.promoted(stamp, level));
-        Some(out + back)
+        Some(visits)
     }
 }
 

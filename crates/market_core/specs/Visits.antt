@@ -1,4 +1,4 @@
--- How many nodes of the arenas' trees a command enters.
+-- How many visits a command makes: a node of k keys that is entered counts as many as k has binary digits, a row that is looked at one (own).
 use Rattle.std.specs.Prelude.{ℕ, Bool, true, false, ◌+◌, ◌*◌, ◌==◌, length, min, max, if◌then◌else◌}
 use Rattle.market_types.specs.declared.command.Cmd.{Cmd}
 use Rattle.market_types.specs.declared.command.Cmd.TheVariants.{Join, Lists}
@@ -13,15 +13,15 @@ use Rattle.arena_store.specs.Bits.{bits}
 abbrev pub extra_visits : State → ℕ
 extra_visits s = if limit_of s == 0 then s.levels * (2 * bits (length s.arenas)) else 0
 
--- the most that a command may enter, but for Join and Lists
+-- the most that a command may make, but for Join and Lists
 abbrev pub most_visits : State → ℕ
 most_visits s = 4 * bits (length s.arenas) + 1 + extra_visits s
 
--- the most that Lists may enter: no row twice
+-- the most that Lists may make: no row twice
 abbrev pub most_listed : State → ℕ
 most_listed s = length s.arenas + extra_visits s
 
--- the most that Join may enter: each node once, and no more than a way down a tree for each arena that it looks at
+-- the most that Join may make: each row once, and no more than a way down for each arena that it looks at
 abbrev pub most_joined : State → ℕ
 most_joined s = min (length s.arenas) (searches (rows_of s) * (2 * bits (length s.arenas))) + extra_visits s
 
@@ -40,7 +40,7 @@ looks_in_order _ = false
 abbrev pub searched : State → ℕ
 searched s = if limit_of s == 0 then 0 else searches (rows_of s)
 
--- the fewest that a command entered which has this reply: one for each row that was put in, taken out or set, one to see
+-- the fewest that a command makes which has this reply: one for each row that was put in, taken out or set, one to see
 -- an arena that asks for workers or to place or keep a seat, one for each arena that a Join looked at, and one for each
 -- that is listed
 abbrev pub least_visits : State → Reply → ℕ

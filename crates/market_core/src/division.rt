@@ -20,7 +20,7 @@ pub struct Division {
     pub assigned: ByLevel<u64>,
     /// Where no worker may be active, the arena whose enqueued work is served.
     pub picked: Option<ArenaId>,
-    /// How many nodes of the arenas' trees were entered to find that arena.
+    /// How many visits it took to find that arena.
     pub visits: u32,
 }
 

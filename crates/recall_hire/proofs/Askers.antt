@@ -1,12 +1,12 @@
 -- A search through rows whose level gets all that it asks for.
-use Rattle.std.proofs.Common.{◌≡◌, ℕ, ◌+◌, ◌*◌, ◌/◌, ◌%◌, ◌<◌, ◌≤◌, eqb, cond, List, ◌∷◌, ◌++◌, Option, None, refl, subst, arith, inl, inr}
+use Rattle.std.proofs.Common.{◌≡◌, ℕ, ◌+◌, ◌*◌, ◌/◌, ◌%◌, ◌<◌, ◌≤◌, eqb, cond, List, ◌++◌, length, refl, ap, arith, inl, inr}
 use Rattle.std.proofs.Math.Arith.{digits_div, digits_mod}
 use Rattle.std.proofs.Math.Nat.{mul-le-mul_left}
 use Rattle.std.proofs.lemmas.Bool.{cases_eq, eq-eqb, ne_eqb}
 use Rattle.market_types.specs.declared.row.Row.{Row}
-use Rattle.level_list.specs.Rows.{requests}
-use Rattle.recall_hire.specs.Shared.{IsSearch}
-use Rattle.recall_hire.proofs.Searches.{IsOpened, passed-over}
+use Rattle.prefix_tree.specs.Rows.{requests}
+use Rattle.wide_rows.specs.Passed.{IsPassed, IsDue}
+use Rattle.recall_hire.proofs.Searches.{IsNext}
 
 -- each is allotted what it asks for
 pub served-share : (q d : ℕ) → 0 < d → cond (eqb q 0) 0 ((q * d + 0) / d) ≡ q
@@ -24,13 +24,28 @@ served-carry q d some =
       | inr n ↦ rw (ne_eqb q 0 n) (digits_mod q some)
     ]
 
--- nobody asks for a worker: nothing is entered
-pub asks-none : (d : ℕ) (seats : List (Option ℕ)) (rows : List Row × ℕ) (n v : ℕ) → 0 < d → n ≡ requests rows.0 → n ≡ 0 → IsSearch d d seats rows 0 0 v v None
-asks-none d seats rows n v some e z =
-    let none : d * n + 0 ≡ 0 = rw z (omega arith) in
-    subst (λ after. IsSearch d d seats rows 0 after v v None) none (passed-over d d seats rows 0 n v e (omega (arith, none, some)))
+-- those that are passed over, since nobody among them asks for one of one, ask for nobody at any demand
+pub asks-none : (d : ℕ) (rows rest : List Row) (c e : ℕ) → 0 < d → c ≡ 0 → IsPassed 1 1 rows rest c e → (e ≡ 0) × IsPassed d d rows rest 0 0
+asks-none d rows rest c e some z p =
+    let low : e < 1 = p.below (omega (arith, z)) in
+    let none : requests p.passed ≡ 0 = omega (arith, p.carried, low) in (
+      omega (arith, low),
+      record {
+        passed = p.passed;
+        rows_are = p.rows_are;
+        carried = omega (arith, ap (λ n. d * n) none);
+        below = λ l. l;
+        none = λ l. absurd (omega (arith, l, some));
+      },
+    )
 
--- what a stretch opens to where somebody asks
-pub opens-asking : (d : ℕ) (rows l : List Row × ℕ) (x : Row) (r : List Row × ℕ) → 0 < d → 0 < requests rows.0 → rows.0 ≡ l.0 ++ x ∷ r.0 → l.1 < rows.1 → r.1 < rows.1 → IsOpened d d 0 rows l x r
-opens-asking d rows l x r some asks e left right =
-    record { rows_are = e; left = left; right = right; below = some; due = omega (arith, mul-le-mul_left d (let one : 1 ≤ requests rows.0 = omega arith in one)) }
+-- and those that come next ask for somebody
+pub asks-next : (d : ℕ) (rows next rest : List Row) (h c e : ℕ) → 0 < d → c ≡ 0 → IsDue 1 1 rows next rest c e → length next ≤ h → IsNext d d rows next rest h 0 0
+asks-next d rows next rest h c e some z p few =
+    let passed = asks-none d rows (next ++ rest) c e some z p.passed in
+    record {
+      low = some;
+      passed = passed.1;
+      due = omega (arith, mul-le-mul_left d (let one : 1 ≤ requests next = omega (arith, p.due, passed.0) in one));
+      few = few;
+    }

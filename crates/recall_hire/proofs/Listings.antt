@@ -1,5 +1,5 @@
--- What a walk over all of a level's rows lists.
-use Rattle.std.proofs.Common.{◌≡◌, ℕ, ◌+◌, ◌*◌, ◌%◌, ◌<◌, ◌≤◌, eqb, cond, List, [], ◌∷◌, ◌++◌, map, length, length-append, append-nil, Option, None, refl, sym, ap, subst, ◌∙◌, arith, inl, inr, append_assoc}
+-- What a walk over a level's rows lists.
+use Rattle.std.proofs.Common.{◌≡◌, ℕ, ◌+◌, ◌*◌, ◌^◌, ◌<◌, ◌≤◌, max, List, [], ◌∷◌, ◌++◌, map, length, length-append, append-nil, Option, None, refl, sym, ap, subst, ◌∙◌, arith, inl, inr, append_assoc}
 use Rattle.std.specs.Prelude.{nat_lt}
 use Rattle.std.specs.List.{filter, count_by}
 use Rattle.std.proofs.lemmas.Bool.{cases_eq, cases_lt, lt-ltb, le-ltb, eq-eqb, ne_eqb}
@@ -9,13 +9,15 @@ use Rattle.std.proofs.lemmas.List.Sums.{sum_by-cons, sum_by-append, count_by-le-
 use Rattle.market_types.specs.declared.row.Row.{Row}
 use Rattle.market_types.specs.Allotment.{is_just}
 use Rattle.market_types.specs.Counts.{Counts}
-use Rattle.level_list.specs.Rows.{requests}
+use Rattle.prefix_tree.specs.Rows.{requests}
+use Rattle.prefix_tree.proofs.Readings.{requests-cons, requests-append}
+use Rattle.wide_rows.specs.Passed.{IsPassed}
 use Rattle.recall_hire.specs.declared.rows.Staffing.{Staffing}
 use Rattle.recall_hire.specs.declared.sharing.Sharing.{Sharing}
 use Rattle.recall_hire.specs.declared.sharing.Sharing.TheVariants.{Carried, Picked}
 use Rattle.recall_hire.specs.Staffed.{recall_in, hire_in, above_zero_in, counts_in, imbalances, actives}
-use Rattle.recall_hire.specs.Shared.{CanShareAll, IsListed, IsWalk, row_share, row_carry, staffed, carry_after}
-use Rattle.recall_hire.proofs.Shares.{requests-cons, requests-parts, share-below, carry-below, staffed-append, carry-append}
+use Rattle.recall_hire.specs.Shared.{AreShared, CanShareAll, IsListed, IsLow, IsOver, IsPassing, IsUnserved, IsWalk, row_share, row_carry, staffed, carry_after}
+use Rattle.recall_hire.proofs.Shares.{share-below, carry-below, staffed-append, carry-append}
 
 -- a row beside what its arena is allotted and has
 abbrev pub at-row : Sharing → List (Option ℕ) → ℕ → Row → Staffing
@@ -23,47 +25,31 @@ at-row s seats c x = record { arena = x.arena; allotted = row_share s c x; activ
 
 -- ---- the carry on the way
 
-row-below : (q n d c : ℕ) → c < d → cond (eqb q 0) c (n % d) < d
-row-below q n d c h =
-    elim (cases_eq q 0) [
-      | inl z ↦ rw (eq-eqb q 0 z) h
-      | inr m ↦ rw (ne_eqb q 0 m) (omega arith)
+-- fewer rows can share too, by any carry that is low
+pub share-part : (s : Sharing) (c n a b : ℕ) → CanShareAll s c a → b ≤ a → IsLow s n → CanShareAll s n b
+share-part (Carried k d) c n a b h less low = (h.0, (h.1.0, (omega (arith, less, h.1.1.0), λ some. omega (arith, some, less, h.1.1.0, low))))
+share-part (Picked o w) c n a b h less low = tt
+
+-- a carry is small while it is low
+pub carry-bound : (s : Sharing) (c n : ℕ) → CanShareAll s c n → IsLow s c → c < 2 ^ 32
+carry-bound (Carried k d) c n h low = omega (arith, h.1.0, low)
+carry-bound (Picked o w) c n h low = omega (arith, low)
+
+-- it stays low past a row
+low-row : (s : Sharing) (c : ℕ) (x : Row) → CanShareAll s c x.request → IsLow s c → IsLow s (row_carry s c x)
+low-row (Carried k d) c x h low =
+    elim (cases_eq x.request 0) [
+      | inl z ↦ rw (eq-eqb x.request 0 z) low
+      | inr m ↦ let some : 0 < d = omega (arith, h.1.1.0, m) in rw (ne_eqb x.request 0 m) (omega arith)
     ]
+low-row (Picked o w) c x h low = low
 
-carry-kept : (k d c : ℕ) (rows : List Row) → c < d → carry_after (Carried k d) c rows < d
-carry-kept k d c [] h = h
-carry-kept k d c (x ∷ rows) h = carry-kept k d (row_carry (Carried k d) c x) rows (row-below x.request (x.request * k + c) d c h)
-
--- the newer rows can share
-pub share-newer : (s : Sharing) (c : ℕ) (rows l : List Row) (x : Row) (r : List Row) → rows ≡ l ++ x ∷ r → CanShareAll s c (requests rows) → CanShareAll s c (requests l)
-share-newer (Carried k d) c rows l x r e h =
-    let sums : requests rows ≡ requests l + x.request + requests r = ap requests e ∙ requests-parts l x r in
-    (h.0, (h.1.0, (omega (arith, sums, h.1.1.0), λ some. h.1.1.1 (omega (arith, sums)))))
-share-newer (Picked a w) c rows l x r e h = tt
-
--- so can the topmost row after them
-pub share-here : (s : Sharing) (c n : ℕ) (rows l : List Row) (x : Row) (r : List Row) → rows ≡ l ++ x ∷ r → n ≡ carry_after s c l → CanShareAll s c (requests rows) → CanShareAll s n x.request
-share-here (Carried k d) c n rows l x r e i h =
-    let sums : requests rows ≡ requests l + x.request + requests r = ap requests e ∙ requests-parts l x r in
-    (h.0, (h.1.0, (omega (arith, sums, h.1.1.0), λ some. rw i (carry-kept k d c l (h.1.1.1 (omega (arith, sums)))))))
-share-here (Picked a w) c n rows l x r e i h = tt
-
--- and the older ones after it
-pub share-older : (s : Sharing) (c n m : ℕ) (rows l : List Row) (x : Row) (r : List Row) → rows ≡ l ++ x ∷ r → n ≡ carry_after s c l → m ≡ row_carry s n x → CanShareAll s c (requests rows) → CanShareAll s m (requests r)
-share-older (Carried k d) c n m rows l x r e i j h =
-    let sums : requests rows ≡ requests l + x.request + requests r = ap requests e ∙ requests-parts l x r in (
-      h.0,
-      (
-        h.1.0,
-        (
-          omega (arith, sums, h.1.1.0),
-          λ some.
-              let before : n < d = rw i (carry-kept k d c l (h.1.1.1 (omega (arith, sums)))) in
-              rw j (row-below x.request (x.request * k + n) d n before),
-        ),
-      ),
-    )
-share-older (Picked a w) c n m rows l x r e i j h = tt
+-- and past many
+low-after : (s : Sharing) (c : ℕ) (rows : List Row) → CanShareAll s c (requests rows) → IsLow s c → IsLow s (carry_after s c rows)
+low-after s c [] h low = low
+low-after s c (x ∷ rows) h low =
+    let here : IsLow s (row_carry s c x) = low-row s c x (share-part s c c (requests (x ∷ rows)) x.request h (omega (arith, requests-cons x rows)) low) low in
+    low-after s (row_carry s c x) rows (share-part s c (row_carry s c x) (requests (x ∷ rows)) (requests rows) h (omega (arith, requests-cons x rows)) here) here
 
 -- ---- the lists
 
@@ -82,17 +68,9 @@ listed-append xs ys a b c f g =
           ∙ ap (λ zs. a.hires ++ zs) (sym (above_zero-append hire_in xs ys));
     }
 
--- a stretch, by its parts
-pub staffed-parts : (s : Sharing) (seats : List (Option ℕ)) (c n m : ℕ) (rows l : List Row) (x : Row) (r : List Row) → rows ≡ l ++ x ∷ r → n ≡ carry_after s c l → m ≡ row_carry s n x
-    → staffed s seats c rows ≡ staffed s seats c l ++ (staffed s seats n (x ∷ []) ++ staffed s seats m r)
-staffed-parts s seats c n m rows l x r e i j =
-    ap (staffed s seats c) e ∙ staffed-append s seats c l (x ∷ r) ∙ ap (λ k. staffed s seats c l ++ staffed s seats k (x ∷ r)) (sym i)
-    ∙ ap (λ k. staffed s seats c l ++ (staffed s seats n (x ∷ []) ++ staffed s seats k r)) (sym j)
-
-pub carry-parts : (s : Sharing) (c n m : ℕ) (rows l : List Row) (x : Row) (r : List Row) → rows ≡ l ++ x ∷ r → n ≡ carry_after s c l → m ≡ row_carry s n x
-    → carry_after s m r ≡ carry_after s c rows
-carry-parts s c n m rows l x r e i j =
-    ap (λ k. carry_after s k r) j ∙ ap (λ k. carry_after s (row_carry s k x) r) i ∙ sym (ap (carry_after s c) e ∙ carry-append s c l (x ∷ r))
+-- rows of two parts
+pub staffed-parts : (s : Sharing) (seats : List (Option ℕ)) (rows l r : List Row) (c n : ℕ) → rows ≡ l ++ r → n ≡ carry_after s c l → staffed s seats c rows ≡ staffed s seats c l ++ staffed s seats n r
+staffed-parts s seats rows l r c n e i = ap (staffed s seats c) e ∙ staffed-append s seats c l r ∙ ap (λ k. staffed s seats c l ++ staffed s seats k r) (sym i)
 
 -- where nothing is listed of two lists, nothing is of either
 append-none : {A : Type 0} (xs ys : List A) → xs ++ ys ≡ [] → (xs ≡ []) × (ys ≡ [])
@@ -105,30 +83,7 @@ none-listed xs ys e =
     let hires = append-none (above_zero_in hire_in xs) (above_zero_in hire_in ys) (sym (above_zero-append hire_in xs ys) ∙ ap (λ (c : Counts). c.hires) e) in
     (cc (recalls.0, hires.0), cc (recalls.1, hires.1))
 
--- where a stretch lists nothing, its newer rows list nothing
-pub newer-none : (s : Sharing) (seats : List (Option ℕ)) (c : ℕ) (rows l : List Row) (x : Row) (r : List Row) → rows ≡ l ++ x ∷ r
-    → counts_in (staffed s seats c rows) ≡ record { recalls = []; hires = [] } → counts_in (staffed s seats c l) ≡ record { recalls = []; hires = [] }
-newer-none s seats c rows l x r e none =
-    let n : ℕ = carry_after s c l in
-    let m : ℕ = row_carry s n x in
-    (none-listed (staffed s seats c l) (staffed s seats n (x ∷ []) ++ staffed s seats m r) (ap counts_in (sym (staffed-parts s seats c n m rows l x r e refl refl)) ∙ none)).0
-
--- nor does its topmost row
-pub here-none : (s : Sharing) (seats : List (Option ℕ)) (c n : ℕ) (rows l : List Row) (x : Row) (r : List Row) → rows ≡ l ++ x ∷ r → n ≡ carry_after s c l
-    → counts_in (staffed s seats c rows) ≡ record { recalls = []; hires = [] } → counts_in (staffed s seats n (x ∷ [])) ≡ record { recalls = []; hires = [] }
-here-none s seats c n rows l x r e i none =
-    let m : ℕ = row_carry s n x in
-    let both = none-listed (staffed s seats c l) (staffed s seats n (x ∷ []) ++ staffed s seats m r) (ap counts_in (sym (staffed-parts s seats c n m rows l x r e i refl)) ∙ none) in
-    (none-listed (staffed s seats n (x ∷ [])) (staffed s seats m r) both.1).0
-
--- nor do its older rows
-pub older-none : (s : Sharing) (seats : List (Option ℕ)) (c n m : ℕ) (rows l : List Row) (x : Row) (r : List Row) → rows ≡ l ++ x ∷ r → n ≡ carry_after s c l → m ≡ row_carry s n x
-    → counts_in (staffed s seats c rows) ≡ record { recalls = []; hires = [] } → counts_in (staffed s seats m r) ≡ record { recalls = []; hires = [] }
-older-none s seats c n m rows l x r e i j none =
-    let both = none-listed (staffed s seats c l) (staffed s seats n (x ∷ []) ++ staffed s seats m r) (ap counts_in (sym (staffed-parts s seats c n m rows l x r e i j)) ∙ none) in
-    (none-listed (staffed s seats n (x ∷ [])) (staffed s seats m r) both.1).1
-
--- ---- a walk over a stretch
+-- ---- a walk
 
 imbalances-append : (xs ys : List Staffing) → imbalances (xs ++ ys) ≡ imbalances xs + imbalances ys
 imbalances-append xs ys =
@@ -150,7 +105,7 @@ listed-once r =
       ]
     ]
 
--- a stretch of which nothing is listed, and where nobody is placed
+-- rows of which none is listed, and where nobody is placed
 pub walk-nothing : (s : Sharing) (seats : List (Option ℕ)) (c after u v : ℕ) (b : Counts) (rows : List Row)
     → counts_in (staffed s seats c rows) ≡ record { recalls = []; hires = [] } → after ≡ carry_after s c rows → actives (staffed s seats c rows) ≡ 0
     → IsWalk s seats rows c after u u v v b b
@@ -168,48 +123,35 @@ walk-nothing s seats c after u v b rows none carry nobody =
       once = omega arith;
     }
 
--- one without rows
-pub walk-empty : (s : Sharing) (seats : List (Option ℕ)) (c u v w : ℕ) (b : Counts) (rows : List Row) → rows ≡ [] → w ≡ v → IsWalk s seats rows c c u u v w b b
-walk-empty s seats c u v w b rows e same = rw (e, same) (walk-nothing s seats c c u v b [] refl refl refl)
+-- no rows
+pub walk-ends : (s : Sharing) (seats : List (Option ℕ)) (c u v w : ℕ) (b : Counts) (rows : List Row) → rows ≡ [] → w ≡ v → IsWalk s seats rows c c u u v w b b
+walk-ends s seats c u v w b rows e same = rw (e, same) (walk-nothing s seats c c u v b [] refl refl refl)
 
--- the seats of a stretch are those of its parts
-module _ (s : Sharing) (seats : List (Option ℕ)) (c n m : ℕ) (rows l : List Row) (x : Row) (r : List Row) (e : rows ≡ l ++ x ∷ r) (i : n ≡ carry_after s c l) (j : m ≡ row_carry s n x) where
-  actives-parts : actives (staffed s seats c rows) ≡ actives (staffed s seats c l) + (actives (staffed s seats n (x ∷ [])) + actives (staffed s seats m r))
-  actives-parts =
-      ap actives (staffed-parts s seats c n m rows l x r e i j)
-      ∙ actives-append (staffed s seats c l) (staffed s seats n (x ∷ []) ++ staffed s seats m r)
-      ∙ ap (λ k. actives (staffed s seats c l) + k) (actives-append (staffed s seats n (x ∷ [])) (staffed s seats m r))
-
-  pub unmet-newer : (u : ℕ) → actives (staffed s seats c rows) ≤ u → actives (staffed s seats c l) ≤ u
-  unmet-newer u h = omega (arith, actives-parts)
-
-  pub unmet-here : (u t : ℕ) → actives (staffed s seats c rows) ≤ u → u ≡ t + actives (staffed s seats c l) → actives (staffed s seats n (x ∷ [])) ≤ t
-  unmet-here u t h f = omega (arith, actives-parts)
-
-  pub unmet-older : (u t k : ℕ) → actives (staffed s seats c rows) ≤ u → u ≡ t + actives (staffed s seats c l) → t ≡ k + actives (staffed s seats n (x ∷ [])) → actives (staffed s seats m r) ≤ k
-  unmet-older u t k h f g = omega (arith, actives-parts)
-
--- the newer rows, the topmost one, and the older ones
-pub walk-parts : (s : Sharing) (seats : List (Option ℕ)) (rows l : List Row) (x : Row) (r : List Row)
-    (c n m after u t k left v w y end : ℕ) (b0 b1 b2 b3 : Counts)
-    → rows ≡ l ++ x ∷ r → w ≡ v + 1 → IsWalk s seats l c n u t w y b0 b1
-    → IsListed (staffed s seats n (x ∷ [])) b1 b2 → m ≡ row_carry s n x → t ≡ k + actives (staffed s seats n (x ∷ []))
-    → IsWalk s seats r m after k left y end b2 b3
-    → IsWalk s seats rows c after u left v end b0 b3
-walk-parts s seats rows l x r c n m after u t k left v w y end b0 b1 b2 b3 e entered f here j met g =
+-- some rows, and then others
+pub walk-append : (s : Sharing) (seats : List (Option ℕ)) (rows l r : List Row) (c n after u t left v w end : ℕ) (b0 b1 b2 : Counts)
+    → rows ≡ l ++ r → IsWalk s seats l c n u t v w b0 b1 → IsWalk s seats r n after t left w end b1 b2 → IsWalk s seats rows c after u left v end b0 b2
+walk-append s seats rows l r c n after u t left v w end b0 b1 b2 e f g =
     let L : List Staffing = staffed s seats c l in
-    let X : List Staffing = staffed s seats n (x ∷ []) in
-    let R : List Staffing = staffed s seats m r in
-    let parts : staffed s seats c rows ≡ L ++ (X ++ R) = staffed-parts s seats c n m rows l x r e f.carried j in
-    let active : actives (staffed s seats c rows) ≡ actives L + actives (X ++ R) = ap actives parts ∙ actives-append L (X ++ R) in
-    let listed : imbalances (staffed s seats c rows) ≡ imbalances L + imbalances (X ++ R) = ap imbalances parts ∙ imbalances-append L (X ++ R) in
-    let lengths : length rows ≡ length l + length (x ∷ r) = ap length e ∙ length-append l (x ∷ r) in
+    let R : List Staffing = staffed s seats n r in
+    let parts : staffed s seats c rows ≡ L ++ R = staffed-parts s seats rows l r c n e f.carried in
     record {
-      listed = subst (λ xs. IsListed xs b0 b3) (sym parts) (listed-append L (X ++ R) b0 b1 b3 f.listed (listed-append X R b1 b2 b3 here g.listed));
-      carried = g.carried ∙ carry-parts s c n m rows l x r e f.carried j;
-      met = omega (arith, f.met, met, g.met, active, actives-append X R);
-      looked = omega (arith, entered, f.looked, g.looked, listed, imbalances-append X R, listed-once (at-row s seats n x));
-      once = omega (arith, entered, f.once, g.once, lengths);
+      listed = subst (λ xs. IsListed xs b0 b2) (sym parts) (listed-append L R b0 b1 b2 f.listed g.listed);
+      carried = g.carried ∙ ap (λ k. carry_after s k r) f.carried ∙ sym (ap (carry_after s c) e ∙ carry-append s c l r);
+      met = omega (arith, f.met, g.met, ap actives parts ∙ actives-append L R);
+      looked = omega (arith, f.looked, g.looked, ap imbalances parts ∙ imbalances-append L R);
+      once = omega (arith, f.once, g.once, ap length e ∙ length-append l r);
+    }
+
+-- a row that is looked at
+pub walk-row : (s : Sharing) (seats : List (Option ℕ)) (x : Row) (c n u t v w : ℕ) (b0 b1 : Counts) → w ≡ v + 1
+    → IsListed (staffed s seats c (x ∷ [])) b0 b1 → n ≡ row_carry s c x → u ≡ t + actives (staffed s seats c (x ∷ [])) → IsWalk s seats (x ∷ []) c n u t v w b0 b1
+walk-row s seats x c n u t v w b0 b1 counted here carry met =
+    record {
+      listed = here;
+      carried = carry;
+      met = met;
+      looked = omega (arith, counted, listed-once (at-row s seats c x));
+      once = omega (arith, counted);
     }
 
 -- rows have no more seats than there are, each
@@ -275,33 +217,116 @@ pub none-picked : (w : ℕ) (seats : List (Option ℕ)) (c : ℕ) (rows : List R
 none-picked w seats c [] nobody = (refl, refl)
 none-picked w seats c (x ∷ rows) nobody = idle-row (Picked None w) seats c c x rows refl nobody (none-picked w seats c rows)
 
--- ---- a stretch that is passed over, as the code finds it
+-- ---- on the way through rows
 
--- no seat is left to be met
-nobody-left : (n u : ℕ) → n ≤ u → u ≤ 0 → n ≡ 0
-nobody-left n u h z = omega arith
+-- what a walk has to know of the rows that are left: that they can share, by a carry that is low, and that their seats are yet to be met
+pub record IsReady (s : Sharing) (seats : List (Option ℕ)) (rows : List Row) (c u : ℕ) : Type 0 where
+  pub shared : CanShareAll s c (requests rows)
+  pub low : IsLow s c
+  pub unmet : actives (staffed s seats c rows) ≤ u
 
-pub past-idle : (s : Sharing) (k d : ℕ) (seats : List (Option ℕ)) (c n u v : ℕ) (b : Counts) (rows : List Row) → s ≡ Carried k d → n ≡ requests rows → n ≡ 0
-    → actives (staffed s seats c rows) ≤ u → u ≤ 0 → IsWalk s seats rows c c u u v v b b
-past-idle s k d seats c n u v b rows e same z met none =
-    subst (λ t. actives (staffed t seats c rows) ≤ u → IsWalk t seats rows c c u u v v b b) (sym e) (λ few.
-    let nobody : actives (staffed (Carried k d) seats c rows) ≡ 0 = nobody-left _ u few none in
-    let idle : IsNothing (Carried k d) seats c c rows = none-asks k d seats c rows (sym same ∙ z) nobody in
-    walk-nothing (Carried k d) seats c c u v b rows idle.0 idle.1 nobody) met
+-- it is so of the first part
+pub ready-front : (s : Sharing) (seats : List (Option ℕ)) (rows l r : List Row) (c u : ℕ) → rows ≡ l ++ r → IsReady s seats rows c u → IsReady s seats l c u
+ready-front s seats rows l r c u e h =
+    let parts : staffed s seats c rows ≡ staffed s seats c l ++ staffed s seats (carry_after s c l) r = staffed-parts s seats rows l r c (carry_after s c l) e refl in
+    record {
+      shared = share-part s c c (requests rows) (requests l) h.shared (omega (arith, ap requests e ∙ requests-append l r)) h.low;
+      low = h.low;
+      unmet = omega (arith, h.unmet, ap actives parts ∙ actives-append (staffed s seats c l) (staffed s seats (carry_after s c l) r));
+    }
 
-pub past-due : (s : Sharing) (k d : ℕ) (seats : List (Option ℕ)) (c n u v : ℕ) (b : Counts) (rows : List Row) → s ≡ Carried k d → n ≡ requests rows → k * n + c < d
-    → actives (staffed s seats c rows) ≤ u → u ≤ 0 → IsWalk s seats rows c (k * n + c) u u v v b b
-past-due s k d seats c n u v b rows e same low met none =
-    subst (λ t. actives (staffed t seats c rows) ≤ u → IsWalk t seats rows c (k * n + c) u u v v b b) (sym e) (λ few.
-    let nobody : actives (staffed (Carried k d) seats c rows) ≡ 0 = nobody-left _ u few none in
-    let turned : k * n + c ≡ c + k * requests rows = ap (λ m. k * m + c) same ∙ (let t : k * requests rows + c ≡ c + k * requests rows = omega arith in t) in
-    let idle : IsNothing (Carried k d) seats c (k * n + c) rows = due-below k d seats c (k * n + c) rows (omega (arith, turned, low)) turned nobody in
-    walk-nothing (Carried k d) seats c (k * n + c) u v b rows idle.0 idle.1 nobody) met
+-- and of the rest, once that is walked through
+pub ready-after : (s : Sharing) (seats : List (Option ℕ)) (rows l r : List Row) (c n u t : ℕ) → rows ≡ l ++ r → n ≡ carry_after s c l → u ≡ t + actives (staffed s seats c l) → IsReady s seats rows c u → IsReady s seats r n t
+ready-after s seats rows l r c n u t e i met h =
+    let parts : staffed s seats c rows ≡ staffed s seats c l ++ staffed s seats n r = staffed-parts s seats rows l r c n e i in
+    let sums : requests rows ≡ requests l + requests r = ap requests e ∙ requests-append l r in
+    let low : IsLow s n = subst (IsLow s) (sym i) (low-after s c l (ready-front s seats rows l r c u e h).shared h.low) in
+    record {
+      shared = share-part s c n (requests rows) (requests r) h.shared (omega (arith, sums)) low;
+      low = low;
+      unmet = omega (arith, h.unmet, met, ap actives parts ∙ actives-append (staffed s seats c l) (staffed s seats n r));
+    }
 
-pub past-picked : (s : Sharing) (picked : Option ℕ) (w : ℕ) (seats : List (Option ℕ)) (c u v : ℕ) (b : Counts) (rows : List Row) → s ≡ Picked picked w → picked ≡ None
-    → actives (staffed s seats c rows) ≤ u → u ≤ 0 → IsWalk s seats rows c c u u v v b b
-past-picked s picked w seats c u v b rows e nobody_served met none =
-    subst (λ t. actives (staffed t seats c rows) ≤ u → IsWalk t seats rows c c u u v v b b) (sym (e ∙ ap (λ o. Picked o w) nobody_served)) (λ few.
-    let nobody : actives (staffed (Picked None w) seats c rows) ≡ 0 = nobody-left _ u few none in
-    let idle : IsNothing (Picked None w) seats c c rows = none-picked w seats c rows nobody in
-    walk-nothing (Picked None w) seats c c u v b rows idle.0 idle.1 nobody) met
+abbrev pub ListsNothing : Sharing → List (Option ℕ) → ℕ → List Row → Type 0
+ListsNothing s seats c rows = counts_in (staffed s seats c rows) ≡ record { recalls = []; hires = [] }
+
+-- where nothing is listed, nothing is of the first part
+pub none-front : (s : Sharing) (seats : List (Option ℕ)) (rows l r : List Row) (c : ℕ) → rows ≡ l ++ r → ListsNothing s seats c rows → ListsNothing s seats c l
+none-front s seats rows l r c e none =
+    (none-listed (staffed s seats c l) (staffed s seats (carry_after s c l) r) (ap counts_in (sym (staffed-parts s seats rows l r c (carry_after s c l) e refl)) ∙ none)).0
+
+-- nor of the rest
+pub none-after : (s : Sharing) (seats : List (Option ℕ)) (rows l r : List Row) (c n : ℕ) → rows ≡ l ++ r → n ≡ carry_after s c l → ListsNothing s seats c rows → ListsNothing s seats n r
+none-after s seats rows l r c n e i none =
+    (none-listed (staffed s seats c l) (staffed s seats n r) (ap counts_in (sym (staffed-parts s seats rows l r c n e i)) ∙ none)).1
+
+-- ---- past rows that are passed over
+
+-- the rows that are left
+module _ (s : Sharing) (seats : List (Option ℕ)) (rows rest : List Row) (c e u : ℕ) (o : IsOver s seats rows rest c e u) where
+  over : (v : ℕ) (b : Counts) → IsWalk s seats o.passed c e u u v v b b
+  over = o.walked
+
+  pub ready-past : IsReady s seats rows c u → IsReady s seats rest e u
+  ready-past h =
+      let walked = over 0 (record { recalls = []; hires = [] }) in
+      ready-after s seats rows o.passed rest c e u u o.rows_are walked.carried walked.met h
+
+  pub none-past : ListsNothing s seats c rows → ListsNothing s seats e rest
+  none-past none = none-after s seats rows o.passed rest c e o.rows_are (over 0 (record { recalls = []; hires = [] })).carried none
+
+  pub fewer-past : length rest ≤ length rows
+  fewer-past = omega (arith, ap length o.rows_are ∙ length-append o.passed rest)
+
+  pub walk-past : (after left v end : ℕ) (b0 b1 : Counts) → IsWalk s seats rest e after u left v end b0 b1 → IsWalk s seats rows c after u left v end b0 b1
+  walk-past after left v end b0 b1 g = walk-append s seats rows o.passed rest c e after u u left v v end b0 b0 b1 o.rows_are (over v b0) g
+
+-- ---- what is passed over, as the code finds it
+
+nothing-over : (s : Sharing) (seats : List (Option ℕ)) (rows passed rest : List Row) (c e u : ℕ) → rows ≡ passed ++ rest → IsNothing s seats c e passed → actives (staffed s seats c passed) ≡ 0 → IsOver s seats rows rest c e u
+nothing-over s seats rows passed rest c e u is none nobody = record {
+  passed = passed;
+  rows_are = is;
+  walked = λ visits lists. walk-nothing s seats c e u visits lists passed none.0 none.1 nobody;
+}
+
+due-over : (k d : ℕ) (seats : List (Option ℕ)) (rows rest : List Row) (c e u : ℕ) → u ≡ 0 → IsPassed k (max d 1) rows rest c e → IsReady (Carried k d) seats rows c u → IsOver (Carried k d) seats rows rest c e u
+due-over k d seats rows rest c e u met p h =
+    let front : IsReady (Carried k d) seats p.passed c u = ready-front (Carried k d) seats rows p.passed rest c u p.rows_are h in
+    let nobody : actives (staffed (Carried k d) seats c p.passed) ≡ 0 = omega (arith, met, front.unmet) in
+    let low : e < max d 1 = p.below h.low in
+    elim (cases_eq (requests p.passed) 0) [
+      | inl z ↦
+          let same : e ≡ c = p.carried ∙ ap (λ n. c + k * n) z ∙ omega arith in
+          nothing-over (Carried k d) seats rows p.passed rest c e u p.rows_are (subst (λ n. IsNothing (Carried k d) seats c n p.passed) (sym same) (none-asks k d seats c p.passed z nobody)) nobody
+      | inr some ↦
+          let asked : 0 < d = omega (arith, some, front.shared.1.1.0) in
+          nothing-over (Carried k d) seats rows p.passed rest c e u p.rows_are (due-below k d seats c e p.passed (omega (arith, asked, low, p.carried)) p.carried nobody) nobody
+    ]
+
+shared-over : (s : Sharing) (k d : ℕ) (seats : List (Option ℕ)) (rows rest : List Row) (c e u : ℕ) → u ≡ 0 → AreShared s k d → IsPassed k d rows rest c e → IsReady s seats rows c u → IsOver s seats rows rest c e u
+shared-over (Carried a q) k d seats rows rest c e u met by p h = due-over a q seats rows rest c e u met (subst (λ n. IsPassed n (max q 1) rows rest c e) by.0 (subst (λ n. IsPassed k n rows rest c e) by.1 p)) h
+shared-over (Picked o w) k d seats rows rest c e u met by p h = absurd by
+
+-- those whom no worker is due to, once all seats are met
+pub passed-over : (s : Sharing) (k d : ℕ) (seats : List (Option ℕ)) (rows rest : List Row) (c e u : ℕ) → IsPassing s u k d → IsPassed k d rows rest c e → IsReady s seats rows c u → IsOver s seats rows rest c e u
+passed-over s k d seats rows rest c e u by p h =
+    elim (cases_eq d 0) [
+      | inl z ↦
+          let none : p.passed ≡ [] = p.none (omega (arith, z)) in
+          let same : e ≡ c = p.carried ∙ ap (λ l. c + k * requests l) none ∙ omega arith in
+          record {
+            passed = [];
+            rows_are = p.rows_are ∙ ap (λ l. l ++ rest) none;
+            walked = λ visits lists. subst (λ n. IsWalk s seats [] c n u u visits visits lists lists) (sym same) (walk-ends s seats c u visits visits lists [] refl refl);
+          }
+      | inr some ↦ let due = by.due (omega (arith, some)) in shared-over s k d seats rows rest c e u due.0 due.1 p h
+    ]
+
+-- all, where nobody is served
+pub all-over : (s : Sharing) (seats : List (Option ℕ)) (rows : List Row) (c u : ℕ) → IsUnserved s u → IsReady s seats rows c u → IsOver s seats rows [] c c u
+all-over (Carried k d) seats rows c u none h = absurd none
+all-over (Picked o w) seats rows c u none h =
+    let nobody : actives (staffed (Picked o w) seats c rows) ≡ 0 = omega (arith, none.0, h.unmet) in
+    subst (λ p. actives (staffed (Picked p w) seats c rows) ≡ 0 → IsOver (Picked p w) seats rows [] c c u) (sym none.1)
+    (λ idle. nothing-over (Picked None w) seats rows rows [] c c u (sym (append-nil rows)) (none-picked w seats c rows idle) idle) nobody

@@ -1,132 +1,144 @@
--- A search through a stretch, told of its topmost row and of the stretches before and after it.
-use Rattle.std.proofs.Common.{◌≡◌, ℕ, ◌+◌, ◌*◌, ◌<◌, ◌≤◌, List, ◌∷◌, ◌++◌, length, Option, Some, None, refl, sym, ap, ◌∙◌, arith, inl, inr, length-append}
+-- A look at rows one after the other, and a search through rows that passes over some.
+use Rattle.std.proofs.Common.{◌≡◌, ℕ, ◌+◌, ◌*◌, ◌<◌, ◌≤◌, List, [], ◌∷◌, ◌++◌, length, Option, Some, None, refl, sym, ap, ◌∙◌, arith, length-append}
 use Rattle.std.specs.List.{count_by}
 use Rattle.std.proofs.Math.Nat.{mul-le-mul_left}
-use Rattle.std.proofs.lemmas.Bool.{cases_lt}
 use Rattle.market_types.specs.declared.row.Row.{Row}
 use Rattle.market_types.specs.Allotment.{is_just}
-use Rattle.level_list.specs.Rows.{requests}
+use Rattle.prefix_tree.specs.Rows.{requests}
+use Rattle.prefix_tree.proofs.Readings.{requests-append}
+use Rattle.wide_rows.specs.Passed.{IsPassed}
 use Rattle.recall_hire.specs.declared.rows.Staffing.{Staffing}
 use Rattle.recall_hire.specs.declared.sharing.Sharing.TheVariants.{Carried}
 use Rattle.recall_hire.specs.Staffed.{first_in_need, searches}
-use Rattle.recall_hire.specs.Shared.{IsSearch, row_share, row_carry, staffed, carry_after}
-use Rattle.recall_hire.proofs.Shares.{row_at, IsPassed, passed, looked-at, staffed-append, carry-append, need-later, need-first, searches-later, searches-first, need-lacks, searches-lacks, need-enough, searches-enough}
+use Rattle.recall_hire.specs.Shared.{IsLook, IsSearch, row_share, row_carry, staffed, carry_after}
+use Rattle.recall_hire.proofs.Shares.{row_at, AreIdle, idle, looked-at, staffed-append, need-later, need-first, searches-later, searches-first, need-lacks, searches-lacks, need-enough, searches-enough}
 
--- nobody in it is allotted a worker: nothing is entered
-pub passed-over : (k d : ℕ) (seats : List (Option ℕ)) (rows : List Row × ℕ) (c n v : ℕ) → n ≡ requests rows.0 → k * n + c < d → IsSearch k d seats rows c (k * n + c) v v None
-passed-over k d seats rows c n v e h =
-    let less : k * requests rows.0 + c < d = rw e at h in
-    let p : IsPassed k d seats c rows.0 = passed k d seats c rows.0 (omega arith) in
-    let turned : k * requests rows.0 + c ≡ c + k * requests rows.0 = omega arith in
+-- ---- a look
+
+-- no row is left
+pub look-ends : (k d : ℕ) (seats : List (Option ℕ)) (rows : List Row) (c v w : ℕ) → c < d → rows ≡ [] → w ≡ v → IsLook k d seats rows c c v w None
+look-ends k d seats rows c v w low none same = rw (none, same) (record { found_is = refl; carried = λ _. refl; below = λ _. low; looked = omega arith; once = omega arith })
+
+-- the next row has too few
+pub look-finds : (k d : ℕ) (seats : List (Option ℕ)) (rows : List Row) (x : Row) (r : List Row) (c after v w : ℕ) → rows ≡ x ∷ r → w ≡ v + 1
+    → count_by (is_just x.arena) seats < row_share (Carried k d) c x → IsLook k d seats rows c after v w (Some x.arena)
+look-finds k d seats rows x r c after v w e counted lacks =
+    let later : List Staffing = staffed (Carried k d) seats (row_carry (Carried k d) c x) r in
+    let parts : staffed (Carried k d) seats c rows ≡ row_at k d seats c x ∷ later = ap (staffed (Carried k d) seats c) e in
     record {
-      found_is = sym p.need;
-      carried = λ _. ap (λ m. k * m + c) e ∙ turned ∙ sym p.carry;
-      below = λ _. h;
-      looked = omega (arith, p.none);
+      found_is = sym (ap first_in_need parts ∙ need-lacks (row_at k d seats c x) later lacks);
+      carried = λ n. absurd (let no : Some x.arena ≡ None = n in cc);
+      below = λ n. absurd (let no : Some x.arena ≡ None = n in cc);
+      looked = omega (arith, counted, ap searches parts ∙ searches-lacks (row_at k d seats c x) later lacks);
+      once = omega (arith, counted, ap length e);
+    }
+
+-- it has enough, so the look goes on
+pub look-goes-on : (k d : ℕ) (seats : List (Option ℕ)) (rows : List Row) (x : Row) (r : List Row) (c next after v w end : ℕ) (found : Option ℕ) → rows ≡ x ∷ r → w ≡ v + 1
+    → row_share (Carried k d) c x ≤ count_by (is_just x.arena) seats → next ≡ row_carry (Carried k d) c x
+    → IsLook k d seats r next after w end found → IsLook k d seats rows c after v end found
+look-goes-on k d seats rows x r c next after v w end found e counted enough n g =
+    let here : Staffing = row_at k d seats c x in
+    let later : List Staffing = staffed (Carried k d) seats next r in
+    let parts : staffed (Carried k d) seats c rows ≡ here ∷ later = ap (staffed (Carried k d) seats c) e ∙ ap (λ m. here ∷ staffed (Carried k d) seats m r) (sym n) in
+    let bounds : (searches later ≤ searches (here ∷ later)) × (searches (here ∷ later) ≤ searches later + 1) = searches-enough here later enough in
+    record {
+      found_is = g.found_is ∙ sym (ap first_in_need parts ∙ need-enough here later enough);
+      carried = λ none. g.carried none ∙ ap (λ m. carry_after (Carried k d) m r) n ∙ sym (ap (carry_after (Carried k d) c) e);
+      below = g.below;
+      looked = omega (arith, g.looked, counted, ap searches parts, bounds.1);
+      once = omega (arith, g.once, counted, ap length e);
+    }
+
+-- ---- a search
+
+-- what is passed over changes nothing
+pub record IsSame (k d : ℕ) (seats : List (Option ℕ)) (rows rest : List Row) (c e : ℕ) : Type 0 where
+  pub low : e < d
+  pub need : first_in_need (staffed (Carried k d) seats c rows) ≡ first_in_need (staffed (Carried k d) seats e rest)
+  pub counted : searches (staffed (Carried k d) seats c rows) ≡ searches (staffed (Carried k d) seats e rest)
+  pub fewer : length rest ≤ length rows
+
+pub passed-over : (k d : ℕ) (seats : List (Option ℕ)) (rows rest : List Row) (c e : ℕ) → c < d → IsPassed k d rows rest c e → IsSame k d seats rows rest c e
+passed-over k d seats rows rest c e low p =
+    let before : List Staffing = staffed (Carried k d) seats c p.passed in
+    let later : List Staffing = staffed (Carried k d) seats e rest in
+    let below : e < d = p.below low in
+    let none : AreIdle k d seats c p.passed = idle k d seats c p.passed (omega (arith, p.carried, below)) in
+    let parts : staffed (Carried k d) seats c rows ≡ before ++ later =
+    ap (staffed (Carried k d) seats c) p.rows_are ∙ staffed-append (Carried k d) seats c p.passed rest
+    ∙ ap (λ m. before ++ staffed (Carried k d) seats m rest) (none.carry ∙ sym p.carried) in
+    record {
+      low = below;
+      need = ap first_in_need parts ∙ need-later before later none.need;
+      counted = ap searches parts ∙ searches-later before later none.need ∙ omega (arith, none.none);
+      fewer = omega (arith, ap length p.rows_are ∙ length-append p.passed rest);
+    }
+
+-- nobody is left to whom a worker is due
+pub search-ends : (k d : ℕ) (seats : List (Option ℕ)) (rows : List Row) (h c e v : ℕ) → c < d → IsPassed k d rows [] c e → IsSearch k d seats (rows, h) c v v None
+search-ends k d seats rows h c e v low p =
+    let same : IsSame k d seats rows [] c e = passed-over k d seats rows [] c e low p in
+    record {
+      found_is = sym same.need;
+      looked = omega (arith, same.counted);
       once = omega arith;
       most = omega arith;
     }
 
--- what a stretch opens to, where a worker is due to it
-pub record IsOpened (k d c : ℕ) (rows l : List Row × ℕ) (x : Row) (r : List Row × ℕ) : Type 0 where
-  pub rows_are : rows.0 ≡ l.0 ++ x ∷ r.0
-  pub left : l.1 < rows.1
-  pub right : r.1 < rows.1
-  pub below : c < d
-  pub due : d ≤ c + k * requests rows.0
+-- what comes next and what is left are part of what there was
+pub record IsPart (rows next rest : List Row) : Type 0 where
+  pub fewer : length next + length rest ≤ length rows
+  pub less : requests next + requests rest ≤ requests rows
 
--- one way down more for each
-deeper : (a h s : ℕ) → a < h → a * s + s ≤ h * s
-deeper a h s p = omega (arith, mul-le-mul_left s (let q : a + 1 ≤ h = omega arith in q))
+pub next-part : (k d : ℕ) (rows next rest : List Row) (c e : ℕ) → IsPassed k d rows (next ++ rest) c e → IsPart rows next rest
+next-part k d rows next rest c e p = record {
+  fewer = omega (arith, ap length p.rows_are ∙ length-append p.passed (next ++ rest), length-append next rest);
+  less = omega (arith, ap requests p.rows_are ∙ requests-append p.passed (next ++ rest), requests-append next rest);
+}
 
--- somebody was found among the newer rows
-pub found-newer : (k d : ℕ) (seats : List (Option ℕ)) (rows l : List Row × ℕ) (x : Row) (r : List Row × ℕ) (c after v w more a : ℕ)
-    → IsOpened k d c rows l x r → w ≡ v + 1 → IsSearch k d seats l c after w more (Some a) → IsSearch k d seats rows c after v more (Some a)
-found-newer k d seats rows l x r c after v w more a o e f =
-    let S : List Row → List Staffing = λ t. staffed (Carried k d) seats c t in
-    let later : List Staffing = staffed (Carried k d) seats (carry_after (Carried k d) c l.0) (x ∷ r.0) in
-    let parts : S rows.0 ≡ S l.0 ++ later = ap S o.rows_are ∙ staffed-append (Carried k d) seats c l.0 (x ∷ r.0) in
-    let need : first_in_need (S rows.0) ≡ Some a = ap first_in_need parts ∙ need-first (S l.0) later a (sym f.found_is) in
-    let counted : searches (S rows.0) ≡ searches (S l.0) = ap searches parts ∙ searches-first (S l.0) later a (sym f.found_is) in
-    let some : 1 ≤ searches (S rows.0) = looked-at k d seats c rows.0 o.below o.due in
-    let lengths : length rows.0 ≡ length l.0 + length (x ∷ r.0) = ap length o.rows_are ∙ length-append l.0 (x ∷ r.0) in
-    let ways : rows.1 * searches (S rows.0) ≡ rows.1 * searches (S l.0) = ap (λ n. rows.1 * n) counted in
+-- the rows that come next in a search of which so many are looked at together, with somebody among them whom a worker is due to
+pub record IsNext (k d : ℕ) (rows next rest : List Row) (h c e : ℕ) : Type 0 where
+  pub low : c < d
+  pub passed : IsPassed k d rows (next ++ rest) c e
+  pub due : d ≤ e + k * requests next
+  pub few : length next ≤ h
+
+-- somebody among them was found
+pub search-finds : (k d : ℕ) (seats : List (Option ℕ)) (rows next rest : List Row) (h c e after v w a : ℕ) → IsNext k d rows next rest h c e
+    → IsLook k d seats next e after v w (Some a) → IsSearch k d seats (rows, h) c v w (Some a)
+search-finds k d seats rows next rest h c e after v w a p f =
+    let S : List Staffing = staffed (Carried k d) seats c rows in
+    let here : List Staffing = staffed (Carried k d) seats e next in
+    let later : List Staffing = staffed (Carried k d) seats (carry_after (Carried k d) e next) rest in
+    let same : IsSame k d seats rows (next ++ rest) c e = passed-over k d seats rows (next ++ rest) c e p.low p.passed in
+    let parts : staffed (Carried k d) seats e (next ++ rest) ≡ here ++ later = staffed-append (Carried k d) seats e next rest in
+    let counted : searches S ≡ searches here = same.counted ∙ ap searches parts ∙ searches-first here later a (sym f.found_is) in
+    let some : 1 ≤ searches here = looked-at k d seats e next same.low p.due in
+    let ways : h * searches S ≡ h * searches here = ap (λ n. h * n) counted in
     record {
-      found_is = sym need;
-      carried = λ n. absurd (let no : Some a ≡ None = n in cc);
-      below = λ n. absurd (let no : Some a ≡ None = n in cc);
+      found_is = sym (same.need ∙ ap first_in_need parts ∙ need-first here later a (sym f.found_is));
       looked = omega (arith, f.looked, counted);
-      once = omega (arith, f.once, lengths);
-      most = omega (arith, f.most, counted, some, ways, deeper l.1 rows.1 (searches (S l.0)) o.left);
+      once = omega (arith, f.once, same.fewer, length-append next rest);
+      most = omega (arith, f.once, p.few, ways, mul-le-mul_left h some);
     }
 
--- nobody among these, and the topmost row has too few
-pub found-here : (k d : ℕ) (seats : List (Option ℕ)) (rows l : List Row × ℕ) (x : Row) (r : List Row × ℕ) (c middle after v w more : ℕ)
-    → IsOpened k d c rows l x r → w ≡ v + 1 → IsSearch k d seats l c middle w more None
-    → count_by (is_just x.arena) seats < row_share (Carried k d) middle x → IsSearch k d seats rows c after v more (Some x.arena)
-found-here k d seats rows l x r c middle after v w more o e f lacks =
-    let S : List Row → List Staffing = λ t. staffed (Carried k d) seats c t in
-    let carry : carry_after (Carried k d) c l.0 ≡ middle = sym (f.carried refl) in
-    let rest : List Staffing = staffed (Carried k d) seats (row_carry (Carried k d) middle x) r.0 in
-    let parts : S rows.0 ≡ S l.0 ++ (row_at k d seats middle x ∷ rest) =
-    ap S o.rows_are ∙ staffed-append (Carried k d) seats c l.0 (x ∷ r.0) ∙ ap (λ n. S l.0 ++ staffed (Carried k d) seats n (x ∷ r.0)) carry in
-    let need : first_in_need (S rows.0) ≡ Some x.arena = ap first_in_need parts ∙ need-later (S l.0) (row_at k d seats middle x ∷ rest) (sym f.found_is) ∙ need-lacks (row_at k d seats middle x) rest lacks in
-    let counted : searches (S rows.0) ≡ searches (S l.0) + 1 =
-    ap searches parts ∙ searches-later (S l.0) (row_at k d seats middle x ∷ rest) (sym f.found_is) ∙ ap (λ n. searches (S l.0) + n) (searches-lacks (row_at k d seats middle x) rest lacks) in
-    let lengths : length rows.0 ≡ length l.0 + length (x ∷ r.0) = ap length o.rows_are ∙ length-append l.0 (x ∷ r.0) in
-    let ways : rows.1 * searches (S rows.0) ≡ rows.1 * (searches (S l.0) + 1) = ap (λ n. rows.1 * n) counted in
+-- nobody was, so the search goes on after them
+pub search-goes-on : (k d : ℕ) (seats : List (Option ℕ)) (rows next rest : List Row) (h c e after v w end : ℕ) (found : Option ℕ) → IsNext k d rows next rest h c e
+    → IsLook k d seats next e after v w None → IsSearch k d seats (rest, h) after w end found → IsSearch k d seats (rows, h) c v end found
+search-goes-on k d seats rows next rest h c e after v w end found p f g =
+    let S : List Staffing = staffed (Carried k d) seats c rows in
+    let here : List Staffing = staffed (Carried k d) seats e next in
+    let later : List Staffing = staffed (Carried k d) seats after rest in
+    let same : IsSame k d seats rows (next ++ rest) c e = passed-over k d seats rows (next ++ rest) c e p.low p.passed in
+    let parts : staffed (Carried k d) seats e (next ++ rest) ≡ here ++ later =
+    staffed-append (Carried k d) seats e next rest ∙ ap (λ m. here ++ staffed (Carried k d) seats m rest) (sym (f.carried refl)) in
+    let counted : searches S ≡ searches here + searches later = same.counted ∙ ap searches parts ∙ searches-later here later (sym f.found_is) in
+    let some : 1 ≤ searches here = looked-at k d seats e next same.low p.due in
+    let ways : h * searches S ≡ h * (searches here + searches later) = ap (λ n. h * n) counted in
     record {
-      found_is = sym need;
-      carried = λ n. absurd (let no : Some x.arena ≡ None = n in cc);
-      below = λ n. absurd (let no : Some x.arena ≡ None = n in cc);
-      looked = omega (arith, f.looked, counted);
-      once = omega (arith, f.once, lengths);
-      most = omega (arith, f.most, ways, o.left, deeper l.1 rows.1 (searches (S l.0)) o.left);
-    }
-
--- the ways down on both sides of a row, and its node
-both-ways : (h a b s t all : ℕ) → a < h → b < h → 1 ≤ all → s + t ≤ all → all ≤ s + t + 1 → a * s + b * t + 1 ≤ h * all
-both-ways h a b s t all p q some low high =
-    elim (cases_lt 0 (s + t)) [
-      | inl few ↦
-          omega (arith, deeper a h s p, deeper b h t q, mul-le-mul_left h low)
-      | inr none ↦
-          let no_s : s ≡ 0 = omega arith in
-          let no_t : t ≡ 0 = omega arith in
-          let one : all ≡ 1 = omega arith in
-          rw (no_s, no_t, one) (omega arith)
-    ]
-
--- neither, so it goes on among the older rows
-pub goes-on : (k d : ℕ) (seats : List (Option ℕ)) (rows l : List Row × ℕ) (x : Row) (r : List Row × ℕ) (c middle next after v w more end : ℕ) (found : Option ℕ)
-    → IsOpened k d c rows l x r → w ≡ v + 1 → IsSearch k d seats l c middle w more None
-    → row_share (Carried k d) middle x ≤ count_by (is_just x.arena) seats → next ≡ row_carry (Carried k d) middle x
-    → IsSearch k d seats r next after more end found → IsSearch k d seats rows c after v end found
-goes-on k d seats rows l x r c middle next after v w more end found o e f enough n g =
-    let S : List Row → List Staffing = λ t. staffed (Carried k d) seats c t in
-    let carry : carry_after (Carried k d) c l.0 ≡ middle = sym (f.carried refl) in
-    let rest : List Staffing = staffed (Carried k d) seats next r.0 in
-    let here : Staffing = row_at k d seats middle x in
-    let parts : S rows.0 ≡ S l.0 ++ (here ∷ rest) =
-    ap S o.rows_are ∙ staffed-append (Carried k d) seats c l.0 (x ∷ r.0) ∙ ap (λ m. S l.0 ++ staffed (Carried k d) seats m (x ∷ r.0)) carry
-    ∙ ap (λ m. S l.0 ++ (here ∷ staffed (Carried k d) seats m r.0)) (sym n) in
-    let need : first_in_need (S rows.0) ≡ first_in_need rest = ap first_in_need parts ∙ need-later (S l.0) (here ∷ rest) (sym f.found_is) ∙ need-enough here rest enough in
-    let counted : searches (S rows.0) ≡ searches (S l.0) + searches (here ∷ rest) = ap searches parts ∙ searches-later (S l.0) (here ∷ rest) (sym f.found_is) in
-    let bounds : (searches rest ≤ searches (here ∷ rest)) × (searches (here ∷ rest) ≤ searches rest + 1) = searches-enough here rest enough in
-    let some : 1 ≤ searches (S rows.0) = looked-at k d seats c rows.0 o.below o.due in
-    let lengths : length rows.0 ≡ length l.0 + length (x ∷ r.0) = ap length o.rows_are ∙ length-append l.0 (x ∷ r.0) in
-    record {
-      found_is = g.found_is ∙ sym need;
-      carried = λ none. g.carried none ∙ ap (λ m. carry_after (Carried k d) m r.0) n
-          ∙ sym (ap (carry_after (Carried k d) c) o.rows_are ∙ carry-append (Carried k d) c l.0 (x ∷ r.0) ∙ ap (λ m. carry_after (Carried k d) m (x ∷ r.0)) carry);
-      below = g.below;
-      looked = omega (arith, f.looked, g.looked, counted, bounds.0, bounds.1);
-      once = omega (arith, f.once, g.once, lengths);
-      most =
-          omega (
-            arith,
-            f.most,
-            g.most,
-            both-ways rows.1 l.1 r.1 (searches (S l.0)) (searches rest) (searches (S rows.0)) o.left o.right some (omega (arith, counted, bounds.0)) (omega (arith, counted, bounds.1)),
-          );
+      found_is = g.found_is ∙ sym (same.need ∙ ap first_in_need parts ∙ need-later here later (sym f.found_is));
+      looked = omega (arith, f.looked, g.looked, counted);
+      once = omega (arith, f.once, g.once, same.fewer, length-append next rest);
+      most = omega (arith, f.once, g.most, p.few, ways, mul-le-mul_left h some);
     }

@@ -4,10 +4,10 @@ use Rattle.std.specs.List.{count_by}
 use Rattle.std.proofs.Math.Arith.{digits_div, digits_mod}
 use Rattle.std.proofs.Math.Nat.{div-eq_of_lt, mod-eq_of_lt, lt-div-mul-add, zero-div, zero-mod}
 use Rattle.std.proofs.lemmas.Bool.{cases_eq, cases_lt, lt-ltb, le-ltb, eq-eqb, ne_eqb}
-use Rattle.std.proofs.lemmas.List.Sums.{sum_by-cons, sum_by-append}
 use Rattle.market_types.specs.declared.row.Row.{Row}
 use Rattle.market_types.specs.Allotment.{is_just}
-use Rattle.level_list.specs.Rows.{requests}
+use Rattle.prefix_tree.specs.Rows.{requests}
+use Rattle.prefix_tree.proofs.Readings.{requests-cons}
 use Rattle.recall_hire.specs.declared.rows.Staffing.{Staffing}
 use Rattle.recall_hire.specs.declared.sharing.Sharing.{Sharing}
 use Rattle.recall_hire.specs.declared.sharing.Sharing.TheVariants.{Carried}
@@ -57,12 +57,6 @@ carry-rest q k d c a low due kept few =
     ]
 
 -- ---- two lists
-
-pub requests-cons : (x : Row) (rows : List Row) → requests (x ∷ rows) ≡ x.request + requests rows
-requests-cons x rows = sum_by-cons (λ (y : Row). y.request) x rows
-
-pub requests-parts : (l : List Row) (x : Row) (r : List Row) → requests (l ++ x ∷ r) ≡ requests l + x.request + requests r
-requests-parts l x r = omega (arith, sum_by-append (λ (y : Row). y.request) l (x ∷ r), requests-cons x r)
 
 -- the second is staffed by the carry after the first
 pub staffed-append : (s : Sharing) (seats : List (Option ℕ)) (c : ℕ) (l m : List Row)
@@ -159,36 +153,36 @@ searches-some r l h =
       | inr p ↦ rw (ne_eqb r.allotted 0 (λ n. absurd (omega arith)), le-ltb 0 (hire_in r) p) (omega arith)
     ]
 
--- ---- a stretch as a whole
+-- ---- rows as a whole
 
 -- a row beside what it is allotted and has
 abbrev pub row_at : ℕ → ℕ → List (Option ℕ) → ℕ → Row → Staffing
 row_at k d seats c x = record { arena = x.arena; allotted = row_share (Carried k d) c x; active = count_by (is_just x.arena) seats }
 
--- nobody in it is allotted a worker
-pub record IsPassed (k d : ℕ) (seats : List (Option ℕ)) (c : ℕ) (rows : List Row) : Type 0 where
+-- nobody among them is allotted a worker
+pub record AreIdle (k d : ℕ) (seats : List (Option ℕ)) (c : ℕ) (rows : List Row) : Type 0 where
   pub need : first_in_need (staffed (Carried k d) seats c rows) ≡ None
   pub none : searches (staffed (Carried k d) seats c rows) ≡ 0
   pub carry : carry_after (Carried k d) c rows ≡ c + k * requests rows
 
--- so it is where less than a worker is due to all of them
-pub passed : (k d : ℕ) (seats : List (Option ℕ)) (c : ℕ) (rows : List Row) → c + k * requests rows < d → IsPassed k d seats c rows
-passed k d seats c [] h = record { need = refl; none = refl; carry = omega arith }
-passed k d seats c (x ∷ rows) h =
+-- so they are where less than a worker is due to all of them
+pub idle : (k d : ℕ) (seats : List (Option ℕ)) (c : ℕ) (rows : List Row) → c + k * requests rows < d → AreIdle k d seats c rows
+idle k d seats c [] h = record { need = refl; none = refl; carry = omega arith }
+idle k d seats c (x ∷ rows) h =
     let q : ℕ = x.request in
     let all : c + k * (q + requests rows) < d = rw (requests-cons x rows) at h in
     let here : q * k + c < d = omega (arith, all) in
-    let rest : IsPassed k d seats (q * k + c) rows = passed k d seats (q * k + c) rows (omega (arith, all)) in
+    let rest : AreIdle k d seats (q * k + c) rows = idle k d seats (q * k + c) rows (omega (arith, all)) in
     let on : row_carry (Carried k d) c x ≡ q * k + c = carry-below q k d c here in
-    let idle : row_share (Carried k d) c x ≡ 0 = share-below q k d c here in
+    let unserved : row_share (Carried k d) c x ≡ 0 = share-below q k d c here in
     let sums : q * k + c + k * requests rows ≡ c + k * (q + requests rows) = omega arith in
     record {
-      need = need-idle (row_at k d seats c x) (staffed (Carried k d) seats (row_carry (Carried k d) c x) rows) idle ∙ ap (λ n. first_in_need (staffed (Carried k d) seats n rows)) on ∙ rest.need;
-      none = searches-idle (row_at k d seats c x) (staffed (Carried k d) seats (row_carry (Carried k d) c x) rows) idle ∙ ap (λ n. searches (staffed (Carried k d) seats n rows)) on ∙ rest.none;
+      need = need-idle (row_at k d seats c x) (staffed (Carried k d) seats (row_carry (Carried k d) c x) rows) unserved ∙ ap (λ n. first_in_need (staffed (Carried k d) seats n rows)) on ∙ rest.need;
+      none = searches-idle (row_at k d seats c x) (staffed (Carried k d) seats (row_carry (Carried k d) c x) rows) unserved ∙ ap (λ n. searches (staffed (Carried k d) seats n rows)) on ∙ rest.none;
       carry = ap (λ n. carry_after (Carried k d) n rows) on ∙ rest.carry ∙ sums ∙ ap (λ n. c + k * n) (sym (requests-cons x rows));
     }
 
--- where a worker is due, somebody in it is allotted one
+-- where a worker is due to them, somebody among them is allotted one
 some-share : (q k d c : ℕ) → c < d → d ≤ q * k + c → 0 < cond (eqb q 0) 0 ((q * k + c) / d)
 some-share q k d c low h =
     elim (cases_eq q 0) [

@@ -1,5 +1,5 @@
 -- How the workers of a level are shared out among the rows of its arenas, in order.
-use Rattle.std.specs.Prelude.{◌≡◌, ℕ, ◌<◌, ◌≤◌, length, None, ◌+◌, ◌*◌, ◌/◌, ◌%◌, ◌==◌, if◌then◌else◌, List, [], ◌∷◌, ◌++◌, Option}
+use Rattle.std.specs.Prelude.{◌≡◌, ℕ, ◌<◌, ◌≤◌, length, max, None, ◌+◌, ◌*◌, ◌/◌, ◌%◌, ◌^◌, ◌==◌, if◌then◌else◌, List, [], ◌∷◌, ◌++◌, Option}
 use Rattle.std.specs.List.{fold, count_by}
 use Rattle.market_types.specs.declared.row.Row.{Row}
 use Rattle.market_types.specs.Allotment.{is_just}
@@ -36,13 +36,20 @@ pub record CanShare (workers demand carry : ℕ) : Type 0 where
   pub small : demand ≤ 1024 * 65535
   pub carried : carry < demand
 
--- a search among the rows of a stretch: what it found, the carry after it where it found nobody, and its visits, which are
--- one at least for each row that it looked at, no more than a way down for each of these, and no more than one for each row
--- (private functions alone cite this)
-pub record IsSearch (workers demand : ℕ) (seats : List (Option ℕ)) (rows : List Row × ℕ) (before after visits more : ℕ) (found : Option ℕ) : Type 0 where
-  pub found_is : found ≡ first_in_need (staffed (Carried workers demand) seats before rows.0)
-  pub carried : found ≡ None → after ≡ carry_after (Carried workers demand) before rows.0
+-- a look at rows, one after the other: whom it found in need, the carry after them where it found nobody, and its visits, which
+-- are one at least for each row that is allotted a worker, up to and with the one that it found, and no more than one for each
+-- row (private functions alone cite this)
+pub record IsLook (workers demand : ℕ) (seats : List (Option ℕ)) (rows : List Row) (before after visits more : ℕ) (found : Option ℕ) : Type 0 where
+  pub found_is : found ≡ first_in_need (staffed (Carried workers demand) seats before rows)
+  pub carried : found ≡ None → after ≡ carry_after (Carried workers demand) before rows
   pub below : found ≡ None → after < demand
+  pub looked : visits + searches (staffed (Carried workers demand) seats before rows) ≤ more
+  pub once : more ≤ visits + length rows
+
+-- a search through rows, of which it looks at so many together at most: whom it found, and its visits, as those of a look, and
+-- no more than so many for each row that is allotted a worker (private functions alone cite this)
+pub record IsSearch (workers demand : ℕ) (seats : List (Option ℕ)) (rows : List Row × ℕ) (before visits more : ℕ) (found : Option ℕ) : Type 0 where
+  pub found_is : found ≡ first_in_need (staffed (Carried workers demand) seats before rows.0)
   pub looked : visits + searches (staffed (Carried workers demand) seats before rows.0) ≤ more
   pub once : more ≤ visits + length rows.0
   pub most : more ≤ visits + rows.1 * searches (staffed (Carried workers demand) seats before rows.0)
@@ -57,11 +64,40 @@ pub record IsListed (rows : List Staffing) (before after : Counts) : Type 0 wher
   pub recalls : after.recalls ≡ before.recalls ++ above_zero_in recall_in rows
   pub hires : after.hires ≡ before.hires ++ above_zero_in hire_in rows
 
--- a walk over the rows of a stretch: what it listed, the carry after it, the seats that it met, and its visits, which are one
--- at least for each row that it listed, and no more than one for each row (private functions alone cite this)
+-- less than a worker is carried, and nothing where nobody asks or the enqueued work of an arena is served (private functions
+-- alone cite this)
+abbrev pub IsLow : Sharing → ℕ → Type 0
+IsLow (Carried workers demand) carry = carry < max demand 1
+IsLow (Picked arena workers) carry = carry ≡ 0
+
+-- a walk over rows: what it listed, the carry after it, the seats that it met, and its visits, which are one at least for each
+-- row that it listed, and no more than one for each row (private functions alone cite this)
 pub record IsWalk (sharing : Sharing) (seats : List (Option ℕ)) (rows : List Row) (carry after unmet left visits more : ℕ) (before lists : Counts) : Type 0 where
   pub listed : IsListed (staffed sharing seats carry rows) before lists
   pub carried : after ≡ carry_after sharing carry rows
   pub met : unmet ≡ left + actives (staffed sharing seats carry rows)
   pub looked : visits + imbalances (staffed sharing seats carry rows) ≤ more
   pub once : more ≤ visits + length rows
+
+-- the first of these rows are passed over, of which none is listed and none has seats (private functions alone cite this)
+pub record IsOver (sharing : Sharing) (seats : List (Option ℕ)) (rows rest : List Row) (carry after unmet : ℕ) : Type 0 where
+  pub passed : List Row
+  pub rows_are : rows ≡ passed ++ rest
+  pub walked : (visits : ℕ) (lists : Counts) → IsWalk sharing seats passed carry after unmet unmet visits visits lists lists
+
+-- these are the workers and the demand by which they are shared out, and at least 1 of it
+abbrev pub AreShared : Sharing → ℕ → ℕ → Type 0
+AreShared (Carried assigned asked) workers demand = (workers ≡ assigned) × (demand ≡ max asked 1)
+AreShared (Picked arena assigned) workers demand = ⊥
+
+-- by these workers and this demand nobody is passed over, or, once all seats are met, those whom no worker is due to (private
+-- functions alone cite this)
+pub record IsPassing (sharing : Sharing) (unmet workers demand : ℕ) : Type 0 where
+  pub few : workers < 2 ^ 31
+  pub small : demand < 2 ^ 32
+  pub due : 0 < demand → (unmet ≡ 0) × AreShared sharing workers demand
+
+-- all seats are met, and nobody is served (private functions alone cite this)
+abbrev pub IsUnserved : Sharing → ℕ → Type 0
+IsUnserved (Carried workers demand) unmet = ⊥
+IsUnserved (Picked arena workers) unmet = (unmet ≡ 0) × (arena ≡ None)

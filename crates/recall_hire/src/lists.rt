@@ -1,30 +1,29 @@
 //! Where workers are too many or too few: a walk through a level's arenas, past those that cannot be listed.
-ghost use Rattle.std.specs.Prelude.{◌≡◌, ℕ, ◌+◌, ◌^◌, ◌<◌, ◌≤◌, [], ◌∷◌, length, IsOk, IfOk, IfSome, OnOk};
-ghost use Rattle.market_types.specs.Counts.{Counts};
-ghost use Rattle.level_list.specs.Rows.{requests};
+ghost use Rattle.std.specs.Prelude.{◌≡◌, ◌+◌, ◌^◌, ◌<◌, ◌≤◌, [], ◌∷◌, ◌++◌, length, IsOk, IfOk, IfSome, IfNone, OnOk};
+ghost use Rattle.prefix_tree.specs.Rows.{requests};
 ghost use Rattle.recall_hire.specs.Staffed.{actives, counts_in, imbalances};
-ghost use Rattle.recall_hire.specs.Shared.{CanShareAll, row_share, row_carry, staffed, IsListed, IsWalk};
+ghost use Rattle.recall_hire.specs.Shared.{CanShareAll, IsLow, row_share, row_carry, staffed, IsListed, IsOver, IsPassing, IsUnserved, IsWalk};
 
 use crate::roster::Roster;
 use crate::rows::{Staffing, hire, recall};
 use crate::sharing::{Sharing, whole};
-use level_list::Stretch;
 use market_types::{Correction, Imbalance, Lists, Row};
 use std::alloc::AllocError;
 use std::cmp::Ordering;
+use wide_rows::{Quad, Span, Walk};
 
 /// How many arenas lists have room for as soon as one is listed.
 const FIRST_ROOM: usize = 16;
 
 /// Puts a level's arenas, newest first, at the end of lists, each with how many workers it has too many or too few; and
-/// says how many nodes that entered: none twice, and one at least for each arena that it lists. Wants memory only for what
+/// says how many arenas that looked at: none twice, and one at least for each arena that it lists. Wants memory only for what
 /// it lists.
 ///
 /// `unmet` counts seats that may be placed at these arenas, at least those that are. They are taken off it; once none is
 /// left, arenas are passed over where none of them is allotted a worker.
 pub fn list(
     roster: &Roster,
-    rows: &Stretch,
+    rows: &Span,
     sharing: Sharing,
     unmet: &mut u32,
     lists: &mut Lists,
@@ -38,9 +37,16 @@ pub fn list(
     ensures once { IfOk result (λ visits. visits ≤ length rows.now.0) }
     ensures succeeds { counts_in (staffed sharing roster.now 0 rows.now.0) ≡ record { recalls = []; hires = [] } → IsOk result }
 {
-    let listing = Listing { roster, sharing };
     let mut visits = 0;
-    listing.list(rows.again(), 0, unmet, &mut visits, lists)?;
+    let Some(walk) = rows.walk() else {
+        return Ok(visits);
+    };
+    let listing = Listing { roster, sharing };
+    let mut rest = walk;
+    let mut carry = 0;
+    while let Some(quad) = listing.next(&mut rest, &mut carry, *unmet) {
+        carry = listing.list(quad, carry, unmet, &mut visits, lists)?;
+    }
     Ok(visits)
 }
 
@@ -52,100 +58,84 @@ struct Listing<'a> {
 }
 
 impl Listing<'_> {
-    /// Puts a stretch's arenas at the end of lists, and gives the carry past all of them. Their seats are met.
-    #[cycle(list)]
+    /// The next arenas, at most four, of which one may be listed. The carry goes on past those before them, where nobody is
+    /// allotted a worker or has one. All are next while seats are left to be met; then those where a worker is due.
+    #[inline(always)]
+    fn next<'b>(&self, rest: &mut Walk<'b>, carry: &mut u64, unmet: u32) -> Option<Quad<'b>>
+        requires shared { CanShareAll self.now.sharing carry.old (requests rest.old) }
+        requires low { IsLow self.now.sharing carry.old }
+        requires unmet { actives (staffed self.now.sharing self.now.roster.now carry.old rest.old) ≤ unmet }
+        ensures passed { IfSome result (λ quad. IsOver self.now.sharing self.now.roster.now rest.old (quad ++ rest.new) carry.old carry.new unmet) }
+        ensures some { IfSome result (λ quad. 0 < length quad) }
+        ensures none { IfNone result (IsOver self.now.sharing self.now.roster.now rest.old [] carry.old carry.new unmet) }
+    {
+        let Some((workers, demand)) = self.passing(unmet) else {
+            return None;
+        };
+        rest.next_due(workers, demand, carry)
+    }
+
+    /// The workers and the demand by which arenas are passed over. At a demand of 0 nobody is: so it is while seats are left to be
+    /// met, and where the enqueued work of an arena is served. None where nobody can be listed any more.
+    #[inline(always)]
+    fn passing(&self, unmet: u32) -> Option<(u64, u64)>
+        requires shared { CanShareAll self.now.sharing 0 0 }
+        ensures by { IfSome result (λ by. IsPassing self.now.sharing unmet by.0 by.1) }
+        ensures none { IfNone result (IsUnserved self.now.sharing unmet) }
+    {
+        if unmet > 0 {
+            return Some((0, 0));
+        }
+        match self.sharing {
+            // A level that asks for nobody has a demand of 0, and all of it is passed over.
+            Sharing::Carried { workers, demand } => Some((workers, demand.max(1))),
+            Sharing::Picked { arena, .. } => match arena {
+                None => None,
+                Some(_) => Some((0, 0)),
+            },
+        }
+    }
+
+    /// Puts a few arenas at the end of lists, and gives the carry past all of them. Their seats are met.
     #[inline(always)]
     fn list(
         &self,
-        rows: Stretch<'_>,
+        rows: Quad<'_>,
         carry: u64,
         unmet: &mut u32,
         visits: &mut u32,
         lists: &mut Lists,
     ) -> Result<u64, AllocError>
-        requires shared { CanShareAll self.now.sharing carry (requests rows.0) }
-        requires few { visits.old + length rows.0 < 2 ^ 31 }
-        requires unmet { actives (staffed self.now.sharing self.now.roster.now carry rows.0) ≤ unmet.old }
-        ensures walked { IfOk result (λ after. IsWalk self.now.sharing self.now.roster.now rows.entry.0 carry after unmet.old unmet.new visits.old visits.new lists.old lists.new) }
-        ensures succeeds { counts_in (staffed self.now.sharing self.now.roster.now carry rows.entry.0) ≡ record { recalls = []; hires = [] } → IsOk result }
-    {
-        match self.past(&rows, carry, *unmet) {
-            Some(after) => Ok(after),
-            None => self.among(rows, carry, unmet, visits, lists),
-        }
-    }
-
-    /// The same for a stretch where an arena may be listed.
-    #[cycle(list)]
-    fn among(
-        &self,
-        rows: Stretch<'_>,
-        carry: u64,
-        unmet: &mut u32,
-        visits: &mut u32,
-        lists: &mut Lists,
-    ) -> Result<u64, AllocError>
-        requires shared { CanShareAll self.now.sharing carry (requests rows.0) }
-        requires few { visits.old + length rows.0 < 2 ^ 31 }
-        requires unmet { actives (staffed self.now.sharing self.now.roster.now carry rows.0) ≤ unmet.old }
-        ensures walked { IfOk result (λ after. IsWalk self.now.sharing self.now.roster.now rows.entry.0 carry after unmet.old unmet.new visits.old visits.new lists.old lists.new) }
-        ensures succeeds { counts_in (staffed self.now.sharing self.now.roster.now carry rows.entry.0) ≡ record { recalls = []; hires = [] } → IsOk result }
+        requires shared { CanShareAll self.now.sharing carry (requests rows) }
+        requires low { IsLow self.now.sharing carry }
+        requires few { visits.old + length rows < 2 ^ 31 }
+        requires unmet { actives (staffed self.now.sharing self.now.roster.now carry rows) ≤ unmet.old }
+        ensures walked { IfOk result (λ after. IsWalk self.now.sharing self.now.roster.now rows.entry carry after unmet.old unmet.new visits.old visits.new lists.old lists.new) }
+        ensures succeeds { counts_in (staffed self.now.sharing self.now.roster.now carry rows.entry) ≡ record { recalls = []; hires = [] } → IsOk result }
     {
         let mut rest = rows;
         let mut carry = carry;
-        while let Some(parts) = rest.enter(visits) {
-            carry = self.list(parts.newer, carry, unmet, visits, lists)?;
-            carry = self.add(parts.row, carry, unmet, lists)?;
-            rest = parts.older;
-            if let Some(after) = self.past(&rest, carry, *unmet) {
-                return Ok(after);
-            }
+        while let Some(row) = rest.next(visits) {
+            carry = self.add(row, carry, unmet, lists)?;
         }
         Ok(carry)
-    }
-
-    /// The carry past a stretch where nobody is allotted a worker or has one, so that none of it is listed. None where
-    /// somebody may be: seats are left to be met, or a worker is due.
-    #[inline(always)]
-    fn past(&self, rows: &Stretch, carry: u64, unmet: u32) -> Option<u64>
-        requires shared { CanShareAll self.now.sharing carry (requests rows.now.0) }
-        requires unmet { actives (staffed self.now.sharing self.now.roster.now carry rows.now.0) ≤ unmet }
-        ensures { IfSome result (λ after. (visits : ℕ) (lists : Counts) → IsWalk self.now.sharing self.now.roster.now rows.now.0 carry after unmet unmet visits visits lists lists) }
-    {
-        if unmet > 0 {
-            return None;
-        }
-        match self.sharing {
-            Sharing::Carried { workers, demand } => {
-                let requests = rows.requests();
-                if requests == 0 {
-                    return Some(carry);
-                }
-                let due = workers * requests + carry;
-                if due < demand { Some(due) } else { None }
-            }
-            Sharing::Picked { arena, .. } => match arena {
-                None => Some(carry),
-                Some(_) => None,
-            },
-        }
     }
 
     /// Puts an arena at the end of the list that it belongs to, if any, and gives the carry past it. Its seats are met.
     #[inline(always)]
     fn add(
         &self,
-        row: &Row,
+        row: Row,
         carry: u64,
         unmet: &mut u32,
         lists: &mut Lists,
     ) -> Result<u64, AllocError>
-        requires shared { CanShareAll self.now.sharing carry row.now.request }
-        requires unmet { actives (staffed self.now.sharing self.now.roster.now carry (row.now ∷ [])) ≤ unmet.old }
-        ensures listed { OnOk result (IsListed (staffed self.now.sharing self.now.roster.now carry (row.now ∷ [])) lists.old lists.new) }
-        ensures carry { IfOk result (λ after. after ≡ row_carry self.now.sharing carry row.now) }
-        ensures met { OnOk result (unmet.old ≡ unmet.new + actives (staffed self.now.sharing self.now.roster.now carry (row.now ∷ []))) }
-        ensures succeeds { counts_in (staffed self.now.sharing self.now.roster.now carry (row.now ∷ [])) ≡ record { recalls = []; hires = [] } → IsOk result }
+        requires shared { CanShareAll self.now.sharing carry row.request }
+        requires unmet { actives (staffed self.now.sharing self.now.roster.now carry (row ∷ [])) ≤ unmet.old }
+        ensures listed { OnOk result (IsListed (staffed self.now.sharing self.now.roster.now carry (row ∷ [])) lists.old lists.new) }
+        ensures carry { IfOk result (λ after. after ≡ row_carry self.now.sharing carry row) }
+        ensures met { OnOk result (unmet.old ≡ unmet.new + actives (staffed self.now.sharing self.now.roster.now carry (row ∷ []))) }
+        ensures succeeds { counts_in (staffed self.now.sharing self.now.roster.now carry (row ∷ [])) ≡ record { recalls = []; hires = [] } → IsOk result }
     {
         let arena = row.arena;
         let active = self.roster.active(arena);
@@ -163,10 +153,10 @@ impl Listing<'_> {
     /// How many workers an arena is allotted, and the carry past it. It divides only in a level that gets fewer than it asks
     /// for.
     #[inline(always)]
-    fn allotment(&self, row: &Row, active: u32, carry: u64) -> (u32, u64)
-        requires shared { CanShareAll self.now.sharing carry row.now.request }
-        ensures share { result.0 ≡ row_share self.now.sharing carry row.now }
-        ensures carry { result.1 ≡ row_carry self.now.sharing carry row.now }
+    fn allotment(&self, row: Row, active: u32, carry: u64) -> (u32, u64)
+        requires shared { CanShareAll self.now.sharing carry row.request }
+        ensures share { result.0 ≡ row_share self.now.sharing carry row }
+        ensures carry { result.1 ≡ row_carry self.now.sharing carry row }
     {
         match self.sharing {
             Sharing::Carried { workers, demand } => {

@@ -1,49 +1,41 @@
 //! A walk through the arenas of a level that gets all that it asks for: each is allotted what it asks for, and nothing is
 //! carried.
 ghost use Rattle.std.specs.Prelude.{ℕ, ◌+◌, ◌^◌, ◌<◌, length};
-ghost use Rattle.level_list.specs.Rows.{requests};
-ghost use Rattle.recall_hire.specs.Shared.{IsSearch};
+ghost use Rattle.wide_rows.specs.Passed.{with_height};
+ghost use Rattle.recall_hire.specs.Shared.{IsLook, IsSearch};
 
 use crate::roster::Roster;
-use level_list::Stretch;
 use market_types::ArenaId;
+use wide_rows::{Quad, Walk};
 
-/// The first arena of a stretch that asks for more workers than it has. Enters a node only where an arena at or below it
-/// asks for a worker.
-#[cycle(first_short)]
+/// The first arena of a level that asks for more workers than it has. Looks at four only where one of them asks for a worker.
 #[inline(always)]
-pub fn first_short(roster: &Roster, rows: Stretch<'_>, visits: &mut u32) -> Option<ArenaId>
-    requires few { visits.old + length rows.0 < 2 ^ 31 }
-    ensures { (demand : ℕ) → 0 < demand → IsSearch demand demand roster.now rows.entry 0 0 visits.old visits.new result }
-{
-    if rows.requests() == 0 {
-        return None;
-    }
-    among(roster, rows, visits)
-}
-
-/// The same for a stretch where some arena asks for a worker.
-#[cycle(first_short)]
-fn among(roster: &Roster, rows: Stretch<'_>, visits: &mut u32) -> Option<ArenaId>
-    requires some { 0 < requests rows.0 }
-    requires few { visits.old + length rows.0 < 2 ^ 31 }
-    ensures { (demand : ℕ) → 0 < demand → IsSearch demand demand roster.now rows.entry 0 0 visits.old visits.new result }
+pub(crate) fn first_short(roster: &Roster, rows: Walk<'_>, visits: &mut u32) -> Option<ArenaId>
+    requires few { visits.old + length rows < 2 ^ 31 }
+    ensures { (demand : ℕ) → 0 < demand → IsSearch demand demand roster.now (with_height rows.entry) 0 visits.old visits.new result }
 {
     let mut rest = rows;
-    loop {
-        let Some(parts) = rest.enter(visits) else {
-            unreachable!()
-        };
-        if let Some(arena) = first_short(roster, parts.newer, visits) {
+    let mut carry = 0;
+    // One of one: a quad is due where it asks for anything at all, and nothing is carried past those that are not.
+    while let Some(quad) = rest.next_due(1, 1, &mut carry) {
+        if let Some(arena) = short_among(roster, quad, visits) {
             return Some(arena);
         }
-        let row = parts.row;
+    }
+    None
+}
+
+/// The first of a few arenas that asks for more workers than it has.
+#[inline(always)]
+fn short_among(roster: &Roster, rows: Quad<'_>, visits: &mut u32) -> Option<ArenaId>
+    requires few { visits.old + length rows < 2 ^ 31 }
+    ensures { (demand : ℕ) → 0 < demand → IsLook demand demand roster.now rows.entry 0 0 visits.old visits.new result }
+{
+    let mut rest = rows;
+    while let Some(row) = rest.next(visits) {
         if roster.active(row.arena) < row.request {
             return Some(row.arena);
         }
-        rest = parts.older;
-        if rest.requests() == 0 {
-            return None;
-        }
     }
+    None
 }

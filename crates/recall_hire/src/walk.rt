@@ -1,25 +1,26 @@
-//! A walk through a level's arenas in order, with the carry going along.
+//! A walk through a level's arenas in order, with the carry going along. It passes over those that ask for too little for any of
+//! them to be allotted a worker, and looks at the others four by four.
 ghost use Rattle.std.specs.Prelude.{◌≡◌, ℕ, None, ◌+◌, ◌*◌, ◌^◌, ◌<◌, ◌≤◌, length};
 ghost use Rattle.std.specs.Bool.{OnTrue, OnFalse};
 ghost use Rattle.std.specs.List.{count_by};
 ghost use Rattle.market_types.specs.Allotment.{is_just};
-ghost use Rattle.level_list.specs.Rows.{requests};
+ghost use Rattle.prefix_tree.specs.Rows.{requests};
+ghost use Rattle.wide_rows.specs.Passed.{with_height};
 ghost use Rattle.recall_hire.specs.declared.sharing.Sharing.TheVariants.{Carried};
 ghost use Rattle.recall_hire.specs.Staffed.{first_in_need, searches};
-ghost use Rattle.recall_hire.specs.Shared.{CanShare, IsSearch, staffed, row_share, row_carry};
+ghost use Rattle.recall_hire.specs.Shared.{CanShare, IsLook, IsSearch, staffed, row_share, row_carry};
 
 use crate::roster::Roster;
 use crate::served::first_short;
-use level_list::Stretch;
 use market_types::{ArenaId, Row};
+use wide_rows::{Quad, Span, Walk};
 
 /// The first arena of a level, newest first, that is allotted more workers than it has, where the level is assigned
-/// `workers` of its `demand`; and how many nodes that entered: one at least for each arena that was looked at, which are
-/// those that are allotted a worker, up to and with the one that was found, and no more than a way down for each of these.
-/// No node is entered twice.
+/// `workers` of its `demand`; and how many arenas that looked at: one at least for each arena that is allotted a worker, up to and
+/// with the one that was found, and no more than four for each of these. None is looked at twice.
 pub fn first_in_need(
     roster: &Roster,
-    rows: &Stretch,
+    rows: &Span,
     workers: u64,
     demand: u64,
 ) -> (Option<ArenaId>, u32)
@@ -35,98 +36,79 @@ pub fn first_in_need(
     if workers == 0 {
         return (None, 0);
     }
+    let Some(walk) = rows.walk() else {
+        return (None, 0);
+    };
     let mut visits = 0;
     if workers == demand {
-        let found = first_short(roster, rows.again(), &mut visits);
+        let found = first_short(roster, walk, &mut visits);
         return (found, visits);
     }
-    let walk = Walk {
+    let search = Search {
         roster,
         workers,
         demand,
     };
-    let mut carry = 0;
-    let found = walk.first_needing(rows.again(), &mut carry, &mut visits);
+    let found = search.first_needing(walk, &mut visits);
     (found, visits)
 }
 
 /// Where some worker may be active: who has workers, how many the level is assigned, and what it asks for.
 #[derive(Clone, Copy)]
-struct Walk<'a> {
+struct Search<'a> {
     roster: &'a Roster,
     workers: u64,
     demand: u64,
 }
 
-impl Walk<'_> {
-    /// The first arena of a stretch that is allotted more workers than it has. Where there is none, the carry has gone past
-    /// all of them. Enters a node only where an arena at or below it is allotted a worker.
-    #[cycle(first_needing)]
+impl Search<'_> {
+    /// The first arena of a level that is allotted more workers than it has. Looks at four only where one of them is allotted a
+    /// worker.
     #[inline(always)]
-    fn first_needing(&self, rows: Stretch<'_>, carry: &mut u64, visits: &mut u32) -> Option<ArenaId>
-        requires shared { CanShare self.now.workers self.now.demand carry.old }
-        requires part { requests rows.0 ≤ self.now.demand }
-        requires few { visits.old + length rows.0 < 2 ^ 31 }
-        ensures { IsSearch self.now.workers self.now.demand self.now.roster.now rows.entry carry.old carry.new visits.old visits.new result }
-    {
-        if self.passes(&rows, carry) {
-            return None;
-        }
-        self.among(rows, carry, visits)
-    }
-
-    /// The same for a stretch where some arena is allotted a worker.
-    #[cycle(first_needing)]
-    fn among(&self, rows: Stretch<'_>, carry: &mut u64, visits: &mut u32) -> Option<ArenaId>
-        requires shared { CanShare self.now.workers self.now.demand carry.old }
-        requires part { requests rows.0 ≤ self.now.demand }
-        requires due { self.now.demand ≤ carry.old + self.now.workers * requests rows.0 }
-        requires few { visits.old + length rows.0 < 2 ^ 31 }
-        ensures { IsSearch self.now.workers self.now.demand self.now.roster.now rows.entry carry.old carry.new visits.old visits.new result }
+    fn first_needing(&self, rows: Walk<'_>, visits: &mut u32) -> Option<ArenaId>
+        requires shared { CanShare self.now.workers self.now.demand 0 }
+        requires part { requests rows ≤ self.now.demand }
+        requires few { visits.old + length rows < 2 ^ 31 }
+        ensures { IsSearch self.now.workers self.now.demand self.now.roster.now (with_height rows.entry) 0 visits.old visits.new result }
     {
         let mut rest = rows;
-        loop {
-            let parts = rest.enter(visits)?;
-            if let Some(arena) = self.first_needing(parts.newer, carry, visits) {
+        let mut carry = 0;
+        while let Some(quad) = rest.next_due(self.workers, self.demand, &mut carry) {
+            if let Some(arena) = self.first_among(quad, &mut carry, visits) {
                 return Some(arena);
             }
-            if self.lacks(parts.row, carry) {
-                return Some(parts.row.arena);
-            }
-            rest = parts.older;
-            if self.passes(&rest, carry) {
-                return None;
-            }
         }
+        None
     }
 
-    /// Whether nobody in a stretch is allotted a worker. The carry goes on past such a stretch.
+    /// The first of a few arenas that is allotted more workers than it has. Where there is none, the carry has gone past all of
+    /// them.
     #[inline(always)]
-    fn passes(&self, rows: &Stretch, carry: &mut u64) -> bool
+    fn first_among(&self, rows: Quad<'_>, carry: &mut u64, visits: &mut u32) -> Option<ArenaId>
         requires shared { CanShare self.now.workers self.now.demand carry.old }
-        requires part { requests rows.now.0 ≤ self.now.demand }
-        ensures none { OnTrue result ((visits : ℕ) → IsSearch self.now.workers self.now.demand self.now.roster.now rows.now carry.old carry.new visits visits None) }
-        ensures some { OnFalse result (self.now.demand ≤ carry.old + self.now.workers * requests rows.now.0) }
-        ensures stays { OnFalse result (carry.new ≡ carry.old) }
+        requires part { requests rows ≤ self.now.demand }
+        requires few { visits.old + length rows < 2 ^ 31 }
+        ensures { IsLook self.now.workers self.now.demand self.now.roster.now rows.entry carry.old carry.new visits.old visits.new result }
     {
-        let due = self.workers * rows.requests() + *carry;
-        if due < self.demand {
-            // Nobody here is allotted a worker, and what is due to all of them is carried on.
-            *carry = due;
-            return true;
+        let mut rest = rows;
+        while let Some(row) = rest.next(visits) {
+            let arena = row.arena;
+            if self.lacks(row, carry) {
+                return Some(arena);
+            }
         }
-        false
+        None
     }
 
     /// Whether an arena is allotted more workers than it has. Where it is not, the carry goes on past it. It divides only
     /// where the arena has workers too many.
     #[inline(always)]
-    fn lacks(&self, row: &Row, carry: &mut u64) -> bool
+    fn lacks(&self, row: Row, carry: &mut u64) -> bool
         requires shared { CanShare self.now.workers self.now.demand carry.old }
-        requires part { row.now.request ≤ self.now.demand }
-        ensures yes { OnTrue result (count_by (is_just row.now.arena) self.now.roster.now < row_share (Carried self.now.workers self.now.demand) carry.old row.now) }
-        ensures no { OnFalse result (row_share (Carried self.now.workers self.now.demand) carry.old row.now ≤ count_by (is_just row.now.arena) self.now.roster.now) }
-        ensures carry { OnFalse result (carry.new ≡ row_carry (Carried self.now.workers self.now.demand) carry.old row.now) }
+        requires part { row.request ≤ self.now.demand }
+        ensures yes { OnTrue result (count_by (is_just row.arena) self.now.roster.now < row_share (Carried self.now.workers self.now.demand) carry.old row) }
+        ensures no { OnFalse result (row_share (Carried self.now.workers self.now.demand) carry.old row ≤ count_by (is_just row.arena) self.now.roster.now) }
+        ensures carry { OnFalse result (carry.new ≡ row_carry (Carried self.now.workers self.now.demand) carry.old row) }
         ensures low { OnFalse result (carry.new < self.now.demand) }
     {
         let due = u64::from(row.request) * self.workers + *carry;

@@ -1,5 +1,6 @@
 pub mod Bits
 pub mod Counted
+pub mod Crossing
 pub mod Edits
 pub mod EightLevels
 pub mod Fewer

@@ -1,14 +1,14 @@
 //! Seats at their arenas, and who is in need.
-ghost use Rattle.std.specs.Prelude.{◌≡◌, ◌≤◌, None, replicate};
+ghost use Rattle.std.specs.Prelude.{◌≡◌, ◌<◌, ◌≤◌, None, All, replicate};
+ghost use Rattle.wide_rows.specs.Leveled.{rows_at, total_rows, with_first};
 
-use super::lists::pushed;
 use crate::asserts::{holds, same};
-use level_list::LevelList;
 use market_types::{ArenaId, Correction, Imbalance, Lists, Row, SeatNo};
 use recall_hire::{Roster, Sharing, first_in_need, list};
 use std::alloc::Global;
 use std::process::Abort;
 use std::rt::HostRuntime;
+use wide_rows::Levels;
 
 /// The row of an arena with the number of its stamp.
 fn row(stamp: u32, request: u32) -> Row
@@ -23,10 +23,21 @@ fn row(stamp: u32, request: u32) -> Row
     }
 }
 
+/// Pushes a row of level 1 that is newer than all others there.
+fn pushed(rt: &impl Abort, alloc: Global, rows: &mut Levels, row: Row)
+    requires room { total_rows rows.old < 1024 }
+    requires request { row.request ≤ 65535 }
+    requires newest { All (λ older. older.stamp < row.stamp) (rows_at 0 rows.old) }
+    ensures { rows.new ≡ with_first 0 row rows.old }
+{
+    holds(rt, rows.push(alloc, 0, row).is_ok());
+}
+
 /// The first arena in need of a level that is assigned so many workers, or all that it asks for.
-fn need(roster: &Roster, rows: &LevelList, workers: u64) -> (Option<ArenaId>, u32) {
-    let demand = rows.demand();
-    first_in_need(roster, &rows.whole(), workers.min(demand), demand)
+fn need(roster: &Roster, rows: &Levels, workers: u64) -> (Option<ArenaId>, u32) {
+    let _ = rows.len();
+    let demand = rows.demand(0);
+    first_in_need(roster, &rows.whole(0), workers.min(demand), demand)
 }
 
 #[test]
@@ -54,8 +65,8 @@ fn seats_are_counted_at_their_arenas(rt: HostRuntime) {
 }
 
 /// Arenas 1, 2 and 3, which ask for 2, 5 and 1 workers.
-fn three_arenas(rt: &impl Abort, alloc: Global) -> LevelList {
-    let mut rows = LevelList::new();
+fn three_arenas(rt: &impl Abort, alloc: Global) -> Levels {
+    let mut rows = Levels::new(alloc);
     pushed(rt, alloc, &mut rows, row(1, 2));
     pushed(rt, alloc, &mut rows, row(2, 5));
     pushed(rt, alloc, &mut rows, row(3, 1));
@@ -86,9 +97,9 @@ fn two_placed(rt: &impl Abort, alloc: Global) -> Roster {
 fn a_worker_goes_to_the_first_arena_in_need(rt: HostRuntime) {
     let roster = seats(&rt, rt.alloc(), 2);
     let rows = three_arenas(&rt, rt.alloc());
-    same(&rt, need(&roster, &LevelList::new(), 8), (None, 0));
+    same(&rt, need(&roster, &Levels::new(rt.alloc()), 8), (None, 0));
     same(&rt, need(&roster, &rows, 0), (None, 0));
-    same(&rt, need(&roster, &rows, 8), (Some(ArenaId::new(3)), 2));
+    same(&rt, need(&roster, &rows, 8), (Some(ArenaId::new(3)), 1));
     drop(roster);
     let roster = two_placed(&rt, rt.alloc());
     same(&rt, need(&roster, &rows, 8), (Some(ArenaId::new(2)), 2));
@@ -98,11 +109,11 @@ fn a_worker_goes_to_the_first_arena_in_need(rt: HostRuntime) {
 
 /// What is listed of arenas, where each is allotted all that it asks for, or one worker goes to arena 3.
 #[tactic(auto, using(recall_hire::proofs::Listings::few_actives))]
-fn listed(rt: &impl Abort, alloc: Global, rows: &LevelList, roster: &Roster, all: bool) -> Lists {
+fn listed(rt: &impl Abort, alloc: Global, rows: &Levels, roster: &Roster, all: bool) -> Lists {
     let mut lists = Lists {
         arenas: Vec::new(alloc),
     };
-    let demand = rows.demand();
+    let demand = rows.demand(0);
     let sharing = if all {
         Sharing::Carried {
             workers: demand,
@@ -118,7 +129,7 @@ fn listed(rt: &impl Abort, alloc: Global, rows: &LevelList, roster: &Roster, all
     let mut unmet = u32::MAX;
     holds(
         rt,
-        list(roster, &rows.whole(), sharing, &mut unmet, &mut lists).is_ok(),
+        list(roster, &rows.whole(0), sharing, &mut unmet, &mut lists).is_ok(),
     );
     lists
 }
@@ -155,7 +166,7 @@ fn counts_are_listed_in_order(rt: HostRuntime) {
 
 #[test]
 fn an_arena_with_one_worker_of_three_hires_two(rt: HostRuntime) {
-    let mut rows = LevelList::new();
+    let mut rows = Levels::new(rt.alloc());
     pushed(&rt, rt.alloc(), &mut rows, row(1, 3));
     let mut roster = seats(&rt, rt.alloc(), 2);
     roster.place(SeatNo::new(0), ArenaId::new(1));

@@ -14,6 +14,7 @@ use recall_hire::Roster;
 use std::alloc::Global;
 use std::process::Abort;
 use std::rt::HostRuntime;
+use wide_rows::Levels;
 
 /// Rows, seats and texts.
 #[test]
@@ -27,12 +28,15 @@ fn what_is_written_is_granted(rt: HostRuntime) {
         mandated: false,
     };
     holds(&rt, rows.push(alloc, row).is_ok());
+    let mut levels = Levels::new(alloc);
+    holds(&rt, levels.push(alloc, 0, row).is_ok());
     holds(&rt, Roster::new(alloc, 64).is_ok());
     let request = Cmd::Request(ArenaId::new(1_048_576), -1, -1);
     for _ in 0..9 {
         holds(&rt, cmd_text(alloc, &request, 3).is_ok());
         holds(&rt, reply_text(alloc, &Reply::Requested(65_535)).is_ok());
     }
+    drop(levels);
     drop(rows);
 }
 

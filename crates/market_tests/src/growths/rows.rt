@@ -1,7 +1,8 @@
-//! Trees, lists of rows, seats and lists of counts.
+//! Trees, lists of rows, levels, seats and lists of counts.
 ghost use Rattle.std.specs.Prelude.{◌≡◌, ◌<◌, ◌≤◌, ◌∷◌, length, false};
 ghost use Rattle.std.specs.List.{All};
 ghost use Rattle.prefix_tree.specs.Rows.{IsAbsent, insert_row};
+ghost use Rattle.wide_rows.specs.Leveled.{rows_at, total_rows, with_first};
 
 use crate::asserts::{holds, same};
 use level_list::LevelList;
@@ -11,6 +12,7 @@ use recall_hire::{Roster, Sharing, list};
 use std::alloc::{AllocError, Global};
 use std::process::Abort;
 use std::rt::HostRuntime;
+use wide_rows::Levels;
 
 /// The row of an arena with the number of its stamp, which asks for 5.
 fn row(stamp: u32) -> Row
@@ -74,23 +76,53 @@ fn push(rt: &impl Abort, alloc: Global, rows: &mut LevelList, stamp: u32)
     };
 }
 
-/// Three arenas that ask for 5 workers each.
-fn three_arenas(rt: &impl Abort, alloc: Global) -> LevelList {
-    let mut rows = LevelList::new();
-    push(rt, alloc, &mut rows, 1);
-    push(rt, alloc, &mut rows, 2);
-    push(rt, alloc, &mut rows, 3);
-    rows
-}
-
 #[test]
 fn a_refused_growth_leaves_the_rows(rt: HostRuntime) {
-    let rows = three_arenas(&rt, rt.alloc());
+    let mut rows = LevelList::new();
+    push(&rt, rt.alloc(), &mut rows, 1);
+    push(&rt, rt.alloc(), &mut rows, 2);
+    push(&rt, rt.alloc(), &mut rows, 3);
     same(&rt, rows.demand(), 15);
     for (index, arena) in [(0, 3), (1, 2), (2, 1)] {
         same(&rt, rows.walk(index).0, Some(row(arena)));
     }
     drop(rows);
+}
+
+/// Pushes the row of a stamp at level 1, again where the first growth was refused: then the rows were as before.
+fn push_first(rt: &impl Abort, alloc: Global, levels: &mut Levels, stamp: u32)
+    requires room { total_rows levels.old < 1024 }
+    requires newest { All (λ older. older.stamp < stamp) (rows_at 0 levels.old) }
+    ensures rows { levels.new ≡ with_first 0 (record { stamp = stamp; arena = stamp; request = 5; mandated = false }) levels.old }
+{
+    let count = levels.len();
+    let demand = levels.demand(0);
+    if levels.push(alloc, 0, row(stamp)).is_ok() {
+        return;
+    }
+    holds(rt, levels.len() == count && levels.demand(0) == demand);
+    let Ok(_) = levels.push(alloc, 0, row(stamp)) else {
+        panic!(rt; "no memory");
+    };
+}
+
+/// Three arenas at level 1 that ask for 5 workers each.
+fn three_arenas(rt: &impl Abort, alloc: Global) -> Levels {
+    let mut levels = Levels::new(alloc);
+    push_first(rt, alloc, &mut levels, 1);
+    push_first(rt, alloc, &mut levels, 2);
+    push_first(rt, alloc, &mut levels, 3);
+    levels
+}
+
+#[test]
+fn a_refused_growth_leaves_the_levels(rt: HostRuntime) {
+    let levels = three_arenas(&rt, rt.alloc());
+    same(&rt, levels.demand(0), 15);
+    for (index, arena) in [(0, 3), (1, 2), (2, 1)] {
+        same(&rt, levels.walk(0, index).0, Some(row(arena)));
+    }
+    drop(levels);
 }
 
 /// So many seats, none placed.
@@ -129,18 +161,19 @@ fn place(roster: &mut Roster, seat: u8, arena: ArenaId) {
 
 /// What is listed where each arena is allotted all that it asks for.
 #[tactic(auto, using(recall_hire::proofs::Listings::few_actives))]
-fn listed(rows: &LevelList, roster: &Roster, alloc: Global) -> Result<Lists, AllocError> {
+fn listed(levels: &Levels, roster: &Roster, alloc: Global) -> Result<Lists, AllocError> {
     let mut lists = Lists {
         arenas: Vec::new(alloc),
     };
-    let demand = rows.demand();
+    let _ = levels.len();
+    let demand = levels.demand(0);
     let all = Sharing::Carried {
         workers: demand,
         demand,
     };
     let _ = roster.seats();
     let mut unmet = u32::MAX;
-    list(roster, &rows.whole(), all, &mut unmet, &mut lists)?;
+    list(roster, &levels.whole(0), all, &mut unmet, &mut lists)?;
     Ok(lists)
 }
 
@@ -155,15 +188,15 @@ fn counted(arena: u32, correction: Correction, count: u32) -> Imbalance {
 
 #[test]
 fn a_refused_growth_leaves_arenas_to_be_listed(rt: HostRuntime) {
-    let rows = three_arenas(&rt, rt.alloc());
+    let levels = three_arenas(&rt, rt.alloc());
     let mut roster = seats(&rt, rt.alloc(), 6);
     for seat in 0..6 {
         place(&mut roster, seat, ArenaId::new(3));
     }
-    let lists = match listed(&rows, &roster, rt.alloc()) {
+    let lists = match listed(&levels, &roster, rt.alloc()) {
         Ok(lists) => lists,
         Err(_) => {
-            let Ok(lists) = listed(&rows, &roster, rt.alloc()) else {
+            let Ok(lists) = listed(&levels, &roster, rt.alloc()) else {
                 panic!(&rt; "no memory");
             };
             lists
@@ -177,5 +210,5 @@ fn a_refused_growth_leaves_arenas_to_be_listed(rt: HostRuntime) {
     same(&rt, lists.arenas.as_slice(), due.as_slice());
     drop(lists);
     drop(roster);
-    drop(rows);
+    drop(levels);
 }

@@ -1,5 +1,5 @@
 use Rattle.std.proofs.Common.{arith, ap, ◌∙◌, ◌≡◌, ◌-◌}
-use Rattle.level_list.specs.Rows.{requests_above}
+use Rattle.prefix_tree.specs.Rows.{requests_above}
 use Rattle.arena_store.proofs.LevelRows.{level_rows-before}
 use Rattle.arena_store.proofs.Stored.{list-at, list-entered, list-visits, all-visits}
 use Rattle.arena_store.proofs.store.Arenas.before.Goals as goal
@@ -9,23 +9,23 @@ returns-clause-exact c =
     let s = c.self.inside in
     let index : c.index.result ≡ c.args.level - 1 = omega arith in
     rw (← c.self.view_is) (c.before-2.ensures.exact
-    ∙ ap (requests_above c.args.stamp) (list-at s.table.arenas s.lists s.enqueued c.self.invariant c.args.level c.index.result c.index-self-index.result (omega arith) (omega arith) index)
+    ∙ ap (requests_above c.args.stamp) (list-at s.table.arenas s.lists s.enqueued c.self.invariant c.args.level c.index.result (omega arith) (omega arith) index)
     ∙ level_rows-before c.args.level c.args.stamp _)
 
 pub returns-clause-visits : goal.returns-clause-visits
 returns-clause-visits c =
     let s = c.self.inside in
     let index : c.index.result ≡ c.args.level - 1 = omega arith in
-    rw (← c.self.view_is) (list-visits s.table.arenas s.lists s.enqueued c.self.invariant c.args.level c.index.result c.index-self-index.result (omega arith) (omega arith) index c.before-2.result.1 c.before-2.ensures.visits)
+    rw (← c.self.view_is) (list-visits s.table.arenas s.lists s.enqueued c.self.invariant c.args.level c.index.result (omega arith) (omega arith) index c.before-2.result.1 c.before-2.ensures.visits)
 
 pub returns-clause-few : goal.returns-clause-few
 returns-clause-few c =
     let s = c.self.inside in
     let index : c.index.result ≡ c.args.level - 1 = omega arith in
-    omega (arith, all-visits s.table.arenas s.lists s.enqueued c.self.invariant, list-visits s.table.arenas s.lists s.enqueued c.self.invariant c.args.level c.index.result c.index-self-index.result (omega arith) (omega arith) index c.before-2.result.1 c.before-2.ensures.visits)
+    omega (arith, all-visits s.table.arenas s.lists s.enqueued c.self.invariant, list-visits s.table.arenas s.lists s.enqueued c.self.invariant c.args.level c.index.result (omega arith) (omega arith) index c.before-2.result.1 c.before-2.ensures.visits)
 
 pub returns-clause-entered : goal.returns-clause-entered
 returns-clause-entered c =
     let s = c.self.inside in
     let index : c.index.result ≡ c.args.level - 1 = omega arith in
-    rw (← c.self.view_is) (list-entered s.table.arenas s.lists s.enqueued c.self.invariant c.args.level c.index.result c.index-self-index.result (omega arith) (omega arith) index c.before-2.result.1 c.before-2.ensures.entered)
+    rw (← c.self.view_is) (list-entered s.table.arenas s.lists s.enqueued c.self.invariant c.args.level c.index.result (omega arith) (omega arith) index c.before-2.result.1 c.before-2.ensures.entered)

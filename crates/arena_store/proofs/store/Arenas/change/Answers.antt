@@ -1,9 +1,10 @@
-use Rattle.std.proofs.Common.{arith, sym, ap, ◌∙◌, ◌≡◌, ◌-◌, cond, ltb, get_or, List, Some, Err, refl}
+use Rattle.std.proofs.Common.{arith, sym, ap, ◌∙◌, ◌≡◌, ◌-◌, cond, ltb, set, List, Some, Err, refl}
 use Rattle.std.proofs.lemmas.Result.{err_from_is_err_and}
-use Rattle.level_list.specs.Rows.{set_row}
+use Rattle.prefix_tree.specs.Rows.{set_row}
 use Rattle.market_types.specs.State.{Claim, Arena}
 use Rattle.market_types.specs.Step.{arena_at, with_claim}
 use Rattle.market_types.specs.declared.row.Row.{Row}
+use Rattle.wide_rows.specs.Leveled.{rows_at}
 use Rattle.arena_store.specs.Changed.{changed}
 use Rattle.arena_store.specs.Arenas.{level_row}
 use Rattle.arena_store.specs.Held.{index_in}
@@ -41,8 +42,8 @@ update-visits-requires-clause-there c =
     let s = c.self.inside in
     let x = c.at-old.result in
     let there = c.in-Some.ensures.there in
-    let level : c.index.result ≡ x.level - 1 = omega (arith, c.level.ensures) in
-    let some = row-here s.table.arenas s.lists s.enqueued (index_in s.table.places c.in-Some.place) x c.self.invariant there (rw c.in-Some.ensures.unchanged at c.at-old.ensures) c.index.result c.index-self-index.result level in
+    let level : c.index-level.result ≡ x.level - 1 = omega (arith, c.level.ensures) in
+    let some = row-here s.table.arenas s.lists s.enqueued (index_in s.table.places c.in-Some.place) x c.self.invariant there (rw c.in-Some.ensures.unchanged at c.at-old.ensures) c.index-level.result level in
     rw c.row.ensures.exact some
 
 pub invariant_of-self-2 : goal.invariant_of-self-2
@@ -51,14 +52,15 @@ invariant_of-self-2 c =
     let x = c.at-old.result in
     let i = (index_in s.table.places c.in-Some.place) in
     let there = c.in-Some.ensures.there in
-    let index : c.index.result ≡ x.level - 1 = omega (arith, c.level.ensures) in
+    let index : c.index-level.result ≡ x.level - 1 = omega (arith, c.level.ensures) in
     let row = c.row-row.ensures.exact ∙ ap level_row c.with_claim-new.ensures in
-    let list : List Row = get_or s.lists c.index.result c.index-self-index.result in
-    let rows = c.update-visits.ensures.rows ∙ ap (λ (r : Row). set_row r.stamp c.row-row.result.request c.row-row.result.mandated list) c.row.ensures.exact ∙ ap (λ (r : Row). set_row x.stamp r.request r.mandated list) row in
+    let written : Row → Row → List (List Row) =
+    λ old new. set s.lists c.index-level.result (set_row old.stamp new.request new.mandated (rows_at c.index-level.result s.lists)) in
+    let lists = c.update-visits.ensures.rows ∙ ap (λ (old : Row). written old c.row-row.result) c.row.ensures.exact ∙ ap (written (level_row x)) row in
     let old : c.counted.result ≡ cond (ltb 0 x.claim.mandatory) 1 0 = c.counted.ensures ∙ ap (λ (q : Claim). cond (ltb 0 q.mandatory) 1 0) c.claim-2.ensures in
     let new : c.counted-2.result ≡ cond (ltb 0 c.in_ok-claim.claim.mandatory) 1 0 = c.counted-2.ensures in
-    rw (c.set.ensures, c.in-Some.ensures.unchanged, c.with_claim-new.ensures)
-    (stored-claimed s.table.arenas s.lists s.enqueued i x c.self.invariant there (rw c.in-Some.ensures.unchanged at c.at-old.ensures) c.in_ok-claim.claim c.index.result c.index-self-index.result _ _ index rows
+    rw (c.set.ensures, c.in-Some.ensures.unchanged, c.with_claim-new.ensures, lists)
+    (stored-claimed s.table.arenas s.lists s.enqueued i x c.self.invariant there (rw c.in-Some.ensures.unchanged at c.at-old.ensures) c.in_ok-claim.claim c.index-level.result _ index
     (omega (arith, counted-within s.table.arenas s.lists s.enqueued i x c.self.invariant there (rw c.in-Some.ensures.unchanged at c.at-old.ensures), old, new)))
 
 pub returns-clause-next : goal.returns-clause-next
@@ -77,6 +79,6 @@ returns-clause-visits c =
     let s = c.self.inside in
     let x = c.at-old.result in
     let there = c.in-Some.ensures.there in
-    let level : c.index.result ≡ x.level - 1 = omega (arith, c.level.ensures) in
+    let level : c.index-level.result ≡ x.level - 1 = omega (arith, c.level.ensures) in
     let within = level-here s.table.arenas s.lists s.enqueued (index_in s.table.places c.in-Some.place) x c.self.invariant there (rw c.in-Some.ensures.unchanged at c.at-old.ensures) in
-    rw (← c.self.view_is) (list-visits s.table.arenas s.lists s.enqueued c.self.invariant x.level c.index.result c.index-self-index.result within.0 within.1 level c.update-visits.result c.update-visits.ensures.visits)
+    rw (← c.self.view_is) (list-visits s.table.arenas s.lists s.enqueued c.self.invariant x.level c.index-level.result within.0 within.1 level c.update-visits.result c.update-visits.ensures.visits)

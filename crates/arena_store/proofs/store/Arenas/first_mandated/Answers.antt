@@ -1,6 +1,6 @@
 use Rattle.std.proofs.Common.{arith, sym, ap, ◌∙◌, ◌-◌, ◌≤◌, ◌*◌, length, ◌≡◌}
 use Rattle.std.specs.Option.{option_map}
-use Rattle.level_list.specs.Bits.{bits}
+use Rattle.prefix_tree.specs.Bits.{bits}
 use Rattle.market_types.specs.declared.row.Row.{Row}
 use Rattle.arena_store.specs.Store.{by_stamp}
 use Rattle.arena_store.proofs.Stored.{list-mandated, list-entered, list-visits, all-visits}
@@ -10,12 +10,11 @@ pub returns-in-Some : goal.returns-in-Some
 returns-in-Some c =
     let s = c.self.inside in
     let index : c.index.result ≡ c.args.level - 1 = omega arith in
-    let d = c.index-self-index.result in
     let visits : c.first_mandated-row.result.1 ≤ 2 * bits (length (by_stamp s.table.arenas)) =
-    list-visits s.table.arenas s.lists s.enqueued c.self.invariant c.args.level c.index.result d (omega arith) (omega arith) index c.first_mandated-row.result.1 c.first_mandated-row.ensures.visits in
+    list-visits s.table.arenas s.lists s.enqueued c.self.invariant c.args.level c.index.result (omega arith) (omega arith) index c.first_mandated-row.result.1 c.first_mandated-row.ensures.visits in
     rw (← c.self.view_is) (record {
-      exact = ap (option_map (λ (r : Row). r.arena)) (sym c.in-Some.is) ∙ list-mandated s.table.arenas s.lists s.enqueued c.self.invariant c.args.level c.index.result d (omega arith) (omega arith) index c.first_mandated-row.result.0 c.first_mandated-row.ensures.exact;
-      entered = list-entered s.table.arenas s.lists s.enqueued c.self.invariant c.args.level c.index.result d (omega arith) (omega arith) index c.first_mandated-row.result.1 c.first_mandated-row.ensures.entered;
+      exact = ap (option_map (λ (r : Row). r.arena)) (sym c.in-Some.is) ∙ list-mandated s.table.arenas s.lists s.enqueued c.self.invariant c.args.level c.index.result (omega arith) (omega arith) index c.first_mandated-row.result.0 c.first_mandated-row.ensures.exact;
+      entered = list-entered s.table.arenas s.lists s.enqueued c.self.invariant c.args.level c.index.result (omega arith) (omega arith) index c.first_mandated-row.result.1 c.first_mandated-row.ensures.entered;
       visits = visits;
       few = omega (arith, visits, all-visits s.table.arenas s.lists s.enqueued c.self.invariant);
     })
@@ -24,12 +23,11 @@ pub returns-in-None : goal.returns-in-None
 returns-in-None c =
     let s = c.self.inside in
     let index : c.index.result ≡ c.args.level - 1 = omega arith in
-    let d = c.index-self-index.result in
     let visits : c.first_mandated-row.result.1 ≤ 2 * bits (length (by_stamp s.table.arenas)) =
-    list-visits s.table.arenas s.lists s.enqueued c.self.invariant c.args.level c.index.result d (omega arith) (omega arith) index c.first_mandated-row.result.1 c.first_mandated-row.ensures.visits in
+    list-visits s.table.arenas s.lists s.enqueued c.self.invariant c.args.level c.index.result (omega arith) (omega arith) index c.first_mandated-row.result.1 c.first_mandated-row.ensures.visits in
     rw (← c.self.view_is) (record {
-      exact = ap (option_map (λ (r : Row). r.arena)) (sym c.in-None.is) ∙ list-mandated s.table.arenas s.lists s.enqueued c.self.invariant c.args.level c.index.result d (omega arith) (omega arith) index c.first_mandated-row.result.0 c.first_mandated-row.ensures.exact;
-      entered = list-entered s.table.arenas s.lists s.enqueued c.self.invariant c.args.level c.index.result d (omega arith) (omega arith) index c.first_mandated-row.result.1 c.first_mandated-row.ensures.entered;
+      exact = ap (option_map (λ (r : Row). r.arena)) (sym c.in-None.is) ∙ list-mandated s.table.arenas s.lists s.enqueued c.self.invariant c.args.level c.index.result (omega arith) (omega arith) index c.first_mandated-row.result.0 c.first_mandated-row.ensures.exact;
+      entered = list-entered s.table.arenas s.lists s.enqueued c.self.invariant c.args.level c.index.result (omega arith) (omega arith) index c.first_mandated-row.result.1 c.first_mandated-row.ensures.entered;
       visits = visits;
       few = omega (arith, visits, all-visits s.table.arenas s.lists s.enqueued c.self.invariant);
     })

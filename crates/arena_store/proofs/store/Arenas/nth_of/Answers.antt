@@ -18,7 +18,7 @@ module _ (c : After-walk-row) where
       let s = c.self.inside in
       let index : c.index.result ≡ c.args.level - 1 = omega arith in
       c.walk-row.ensures.exact
-      ∙ ap (λ (xs : List Row). slice_get xs c.args.index) (list-at s.table.arenas s.lists s.enqueued c.self.invariant c.args.level c.index.result c.index-self-index.result (omega arith) (omega arith) index)
+      ∙ ap (λ (xs : List Row). slice_get xs c.args.index) (list-at s.table.arenas s.lists s.enqueued c.self.invariant c.args.level c.index.result (omega arith) (omega arith) index)
 
 pub returns-in_err-row-clause-exact : goal.returns-in_err-row-clause-exact
 returns-in_err-row-clause-exact c =

@@ -1,77 +1,41 @@
-use Rattle.std.proofs.Common.{arith, refl, sym, ap, ◌∙◌, ◌≡◌, ◌+◌, ◌-◌, ◌*◌, ◌≤◌, length, get_or, Some}
-use Rattle.std.proofs.lemmas.Option.{none-some, same_Some}
-use Rattle.level_list.specs.Rows.{without as without_row, row_at}
-use Rattle.level_list.specs.Bits.{bits}
+use Rattle.std.proofs.Common.{arith, refl, sym, ap, ◌∙◌, ◌≡◌, ◌-◌, Some}
+use Rattle.std.proofs.lemmas.Option.{none-some}
+use Rattle.prefix_tree.specs.Rows.{row_at}
 use Rattle.market_types.specs.State.{Arena}
-use Rattle.market_types.specs.declared.row.Row.{Row}
 use Rattle.market_types.specs.Step.{arena_at}
+use Rattle.wide_rows.specs.Leveled.{rows_at, with_first, without_at}
 use Rattle.arena_store.specs.Arenas.{level_row}
 use Rattle.arena_store.specs.Held.{index_in}
 use Rattle.arena_store.specs.Store.{by_stamp}
-use Rattle.arena_store.proofs.Stored.{missing-by_stamp, index-found, found-by_stamp, row-here, some-here, level-here, all-visits, promoted-room, promoted-newest, promoted-visits, stored-promoted, view-promoted, list-visits}
+use Rattle.arena_store.proofs.Stored.{missing-by_stamp, index-found, found-by_stamp, row-here, promoted-newest, promoted-visits, stored-promoted, view-promoted}
 use Rattle.arena_store.proofs.store.Arenas.promote.Goals as goal
+use Rattle.arena_store.proofs.store.Arenas.promote.Goals.{After-index}
 
-pub unreachable-requires : goal.unreachable-requires
-unreachable-requires c =
+-- the arena's row is in the list of its level
+row-there : (c : After-index) → row_at c.stamp.result (rows_at c.index-from.result c.self.inside.lists) ≡ Some (level_row c.at-old.result)
+row-there c =
     let s = c.self.inside in
     let x = c.at-old.result in
-    let i = (index_in s.table.places c.in_ok-place.place) in
-    let within = c.in_ok-place.ensures.there in
-    let found = c.in_ok-place.ensures.found in
     let e = (rw c.in_ok-place.ensures.unchanged at c.at-old.ensures) in
-    let level : c.index.result ≡ x.level - 1 = omega (arith, c.level.ensures) in
-    let some = row-here s.table.arenas s.lists s.enqueued i x c.self.invariant within e c.index.result c.index-self-index.result level in
-    none-some (level_row x) (sym c.in_default.is ∙ c.take-taken.ensures.taken ∙ ap (λ k. row_at k (get_or s.lists c.index.result c.index-self-index.result)) c.stamp.ensures ∙ some)
+    let from : c.index-from.result ≡ x.level - 1 = omega (arith, c.level.ensures) in
+    ap (λ k. row_at k (rows_at c.index-from.result s.lists)) c.stamp.ensures
+    ∙ row-here s.table.arenas s.lists s.enqueued (index_in s.table.places c.in_ok-place.place) x c.self.invariant c.in_ok-place.ensures.there e c.index-from.result from
 
-pub put-back-requires-clause-room : goal.put-back-requires-clause-room
-put-back-requires-clause-room c =
-    let s = c.self.inside in
-    let x = c.at-old.result in
-    let y : Arena = record x { stamp = c.args.stamp; level = c.args.level } in
-    let i = (index_in s.table.places c.in_ok-place.place) in
-    let within = c.in_ok-place.ensures.there in
-    let found = c.in_ok-place.ensures.found in
-    let older = rw (← c.self.view_is) at c.requires.newest in
-    let e = (rw c.in_ok-place.ensures.unchanged at c.at-old.ensures) in
-    let level : c.index.result ≡ x.level - 1 = omega (arith, c.level.ensures) in
-    let rows = c.take-taken.ensures.rows ∙ ap (λ k. without_row k (get_or s.lists c.index.result c.index-self-index.result)) c.stamp.ensures in
-    promoted-room s.table.arenas s.lists s.enqueued i x c.self.invariant within e y older (omega arith, omega arith) c.index.result c.index-2.result c.index-self-index.result c.index-self-index-2.result _ _
-    level (omega (arith, c.index-2.ensures.exact)) refl rows
+pub promote-visits-requires-clause-there : goal.promote-visits-requires-clause-there
+promote-visits-requires-clause-there c = rw (row-there c) refl
 
-pub put-back-requires-clause-newest : goal.put-back-requires-clause-newest
-put-back-requires-clause-newest c =
+pub promote-visits-requires-clause-newest : goal.promote-visits-requires-clause-newest
+promote-visits-requires-clause-newest c =
     let s = c.self.inside in
     let x = c.at-old.result in
     let y : Arena = record x { stamp = c.args.stamp; level = c.args.level } in
     let i = (index_in s.table.places c.in_ok-place.place) in
     let within = c.in_ok-place.ensures.there in
-    let found = c.in_ok-place.ensures.found in
     let older = rw (← c.self.view_is) at c.requires.newest in
     let e = (rw c.in_ok-place.ensures.unchanged at c.at-old.ensures) in
-    let level : c.index.result ≡ x.level - 1 = omega (arith, c.level.ensures) in
-    let rows = c.take-taken.ensures.rows ∙ ap (λ k. without_row k (get_or s.lists c.index.result c.index-self-index.result)) c.stamp.ensures in
-    promoted-newest s.table.arenas s.lists s.enqueued i x c.self.invariant within e y older (omega arith, omega arith) c.index.result c.index-2.result c.index-self-index.result c.index-self-index-2.result _ _
-    level (omega (arith, c.index-2.ensures.exact)) refl rows
-
-pub overflow_add-result : goal.overflow_add-result
-overflow_add-result c =
-    let s = c.self.inside in
-    let x = c.at-old.result in
-    let y : Arena = record x { stamp = c.args.stamp; level = c.args.level } in
-    let i = (index_in s.table.places c.in_ok-place.place) in
-    let within = c.in_ok-place.ensures.there in
-    let found = c.in_ok-place.ensures.found in
-    let older = rw (← c.self.view_is) at c.requires.newest in
-    let e = (rw c.in_ok-place.ensures.unchanged at c.at-old.ensures) in
-    let level : c.index.result ≡ x.level - 1 = omega (arith, c.level.ensures) in
-    let rows = c.take-taken.ensures.rows ∙ ap (λ k. without_row k (get_or s.lists c.index.result c.index-self-index.result)) c.stamp.ensures in
-    let within_level = level-here s.table.arenas s.lists s.enqueued i x c.self.invariant within e in
-    let out : c.take-taken.result.1 ≤ 2 * bits (length (by_stamp s.table.arenas)) =
-    list-visits s.table.arenas s.lists s.enqueued c.self.invariant x.level c.index.result c.index-self-index.result within_level.0 within_level.1 level c.take-taken.result.1 c.take-taken.ensures.visits in
-    let back : c.put-back.result ≤ 2 * bits (length (by_stamp s.table.arenas)) + 1 =
-    promoted-visits s.table.arenas s.lists s.enqueued i x c.self.invariant within e y older (omega arith, omega arith) c.index.result c.index-2.result c.index-self-index.result c.index-self-index-2.result _ _
-    level (omega (arith, c.index-2.ensures.exact)) refl rows c.put-back.result c.put-back.ensures.visits in
-    omega (arith, all-visits s.table.arenas s.lists s.enqueued c.self.invariant, out, back)
+    let from : c.index-from.result ≡ x.level - 1 = omega (arith, c.level.ensures) in
+    rw c.stamp.ensures
+    (promoted-newest s.table.arenas s.lists s.enqueued i x c.self.invariant within e y older (omega arith, omega arith) c.index-from.result c.index.result from (omega (arith, c.index.ensures.exact)))
 
 pub invariant_of-self-2 : goal.invariant_of-self-2
 invariant_of-self-2 c =
@@ -80,19 +44,13 @@ invariant_of-self-2 c =
     let y : Arena = record x { stamp = c.args.stamp; level = c.args.level } in
     let i = (index_in s.table.places c.in_ok-place.place) in
     let within = c.in_ok-place.ensures.there in
-    let found = c.in_ok-place.ensures.found in
     let older = rw (← c.self.view_is) at c.requires.newest in
     let e = (rw c.in_ok-place.ensures.unchanged at c.at-old.ensures) in
-    let level : c.index.result ≡ x.level - 1 = omega (arith, c.level.ensures) in
-    let rows = c.take-taken.ensures.rows ∙ ap (λ k. without_row k (get_or s.lists c.index.result c.index-self-index.result)) c.stamp.ensures in
-    let some = row-here s.table.arenas s.lists s.enqueued i x c.self.invariant within e c.index.result c.index-self-index.result level in
-    let same : c.in-Some.taken ≡ level_row x =
-    same_Some c.in-Some.taken (level_row x) (sym c.in-Some.is ∙ c.take-taken.ensures.taken ∙ ap (λ k. row_at k (get_or s.lists c.index.result c.index-self-index.result)) c.stamp.ensures ∙ some) in
-    let fresh : record c.in-Some.taken { stamp = c.args.stamp } ≡ level_row y = ap (λ (r : Row). record r { stamp = c.args.stamp }) same in
-    let after = rw fresh at c.put-back.ensures.rows in
-    rw (c.set.ensures, c.in_ok-place.ensures.unchanged, c.promoted.ensures)
-    (stored-promoted s.table.arenas s.lists s.enqueued i x c.self.invariant within e y older (omega arith, omega arith) c.index.result c.index-2.result c.index-self-index.result c.index-self-index-2.result _ _
-    level (omega (arith, c.index-2.ensures.exact)) refl rows _ refl refl after)
+    let from : c.index-from.result ≡ x.level - 1 = omega (arith, c.level.ensures) in
+    let moved = c.promote-visits.ensures.promoted (level_row x) (row-there (goal.at.invariant_of-self-2 c).After-index)
+    ∙ ap (λ k. with_first c.index.result (level_row y) (without_at c.index-from.result k s.lists)) c.stamp.ensures in
+    rw (c.set.ensures, c.in_ok-place.ensures.unchanged, c.promoted.ensures, moved)
+    (stored-promoted s.table.arenas s.lists s.enqueued i x c.self.invariant within e y older (omega arith, omega arith) c.index-from.result c.index.result from (omega (arith, c.index.ensures.exact)) refl refl)
 
 pub returns-in_err-place-clause-exact : goal.returns-in_err-place-clause-exact
 returns-in_err-place-clause-exact c =
@@ -135,24 +93,10 @@ returns-clause-visits c =
     let y : Arena = record x { stamp = c.args.stamp; level = c.args.level } in
     let i = (index_in s.table.places c.in_ok-place.place) in
     let within = c.in_ok-place.ensures.there in
-    let found = c.in_ok-place.ensures.found in
     let older = rw (← c.self.view_is) at c.requires.newest in
     let e = (rw c.in_ok-place.ensures.unchanged at c.at-old.ensures) in
-    let level : c.index.result ≡ x.level - 1 = omega (arith, c.level.ensures) in
-    let rows = c.take-taken.ensures.rows ∙ ap (λ k. without_row k (get_or s.lists c.index.result c.index-self-index.result)) c.stamp.ensures in
-    let within_level = level-here s.table.arenas s.lists s.enqueued i x c.self.invariant within e in
-    let out : c.take-taken.result.1 ≤ 2 * bits (length (by_stamp s.table.arenas)) =
-    list-visits s.table.arenas s.lists s.enqueued c.self.invariant x.level c.index.result c.index-self-index.result within_level.0 within_level.1 level c.take-taken.result.1 c.take-taken.ensures.visits in
-    let back : c.put-back.result ≤ 2 * bits (length (by_stamp s.table.arenas)) + 1 =
-    promoted-visits s.table.arenas s.lists s.enqueued i x c.self.invariant within e y older (omega arith, omega arith) c.index.result c.index-2.result c.index-self-index.result c.index-self-index-2.result _ _
-    level (omega (arith, c.index-2.ensures.exact)) refl rows c.put-back.result c.put-back.ensures.visits in
-    rw (← c.self.view_is) (omega (arith, out, back))
-
-pub returns-clause-entered : goal.returns-clause-entered
-returns-clause-entered c =
-    let s = c.self.inside in
-    let x = c.at-old.result in
-    let within = c.in_ok-place.ensures.there in
-    let level : c.index.result ≡ x.level - 1 = omega (arith, c.level.ensures) in
-    let out = c.take-taken.ensures.entered (some-here s.table.arenas s.lists s.enqueued (index_in s.table.places c.in_ok-place.place) x c.self.invariant within (rw c.in_ok-place.ensures.unchanged at c.at-old.ensures) c.index.result c.index-self-index.result level) in
-    omega (arith, out, c.put-back.ensures.low)
+    let from : c.index-from.result ≡ x.level - 1 = omega (arith, c.level.ensures) in
+    let visits = rw c.stamp.ensures at c.promote-visits.ensures.visits in
+    rw (← c.self.view_is)
+    (promoted-visits s.table.arenas s.lists s.enqueued i x c.self.invariant within e y older (omega arith, omega arith) c.index-from.result c.index.result from (omega (arith, c.index.ensures.exact))
+    c.promote-visits.result visits)

@@ -1,8 +1,9 @@
-use Rattle.std.proofs.Common.{arith, ap, ◌∙◌, ◌≡◌, ◌+◌, ◌-◌, ◌<◌, cond, ltb, length, ◌∷◌, get_or}
+use Rattle.std.proofs.Common.{arith, ap, ◌∙◌, ◌≡◌, ◌+◌, ◌-◌, ◌<◌, cond, ltb, length}
 use Rattle.market_types.specs.State.{Claim}
 use Rattle.market_types.specs.declared.row.Row.{Row}
+use Rattle.wide_rows.specs.Leveled.{with_first}
 use Rattle.arena_store.proofs.ByStamp.{length-by_stamp}
-use Rattle.arena_store.proofs.Stored.{list-few, list-newest, list-visits_one, stored-pushed, view-pushed}
+use Rattle.arena_store.proofs.Stored.{total-stored, list-newest, list-visits_one, stored-pushed, view-pushed}
 use Rattle.arena_store.proofs.store.Arenas.push.Goals as goal
 
 pub reserve-requires : goal.reserve-requires
@@ -11,9 +12,8 @@ reserve-requires c = omega (arith, length-by_stamp c.self.inside.table.arenas, a
 pub push-requires-clause-room : goal.push-requires-clause-room
 push-requires-clause-room c =
     let s = c.self.inside in
-    let level : c.index.result ≡ c.args.arena.level - 1 = omega (arith, c.level.ensures) in
     let room : length s.table.arenas < 1024 = omega (arith, length-by_stamp s.table.arenas, ap length c.self.view_is, c.requires.room) in
-    omega (arith, list-few s.table.arenas s.lists s.enqueued c.self.invariant c.args.arena.level c.index.result c.index-self-index.result (omega arith) (omega arith) level)
+    omega (arith, total-stored s.table.arenas s.lists s.enqueued c.self.invariant, room)
 
 pub push-requires-clause-newest : goal.push-requires-clause-newest
 push-requires-clause-newest c =
@@ -21,7 +21,7 @@ push-requires-clause-newest c =
     let level : c.index.result ≡ c.args.arena.level - 1 = omega (arith, c.level.ensures) in
     let older = rw (← c.self.view_is) at c.requires.newest in
     let stamp : c.row.result.stamp ≡ c.args.arena.stamp = ap (λ (r : Row). r.stamp) c.row.ensures.exact in
-    rw stamp (list-newest s.table.arenas s.lists s.enqueued c.self.invariant c.args.arena.level c.index.result c.index-self-index.result (omega arith) (omega arith) level c.args.arena.stamp older)
+    rw stamp (list-newest s.table.arenas s.lists s.enqueued c.self.invariant c.args.arena.level c.index.result (omega arith) (omega arith) level c.args.arena.stamp older)
 
 pub invariant_of-self-2 : goal.invariant_of-self-2
 invariant_of-self-2 c =
@@ -30,10 +30,10 @@ invariant_of-self-2 c =
     let older = rw (← c.self.view_is) at c.requires.newest in
     let last = rw (← c.self.view_is) at c.requires.last in
     let room : length s.table.arenas < 1024 = omega (arith, length-by_stamp s.table.arenas, ap length c.self.view_is, c.requires.room) in
-    let rows = c.in_ok-visits.ensures.rows ∙ ap (λ (r : Row). r ∷ get_or s.lists c.index.result c.index-self-index.result) c.row.ensures.exact in
-    rw (c.push_reserved.ensures, c.in_ok-reserve.ensures.unchanged)
-    (stored-pushed s.table.arenas s.lists s.enqueued c.args.arena c.index.result c.index-self-index.result _ _ c.self.invariant room older last (omega arith, omega arith) level
-    rows (ap (λ k. s.enqueued + k) (c.counted.ensures ∙ ap (λ (q : Claim). cond (ltb 0 q.mandatory) 1 0) c.claim.ensures)))
+    let lists = c.in_ok-visits.ensures.pushed ∙ ap (λ (r : Row). with_first c.index.result r s.lists) c.row.ensures.exact in
+    rw (c.push_reserved.ensures, c.in_ok-reserve.ensures.unchanged, lists)
+    (stored-pushed s.table.arenas s.lists s.enqueued c.args.arena c.index.result _ c.self.invariant room older last (omega arith, omega arith) level
+    (ap (λ k. s.enqueued + k) (c.counted.ensures ∙ ap (λ (q : Claim). cond (ltb 0 q.mandatory) 1 0) c.claim.ensures)))
 
 pub returns-clause-pushed : goal.returns-clause-pushed
 returns-clause-pushed c =
@@ -45,5 +45,5 @@ pub returns-clause-visits : goal.returns-clause-visits
 returns-clause-visits c =
     let s = c.self.inside in
     let level : c.index.result ≡ c.args.arena.level - 1 = omega (arith, c.level.ensures) in
-    rw (← c.self.view_is) (list-visits_one s.table.arenas s.lists s.enqueued c.self.invariant c.args.arena.level c.index.result c.index-self-index.result (omega arith) (omega arith) level
+    rw (← c.self.view_is) (list-visits_one s.table.arenas s.lists s.enqueued c.self.invariant c.args.arena.level c.index.result (omega arith) (omega arith) level
     c.in_ok-visits.visits c.in_ok-visits.ensures.visits.1)

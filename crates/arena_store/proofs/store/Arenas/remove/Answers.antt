@@ -1,5 +1,5 @@
-use Rattle.std.proofs.Common.{arith, sym, ap, ◌∙◌, ◌≡◌, ◌-◌, cond, ltb, get_or, Some, refl}
-use Rattle.level_list.specs.Rows.{without as without_row}
+use Rattle.std.proofs.Common.{arith, sym, ap, ◌∙◌, ◌≡◌, ◌-◌, cond, ltb, Some, refl}
+use Rattle.wide_rows.specs.Leveled.{without_at}
 use Rattle.market_types.specs.State.{Claim, Arena}
 use Rattle.market_types.specs.Step.{arena_at, without}
 use Rattle.arena_store.specs.Store.{by_stamp}
@@ -32,10 +32,10 @@ invariant_of-self c =
     let i = c.in_ok-index.index in
     let there = c.in_ok-index.ensures.there in
     let index : c.index.result ≡ x.level - 1 = omega (arith, c.level.ensures) in
-    let rows = c.take-taken.ensures.rows ∙ ap (λ k. without_row k (get_or s.lists c.index.result c.index-self-index.result)) c.stamp.ensures in
+    let lists = c.take-taken.ensures.rows ∙ ap (λ k. without_at c.index.result k s.lists) c.stamp.ensures in
     let old : c.counted.result ≡ cond (ltb 0 x.claim.mandatory) 1 0 = c.counted.ensures ∙ ap (λ (q : Claim). cond (ltb 0 q.mandatory) 1 0) c.claim.ensures in
-    rw c.remove-old.ensures.items
-    (stored-removed s.table.arenas s.lists s.enqueued i x c.self.invariant there c.remove-old.ensures.value c.index.result c.index-self-index.result _ _ index rows
+    rw (c.remove-old.ensures.items, lists)
+    (stored-removed s.table.arenas s.lists s.enqueued i x c.self.invariant there c.remove-old.ensures.value c.index.result _ index
     (omega (arith, counted-within s.table.arenas s.lists s.enqueued i x c.self.invariant there c.remove-old.ensures.value, old)))
 
 pub returns-clause-exact : goal.returns-clause-exact
@@ -56,7 +56,7 @@ returns-clause-visits c =
     let there = c.in_ok-index.ensures.there in
     let level : c.index.result ≡ x.level - 1 = omega (arith, c.level.ensures) in
     let within = level-here s.table.arenas s.lists s.enqueued c.in_ok-index.index x c.self.invariant there c.remove-old.ensures.value in
-    rw (← c.self.view_is) (list-visits s.table.arenas s.lists s.enqueued c.self.invariant x.level c.index.result c.index-self-index.result within.0 within.1 level c.take-taken.result.1 c.take-taken.ensures.visits)
+    rw (← c.self.view_is) (list-visits s.table.arenas s.lists s.enqueued c.self.invariant x.level c.index.result within.0 within.1 level c.take-taken.result.1 c.take-taken.ensures.visits)
 
 pub returns-clause-entered : goal.returns-clause-entered
 returns-clause-entered c =
@@ -64,4 +64,4 @@ returns-clause-entered c =
     let x = c.remove-old.result in
     let there = c.in_ok-index.ensures.there in
     let level : c.index.result ≡ x.level - 1 = omega (arith, c.level.ensures) in
-    c.take-taken.ensures.entered (some-here s.table.arenas s.lists s.enqueued c.in_ok-index.index x c.self.invariant there c.remove-old.ensures.value c.index.result c.index-self-index.result level)
+    c.take-taken.ensures.entered (some-here s.table.arenas s.lists s.enqueued c.in_ok-index.index x c.self.invariant there c.remove-old.ensures.value c.index.result level)
