@@ -32,9 +32,9 @@ module _ (column : List ℕ) (long : length column ≡ 16) (low : total column <
   all : total column ≡ 0 + at 0 + at 1 + at 2 + at 3 + at 4 + at 5 + at 6 + at 7 + at 8 + at 9 + at 10 + at 11 + at 12 + at 13 + at 14 + at 15
   all = total_added column ∙ ap (added (λ k. get_or column k 0)) long ∙ refl
 
-  pub four_sums : (quad : ℕ) → quad < 4 → get_or (four column 0 1 2 3 ∷ four column 4 5 6 7 ∷ four column 8 9 10 11 ∷ four column 12 13 14 15 ∷ []) quad 0 ≡ quad_sum column quad
-  four_sums zero l = four_are column 0 1 2 3 long (omega arith) (omega arith) (omega arith) (omega arith) (omega (arith, low, all))
-  four_sums (suc zero) l = four_are column 4 5 6 7 long (omega arith) (omega arith) (omega arith) (omega arith) (omega (arith, low, all))
-  four_sums (suc (suc zero)) l = four_are column 8 9 10 11 long (omega arith) (omega arith) (omega arith) (omega arith) (omega (arith, low, all))
-  four_sums (suc (suc (suc zero))) l = four_are column 12 13 14 15 long (omega arith) (omega arith) (omega arith) (omega arith) (omega (arith, low, all))
+  pub four_sums : (quad : ℕ) → quad < 4 → get_or (four column 0 2 1 3 ∷ four column 4 6 5 7 ∷ four column 8 10 9 11 ∷ four column 12 14 13 15 ∷ []) quad 0 ≡ quad_sum column quad
+  four_sums zero l = four_are column 0 2 1 3 long (omega arith) (omega arith) (omega arith) (omega arith) (omega (arith, low, all)) ∙ omega arith
+  four_sums (suc zero) l = four_are column 4 6 5 7 long (omega arith) (omega arith) (omega arith) (omega arith) (omega (arith, low, all)) ∙ omega arith
+  four_sums (suc (suc zero)) l = four_are column 8 10 9 11 long (omega arith) (omega arith) (omega arith) (omega arith) (omega (arith, low, all)) ∙ omega arith
+  four_sums (suc (suc (suc zero))) l = four_are column 12 14 13 15 long (omega arith) (omega arith) (omega arith) (omega arith) (omega (arith, low, all)) ∙ omega arith
   four_sums (suc (suc (suc (suc n)))) l = absurd (omega arith)

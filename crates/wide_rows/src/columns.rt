@@ -1,5 +1,6 @@
 //! The columns of a leaf, and what is written into one lane of them.
-ghost use Rattle.std.specs.Prelude.{◌≡◌, ℕ, ◌<◌, ◌≤◌, ◌+◌, ◌++◌, ◌==◌, nat_lt, if◌then◌else◌};
+ghost use Rattle.std.specs.Prelude.{◌≡◌, ℕ, ◌<◌, ◌≤◌, ◌+◌, [], ◌∷◌, ◌++◌, ◌==◌, nat_lt, if◌then◌else◌};
+ghost use Rattle.prefix_tree.specs.Rows.{requests_above};
 ghost use Rattle.wide_rows.specs.Leaves.{lane, rows_in, IsTidy};
 
 use crate::search::without_lane;
@@ -45,6 +46,19 @@ impl Columns {
             arena: ArenaId::new(self.arenas[place as usize]),
             request: self.requests[place as usize],
             mandated: self.mandated >> place & 1 == 1,
+        }
+    }
+
+    /// What the row in a lane asks for where its stamp is above this one, else 0.
+    #[inline]
+    pub(crate) fn above(&self, place: u32, stamp: u32) -> u32
+        requires { place < 16 }
+        ensures { result ≡ requests_above stamp (lane self.now place ∷ []) }
+    {
+        if self.stamps[place as usize] > stamp {
+            self.requests[place as usize]
+        } else {
+            0
         }
     }
 

@@ -120,6 +120,10 @@ impl Index {
         requires first { slice_index self.now.oldest 0 ≤ stamp }
         ensures { (rows : ℕ → List Row) (count : ℕ) → IsStorey self.now rows count → IsPlace stamp self.now rows count result }
     {
+        // A level of up to 16 leaves has one block, so that its top is not searched.
+        if self.len == 1 {
+            return 0;
+        }
         search::place_above(&self.oldest, stamp).min(self.len) as usize - 1
     }
 

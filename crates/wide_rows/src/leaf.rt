@@ -82,6 +82,10 @@ impl Leaf {
         ensures exact { result ≡ requests_above stamp self.now }
         ensures most { result ≤ 16 * 65535 }
     {
+        // The only row of a leaf is compared alone, which saves a market with one arena the vectors.
+        if self.columns.count == 1 {
+            return self.columns.above(0, stamp);
+        }
         search::sum_above(&self.columns.stamps, &self.columns.requests, stamp)
     }
 

@@ -47,11 +47,13 @@ pub(crate) fn quad_sums(sums: &[u32; 16]) -> [u32; 4]
 {
     let lanes = u32x16::from_array(*sums);
     let none = u32x16::splat(0);
-    let first: u32x4 = lanes.shuffle(none, [0, 4, 8, 12]);
-    let second: u32x4 = lanes.shuffle(none, [1, 5, 9, 13]);
-    let third: u32x4 = lanes.shuffle(none, [2, 6, 10, 14]);
-    let fourth: u32x4 = lanes.shuffle(none, [3, 7, 11, 15]);
-    (first + second + (third + fourth)).to_array()
+    // Lanes that lie side by side are moved in pairs, which a vector of four takes one step for.
+    let first: u32x8 = lanes.shuffle(none, [0, 4, 1, 5, 8, 12, 9, 13]);
+    let second: u32x8 = lanes.shuffle(none, [2, 6, 3, 7, 10, 14, 11, 15]);
+    let halves = first + second;
+    let even: u32x4 = halves.shuffle(halves, [0, 1, 4, 5]);
+    let odd: u32x4 = halves.shuffle(halves, [2, 3, 6, 7]);
+    (even + odd).to_array()
 }
 
 /// How many keys come before the first that is above a stamp.
@@ -70,6 +72,10 @@ pub(crate) fn place_of(keys: &[u32; 16], stamp: u32) -> u32
     ensures first { (place : ℕ) → place < 16 → place < result → slice_index keys.now place ≢ stamp }
     ensures there { result < 16 → slice_index keys.now result ≡ stamp }
 {
+    // The first is told without the others, which saves the only row of a leaf the vectors.
+    if keys[0] == stamp {
+        return 0;
+    }
     let same = u32x16::from_array(*keys).simd_eq(u32x16::splat(stamp));
     same.to_bitmask().trailing_zeros()
 }
