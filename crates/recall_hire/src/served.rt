@@ -1,11 +1,14 @@
 //! A walk through the arenas of a level that gets all that it asks for: each is allotted what it asks for, and nothing is
 //! carried.
-ghost use Rattle.std.specs.Prelude.{ℕ, ◌+◌, ◌^◌, ◌<◌, length};
+ghost use Rattle.std.specs.Prelude.{ℕ, ◌+◌, ◌^◌, ◌<◌, ◌≤◌, length};
+ghost use Rattle.std.specs.Bool.{OnTrue, OnFalse};
+ghost use Rattle.std.specs.List.{count_by};
+ghost use Rattle.market_types.specs.Allotment.{is_just};
 ghost use Rattle.wide_rows.specs.Passed.{with_height};
 ghost use Rattle.recall_hire.specs.Shared.{IsLook, IsSearch};
 
 use crate::roster::Roster;
-use market_types::ArenaId;
+use market_types::{ArenaId, Row};
 use wide_rows::{Quad, Walk};
 
 /// The first arena of a level that asks for more workers than it has. Looks at four only where one of them asks for a worker.
@@ -33,9 +36,19 @@ fn short_among(roster: &Roster, rows: Quad<'_>, visits: &mut u32) -> Option<Aren
 {
     let mut rest = rows;
     while let Some(row) = rest.next(visits) {
-        if roster.active(row.arena) < row.request {
-            return Some(row.arena);
+        let arena = row.arena;
+        if is_short(roster, row) {
+            return Some(arena);
         }
     }
     None
+}
+
+/// Whether an arena asks for more workers than it has. One that asks for none is not looked up.
+#[inline(always)]
+fn is_short(roster: &Roster, row: Row) -> bool
+    ensures yes { OnTrue result (count_by (is_just row.arena) roster.now < row.request) }
+    ensures no { OnFalse result (row.request ≤ count_by (is_just row.arena) roster.now) }
+{
+    row.request > 0 && roster.active(row.arena) < row.request
 }

@@ -3,13 +3,13 @@ use Rattle.recall_hire.proofs.Searches.{look-ends, look-finds, look-goes-on}
 use Rattle.recall_hire.proofs.Askers.{served-share, served-carry}
 use Rattle.recall_hire.proofs.served.short_among.Goals as goal
 
-pub returns-then-active-row : goal.returns-then-active-row
-returns-then-active-row c = λ d some.
+pub returns-then-is_short : goal.returns-then-is_short
+returns-then-is_short c = λ d some.
     let row = c.in-Some.row in
     let e = c.in-Some.ensures in
     c.loop-row.invariant.goes d some c.next.new.visits _
     (look-finds d d c.args.roster.now c.loop-row.rest row c.next.new.self 0 0 c.loop-row.visits c.next.new.visits e.some e.counted
-    (omega (arith, served-share row.request d some, c.active.ensures.exact, c.if-active-row.true)))
+    (omega (arith, served-share row.request d some, c.if-is_short.ensures.yes)))
 
 pub loop-row-preserved : goal.loop-row-preserved
 loop-row-preserved c =
@@ -21,7 +21,7 @@ loop-row-preserved c =
       goes = λ d some end found rest.
           i.goes d some end found
           (look-goes-on d d c.args.roster.now c.loop-row.rest row c.next.new.self 0 0 0 c.loop-row.visits c.next.new.visits end found e.some e.counted
-          (omega (arith, served-share row.request d some, c.active.ensures.exact, c.if-active-row.false)) (sym (served-carry row.request d some)) rest);
+          (omega (arith, served-share row.request d some, c.if-is_short.ensures.no)) (sym (served-carry row.request d some)) rest);
     }
 
 pub returns : goal.returns
