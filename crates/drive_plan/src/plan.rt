@@ -1,5 +1,5 @@
 //! Plans.
-ghost use Rattle.std.specs.Prelude.{◌≡◌, ◌≤◌, None, Some, true, false, IfOk, length};
+ghost use Rattle.std.specs.Prelude.{◌≡◌, ◌≤◌, None, Some, true, false, IfOk, OnErr, length};
 ghost use Rattle.std.specs.List.{All};
 ghost use Rattle.drive_plan.specs.Plans.{FitsArena, FitsControl, FitsJob, FitsLine, FitsMarket, after_market, with_arena, with_control, with_job, with_line};
 
@@ -163,6 +163,7 @@ impl Plan {
         ensures taken { IfOk result (λ taken. taken ≡ true → with_job self.old job ≡ Some self.new) }
         ensures full { IfOk result (λ taken. taken ≡ false → with_job self.old job ≡ None) }
         ensures left { IfOk result (λ taken. taken ≡ false → self.new ≡ self.old) }
+        ensures unchanged { OnErr result (self.new ≡ self.old) }
     {
         if self.jobs.len() >= MOST_JOBS {
             return Ok(false);

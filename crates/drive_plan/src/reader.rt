@@ -1,5 +1,5 @@
 //! A plan, read line by line.
-ghost use Rattle.std.specs.Prelude.{◌≡◌, ◌+◌, ◌<◌, ℕ, true, false, IfOk, OnOk};
+ghost use Rattle.std.specs.Prelude.{◌≡◌, ◌+◌, ◌<◌, ℕ, true, false, IfOk, OnOk, OnErr};
 ghost use Rattle.std.specs.List.{count_by};
 ghost use Rattle.line_engine.specs.Lines.{is_lf};
 ghost use Rattle.drive_plan.specs.Format.{MemoryAside, after_line, after_text, begun, gone_on, is_passed_over, plan_of, stopped, told};
@@ -114,6 +114,7 @@ impl Progress {
     fn take_job(&mut self, line: &[u8], form: LineForm) -> Result<bool, AllocError>
         ensures taken { IfOk result (λ taken. taken ≡ true → (number : ℕ) → self.new ≡ after_line self.old (record { bytes = line.now; form = form }) number) }
         ensures left { IfOk result (λ taken. taken ≡ false → self.new ≡ self.old) }
+        ensures unchanged { OnErr result (self.new ≡ self.old) }
     {
         if matches!(form, LineForm::TooLong) {
             return Ok(false);

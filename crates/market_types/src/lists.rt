@@ -1,5 +1,5 @@
 //! Which arenas have workers too many or too few.
-ghost use Rattle.std.specs.Prelude.{◌≡◌, ◌+◌, ◌++◌, [], ◌∷◌, length, IfOk, OnOk};
+ghost use Rattle.std.specs.Prelude.{◌≡◌, ◌+◌, ◌++◌, [], ◌∷◌, length, IfOk, OnOk, OnErr};
 ghost use Rattle.market_types.specs.declared.lists.Correction.TheVariants.{Recall, Hire};
 ghost use Rattle.market_types.specs.Corrections.{counts_to};
 
@@ -51,11 +51,12 @@ impl Lists {
         self.arenas.len()
     }
 
-    /// Puts an arena at the end of the list that it belongs to. Out of memory is the `Err`.
+    /// Puts an arena at the end of the list that it belongs to. Out of memory is the `Err`, and leaves the lists as they were.
     #[tactic(auto, using(crate::proofs::Corrections::counts_append))]
     pub fn push(&mut self, arena: Imbalance) -> Result<(), AllocError>
         ensures recalls { OnOk result (self.new.recalls ≡ self.old.recalls ++ counts_to Recall (arena ∷ [])) }
         ensures hires { OnOk result (self.new.hires ≡ self.old.hires ++ counts_to Hire (arena ∷ [])) }
+        ensures unchanged { OnErr result (self.new ≡ self.old) }
     {
         self.arenas.push(arena)?;
         Ok(())

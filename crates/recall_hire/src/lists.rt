@@ -1,5 +1,5 @@
 //! Where workers are too many or too few: a walk through a level's arenas, past those that cannot be listed.
-ghost use Rattle.std.specs.Prelude.{◌≡◌, ◌+◌, ◌^◌, ◌<◌, ◌≤◌, [], ◌∷◌, ◌++◌, length, IsOk, IfOk, IfSome, IfNone, OnOk};
+ghost use Rattle.std.specs.Prelude.{◌≡◌, ◌+◌, ◌^◌, ◌<◌, ◌≤◌, [], ◌∷◌, ◌++◌, length, IsOk, IfOk, IfSome, IfNone, OnOk, OnErr};
 ghost use Rattle.prefix_tree.specs.Rows.{requests};
 ghost use Rattle.recall_hire.specs.Staffed.{actives, counts_in, imbalances};
 ghost use Rattle.recall_hire.specs.Shared.{CanShareAll, IsLow, row_share, row_carry, staffed, IsListed, IsOver, IsPassing, IsUnserved, IsWalk};
@@ -181,6 +181,7 @@ impl Listing<'_> {
 #[inline(always)]
 fn put(lists: &mut Lists, row: Staffing) -> Result<(), AllocError>
     ensures listed { OnOk result (IsListed (row ∷ []) lists.old lists.new) }
+    ensures unchanged { OnErr result (lists.new ≡ lists.old) }
     ensures succeeds { counts_in (row ∷ []) ≡ record { recalls = []; hires = [] } → IsOk result }
 {
     let (correction, count) = match row.active.cmp(&row.allotted) {
