@@ -1,7 +1,8 @@
 -- What is known when all have met.
 use Rattle.std.proofs.Common.{◌≡◌, ◌==◌, ℕ, ◌+◌, ◌<◌, List, [], ◌∷◌, ◌++◌, length, refl, ap, sym, ◌∙◌, subst, arith, length-append, All, Some, None}
 use Rattle.std.proofs.lemmas.List.{length-replicate}
-use Rattle.std.specs.List.{count_by}
+use Rattle.std.specs.List.{count_by, sum_by}
+use Rattle.std.proofs.lemmas.List.Sums.{sum_by-cons}
 use mathlib.Core.Option.{some, some-injective}
 use mathlib.Core.List.{IsPrefix}
 use lib.ListN.{get_elem?}
@@ -14,17 +15,19 @@ use Rattle.market_types.specs.History.{IsLegal, calls_of, of_seat, place_in, sta
 use Rattle.edit_history.specs.Chronicled.{Chronicled, HasNumbersOf, market_of}
 use Rattle.edit_history.specs.Places.{placed}
 use Rattle.market_desk.specs.Workers.{own_place}
+use Rattle.market_lock.specs.declared.view.Cut.{Cut}
 use Rattle.market_lock.specs.declared.view.Known.{Known}
 use Rattle.edit_history.specs.declared.terms.Terms.{Terms}
 use Rattle.market_lock.specs.declared.view.View.{View}
 use Rattle.market_lock.specs.declared.view.View.TheVariants.{Closer}
 use Rattle.market_lock.specs.Views.{opening_of, chronicle_from}
-use Rattle.market_lock.specs.Rule.{Kept, Once, Fitting}
-use Rattle.market_lock.specs.Seen.{OfPass, OfPlaced, Met}
+use Rattle.market_lock.specs.Cutting.{cut_by, IsCutUp}
+use Rattle.market_lock.specs.Rule.{Kept, Once, Fitting, parts_of, parts_of_all}
+use Rattle.market_lock.specs.Seen.{OfPass, OfPlaced, Met, HasParts, parts_by, AllParts}
 use Rattle.market_lock.specs.Held.{taken_in, whos, IsClosing, kept_of, known_for}
 use Rattle.market_lock.specs.Headline.{IsGivenBy}
 use Rattle.market_lock.proofs.Steps.{ends_it}
-use Rattle.market_lock.proofs.Meeting.{all_taken, active_is}
+use Rattle.market_lock.proofs.Meeting.{all_taken, all_who, active_is}
 
 abbrev M : Type 0
 M = Me Chronicled View
@@ -42,7 +45,10 @@ pub record Ended (key : Terms) (ps qs : List OfPass) (desk : Chronicled) : Type 
   pub kept_is : kept ≡ taken_in ps ++ taken_in qs
   pub desk_is : desk ≡ chronicle_from key desk.log desk.from
   pub once : Once kept
-  pub fits : (i : ℕ) (k : Known) → get_elem? kept i ≡ some k → Fitting key desk.log k
+  pub cuts : List Cut
+  pub fits : (i : ℕ) (k : Known) → get_elem? kept i ≡ some k → Fitting key desk.log cuts k
+  pub cut_up : IsCutUp key.keeping desk.log desk.from cuts
+  pub parts : parts_of_all kept ≡ length cuts
 
 pub ended_by : (key : Terms) (id : ℕ) (m0 m1 m2 : M) (ps qs : List OfPass) (ws : List ℕ) (xs : List Chronicled) (desk : Chronicled)
     → m0 ≡ (Closer key [], []) → IsClosing key m1 (kept_of m0.0 ++ taken_in ps) → IsClosing key m2 (kept_of m1.0 ++ taken_in qs) → length ps + length qs ≡ key.seats
@@ -55,13 +61,40 @@ ended_by key id m0 m1 m2 ps qs ws xs desk e0 e1 e2 all final got =
     let closed = subst (λ (v : View). Final (Seen (Kept key) id v) ws xs) last final in
     let en = ends_it key id key kept ws xs (omega (arith, all, length-append (taken_in ps) (taken_in qs), long_taken ps, long_taken qs)) closed in
     let log : List Entry = en.0 in
-    let same : chronicle_from key log en.1 ≡ desk = some-injective (chronicle_from key log en.1) desk (ap (λ (l : List Chronicled). get_elem? l 0) (sym en.2) ∙ got) in
+    let same : chronicle_from key log en.1 ≡ desk = some-injective (chronicle_from key log en.1) desk (ap (λ (l : List Chronicled). get_elem? l 0) (sym en.3) ∙ got) in
     record {
       kept = kept;
       kept_is = refl;
       desk_is = subst (λ (d : Chronicled). d ≡ chronicle_from key d.log d.from) same refl;
-      once = en.3;
-      fits = λ i k e. subst (λ (x : Chronicled). Fitting key x.log k) same (en.4 i k e);
+      once = en.4;
+      cuts = en.2;
+      fits = λ i k e. subst (λ (x : Chronicled). Fitting key x.log en.2 k) same (en.5 i k e);
+      cut_up = subst (λ (x : Chronicled). IsCutUp key.keeping x.log x.from en.2) same en.6;
+      parts = en.7;
+    }
+
+parts_append : (xs ys : List Known) → parts_of_all (xs ++ ys) ≡ parts_of_all xs + parts_of_all ys
+parts_append [] ys = omega arith
+parts_append (x ∷ xs) ys = let rest = parts_append xs ys in omega arith
+
+parts_taken : (ps : List OfPass) → parts_of_all (taken_in ps) ≡ sum_by parts_by ps
+parts_taken [] = refl
+parts_taken (p ∷ ps) = omega (arith, parts_taken ps, parts_append (taken_in ps) (known_for p ∷ []), sum_by-cons parts_by p ps)
+
+parts_whos : (qs : List OfPlaced) → sum_by parts_by (whos qs) ≡ sum_by (λ (q : OfPlaced). parts_by q.who) qs
+parts_whos [] = refl
+parts_whos (q ∷ qs) = omega (arith, parts_whos qs, sum_by-cons parts_by q.who (whos qs), sum_by-cons (λ (q : OfPlaced). parts_by q.who) q qs)
+
+-- all parts that were cut
+pub all_parts : (key : Terms) (ps : List OfPass) (qs : List OfPlaced) (desk : Chronicled) → Ended key ps (whos qs) desk → AllParts key.keeping desk.log desk.from ps qs
+all_parts key ps qs desk o =
+    let each = all_taken (λ (k : Known). IsPrefix k.cuts o.cuts × (cut_by k.seat o.cuts ≡ cut_by k.seat k.cuts)) o.kept ps (whos qs) o.kept_is (λ i k e. let f = o.fits i k e in (f.3, f.4)) in
+    record {
+      cuts = o.cuts;
+      cut_up = o.cut_up;
+      of_passes = each.0;
+      of_placed = all_who (HasParts o.cuts) qs each.1;
+      count = omega (arith, o.parts, ap parts_of_all o.kept_is, parts_append (taken_in ps) (taken_in (whos qs)), parts_taken ps, parts_taken (whos qs), parts_whos qs);
     }
 
 module _ (key : Terms) (ps qs : List OfPass) (desk : Chronicled) (o : Ended key ps qs desk) where

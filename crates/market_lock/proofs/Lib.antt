@@ -1,4 +1,5 @@
 mod Fronts
+mod Tiles
 mod Seats
 mod Steps
 mod Entries

@@ -4,7 +4,8 @@ use mathlib.Core.Option.{some, some-injective, some-ne-none}
 use lib.ListN.{get_elem?}
 use Rattle.atomic_table.proofs.Lists.{at_set}
 use Rattle.market_lock.specs.declared.view.View.{View}
-use Rattle.market_lock.specs.Rule.{seat_of, weight, weights, Apart, IsGone}
+use Rattle.market_lock.specs.declared.view.View.TheVariants.{Opener, Idle, Holder, Closer, Spent}
+use Rattle.market_lock.specs.Rule.{seat_of, weight, parts_in, total, Apart, IsGone}
 use Rattle.market_lock.proofs.Fronts.{at_snoc}
 
 -- a fact about each seat and its view
@@ -42,22 +43,49 @@ apart_snoc vs w apart new = λ i j n a b p q s t.
 pub gone_snoc : (vs : List View) (w : View) (n : ℕ) → seat_of w ≢ some n → IsGone vs n → IsGone (vs ++ w ∷ []) n
 gone_snoc vs w n new gone = each_snoc (λ j b. seat_of b ≢ some n) vs w new gone
 
--- ---- what the views weigh
-pub weights_set : (vs : List View) (me : ℕ) (v w : View) → get_elem? vs me ≡ some v → weights (set vs me w) + weight v ≡ weights vs + weight w
-weights_set [] me v w at = absurd (some-ne-none v (sym at))
-weights_set (x ∷ xs) zero v w at = let same = ap weight (some-injective x v at) in omega arith
-weights_set (x ∷ xs) (suc me) v w at = let rest = weights_set xs me v w at in omega arith
+-- ---- sums over the views: what they weigh, and the parts that they cut
+pub total_set : (f : View → ℕ) (vs : List View) (me : ℕ) (v w : View) → get_elem? vs me ≡ some v → total f (set vs me w) + f v ≡ total f vs + f w
+total_set f [] me v w at = absurd (some-ne-none v (sym at))
+total_set f (x ∷ xs) zero v w at = let same = ap f (some-injective x v at) in omega arith
+total_set f (x ∷ xs) (suc me) v w at = let rest = total_set f xs me v w at in omega arith
 
-pub weights_snoc : (vs : List View) (w : View) → weights (vs ++ w ∷ []) ≡ weights vs + weight w
-weights_snoc [] w = omega arith
-weights_snoc (x ∷ xs) w = let rest = weights_snoc xs w in omega arith
+pub total_snoc : (f : View → ℕ) (vs : List View) (w : View) → total f (vs ++ w ∷ []) ≡ total f vs + f w
+total_snoc f [] w = omega arith
+total_snoc f (x ∷ xs) w = let rest = total_snoc f xs w in omega arith
 
-pub weights_one : (vs : List View) (i : ℕ) (v : View) → get_elem? vs i ≡ some v → weight v ≤ weights vs
+pub weights_one : (vs : List View) (i : ℕ) (v : View) → get_elem? vs i ≡ some v → weight v ≤ total weight vs
 weights_one [] i v at = absurd (some-ne-none v (sym at))
 weights_one (x ∷ xs) zero v at = let same = ap weight (some-injective x v at) in omega arith
 weights_one (x ∷ xs) (suc i) v at = let rest = weights_one xs i v at in omega arith
 
-pub weights_two : (vs : List View) (i j : ℕ) (v w : View) → i ≢ j → get_elem? vs i ≡ some v → get_elem? vs j ≡ some w → weight v + weight w ≤ weights vs
+-- a view that stands for no pass has no parts
+light : (v : View) → weight v ≡ 0 → parts_in v ≡ 0
+light (Opener t n) e = refl
+light (Idle k) e = absurd (omega (arith, e))
+light (Holder k) e = absurd (omega (arith, e))
+light (Closer t []) e = refl
+light (Closer t (k ∷ ks)) e = absurd (omega (arith, e))
+light Spent e = refl
+
+all_light : (vs : List View) → total weight vs ≡ 0 → total parts_in vs ≡ 0
+all_light [] e = refl
+all_light (v ∷ vs) e = let here = light v (omega (arith, e)) in let rest = all_light vs (omega (arith, e)) in omega arith
+
+-- a view that stands for all passes has all parts
+pub parts_one : (vs : List View) (i : ℕ) (v : View) → get_elem? vs i ≡ some v → total weight vs ≤ weight v → total parts_in vs ≡ parts_in v
+parts_one [] i v at most = absurd (some-ne-none v (sym at))
+parts_one (x ∷ xs) zero v at most =
+    let same = ap weight (some-injective x v at) in
+    let own = ap parts_in (some-injective x v at) in
+    let rest = all_light xs (omega arith) in
+    omega arith
+parts_one (x ∷ xs) (suc i) v at most =
+    let under = weights_one xs i v at in
+    let here = light x (omega arith) in
+    let rest = parts_one xs i v at (omega arith) in
+    omega arith
+
+pub weights_two : (vs : List View) (i j : ℕ) (v w : View) → i ≢ j → get_elem? vs i ≡ some v → get_elem? vs j ≡ some w → weight v + weight w ≤ total weight vs
 weights_two [] i j v w ne p q = absurd (some-ne-none v (sym p))
 weights_two (x ∷ xs) zero zero v w ne p q = absurd (ne refl)
 weights_two (x ∷ xs) zero (suc j) v w ne p q = let same = ap weight (some-injective x v p) in let rest = weights_one xs j w q in omega arith

@@ -9,9 +9,11 @@ use Rattle.edit_history.specs.Parts.{EndsWith}
 use Rattle.edit_history.specs.declared.part.Part.{Part}
 use Rattle.edit_history.specs.declared.keeping.Keeping.TheVariants.{InParts}
 use Rattle.edit_history.specs.declared.terms.Terms.{Terms}
+use Rattle.market_lock.specs.declared.view.Cut.{Cut}
 use Rattle.market_lock.specs.declared.view.Known.{Known}
 use Rattle.market_lock.specs.declared.view.View.{View}
 use Rattle.market_lock.specs.declared.view.View.TheVariants.{Idle, Holder, Closer}
+use Rattle.market_lock.specs.Cutting.{cut_by, IsCutUp}
 use Rattle.market_lock.specs.Views.{opening_of, shown, known, chronicle_from}
 use Rattle.market_lock.specs.Seen.{known_of, OfPass, OfPlaced}
 
@@ -21,7 +23,8 @@ IsIdle m = m ≡ (Idle (known_of m.0), [])
 -- it has the desk, with a history that begins with all that it had seen
 abbrev pub HasTaken : Me Chronicled View → Me Chronicled View → Type 0
 HasTaken m n = let k = known_of m.0 in
-    (log : List Entry) × (from : ℕ) × (n ≡ (Holder (shown k log from), (0, chronicle_from k.terms log from) ∷ [])) × IsPrefix k.seen log × (of_seat k.seat log ≡ k.mine) × (k.from ≤ from)
+    (log : List Entry) × (from : ℕ) × (cuts : List Cut) × (n ≡ (Holder (shown k log from cuts), (0, chronicle_from k.terms log from) ∷ [])) × IsPrefix k.seen log × (of_seat k.seat log ≡ k.mine) × (k.from ≤ from)
+    × IsPrefix k.cuts cuts × (cut_by k.seat cuts ≡ cut_by k.seat k.cuts) × IsCutUp k.terms.keeping log from cuts
 
 -- the seat has the desk, of which P holds
 abbrev pub HasDesk : Me Chronicled View → (Chronicled → Type 0) → Type 0
@@ -31,10 +34,10 @@ HasDesk m P = (d : Chronicled) × (m ≡ (m.0, (0, d) ∷ [])) × P d
 abbrev pub HoldsDesk : Me Chronicled View → (Known → List Entry → ℕ → Type 0) → Type 0
 HoldsDesk m P = (log : List Entry) × (from : ℕ) × (m ≡ (Holder (known_of m.0), (0, chronicle_from (known_of m.0).terms log from) ∷ [])) × P (known_of m.0) log from
 
--- it has given the desk back
-abbrev pub HasGiven : Me Chronicled View → Me Chronicled View → Type 0
-HasGiven m n = let k = known_of m.0 in
-    (log : List Entry) × (from : ℕ) × (m ≡ (Holder k, (0, chronicle_from k.terms log from) ∷ [])) × (n ≡ (Idle (shown k log from), []))
+-- it has given the desk back, and what was cut out since is `next` of what it knew
+abbrev pub HasGiven : (Known → List Entry → List Cut) → Me Chronicled View → Me Chronicled View → Type 0
+HasGiven next m n = let k = known_of m.0 in
+    (log : List Entry) × (from : ℕ) × (m ≡ (Holder k, (0, chronicle_from k.terms log from) ∷ [])) × (n ≡ (Idle (shown k log from (next k log)), []))
 
 -- who knows l, and knew k before, has a part that ends its history, of which no entry is kept then; or it has none, and could not have one by a spare with so much room
 abbrev pub HasPart : Known → Known → ℕ → Option Part → Type 0
@@ -55,7 +58,7 @@ kept_of (Closer t kept) = kept
 kept_of v = []
 
 abbrev pub known_for : OfPass → Known
-known_for p = known p.terms p.seat p.seen p.from p.mine
+known_for p = known p.terms p.seat p.seen p.from p.cuts p.mine
 
 -- who takes passes back, with what it keeps
 abbrev pub IsClosing : Terms → Me Chronicled View → List Known → Type 0

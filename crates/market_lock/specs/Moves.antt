@@ -13,11 +13,11 @@ use Rattle.market_lock.specs.declared.pass.Joined.TheVariants as joined
 use Rattle.market_lock.specs.declared.pass.Stayed.{Stayed}
 use Rattle.market_lock.specs.declared.pass.Stayed.TheVariants as stayed
 use Rattle.market_lock.specs.Views.{opening_of, chronicle_cut}
-use Rattle.market_lock.specs.Seen.{OfPass, OfPlaced, Extends, Looks, IsSamePass}
+use Rattle.market_lock.specs.Seen.{OfPass, OfPlaced, Extends, Looks, IsSamePass, OthersCut}
 
--- the caller knows more of one legal history, and its call is in it; no entry is kept again
+-- the caller knows more of one legal history, and its call is in it; no entry is kept again, and what others cut meanwhile is all that is kept no more
 abbrev pub Called : OfPass → Cmd → Reply → OfPass → Type 0
-Called p cmd reply q = IsSamePass p q × IsLegal (opening_of q.terms) q.seen × Extends p cmd reply q × (p.from ≤ q.from)
+Called p cmd reply q = IsSamePass p q × IsLegal (opening_of q.terms) q.seen × Extends p cmd reply q × (p.from ≤ q.from) × OthersCut p q
 
 -- nothing was called, and more of the legal history was seen; it is full exactly where it has no places for the call
 abbrev pub Fails : OfPass → Cmd → CallFault → OfPass → Type 0
@@ -26,6 +26,7 @@ Fails p cmd fault q =
     × (fault ≡ HistoryFull → LacksPlaces (chronicle_cut q.terms q.seen q.from) q.seat cmd)
     × (LacksPlaces (chronicle_cut q.terms q.seen q.from) q.seat cmd → fault ≡ HistoryFull)
     × (p.from ≤ q.from)
+    × OthersCut p q
 
 abbrev pub HasJoined : OfPass → Joined OfPass OfPlaced → Type 0
 HasJoined p (joined.Placed q) = Called p Join (PlacedAt q.arena) q.who

@@ -1,5 +1,5 @@
 -- What contracts see of an office, of its passes and of its placed workers (own).
-use Rattle.std.specs.Prelude.{◌≡◌, ℕ, ◌<◌, List, [], ◌∷◌, ◌++◌, length, Result, Ok, Err}
+use Rattle.std.specs.Prelude.{◌≡◌, ℕ, ◌+◌, ◌<◌, List, [], ◌∷◌, ◌++◌, length, Result, Ok, Err, Option, Some, None, All, sum_by}
 use mathlib.Core.List.{IsPrefix}
 use Rattle.atomic_table.specs.Seated.{TableId}
 use Rattle.market_types.specs.declared.command.Cmd.{Cmd}
@@ -10,19 +10,24 @@ use Rattle.market_types.specs.History.{IsLegal, of_seat}
 use Rattle.edit_history.specs.Chronicled.{Chronicled, entry}
 use Rattle.worker_ledger.specs.Counted.{Counted}
 use Rattle.market_desk.specs.Workers.{own_place, workers_at}
+use Rattle.edit_history.specs.declared.keeping.Keeping.{Keeping}
+use Rattle.edit_history.specs.declared.part.Part.{Part}
 use Rattle.edit_history.specs.declared.terms.Terms.{Terms}
+use Rattle.market_lock.specs.declared.view.Cut.{Cut}
 use Rattle.market_lock.specs.declared.view.Known.{Known}
 use Rattle.market_lock.specs.declared.view.View.{View}
 use Rattle.market_lock.specs.declared.view.View.TheVariants.{Idle, Holder}
-use Rattle.market_lock.specs.Views.{known, no_terms, opening_of, chronicle_of}
+use Rattle.market_lock.specs.Cutting.{cut_by, IsCutUp}
+use Rattle.market_lock.specs.Views.{known, cut, no_terms, opening_of, chronicle_of}
 
--- a caller: of which office, which seat; the history that it saw last, and how many of its first entries were not kept then; and its own entries in it
+-- a caller: of which office, which seat; the history that it saw last, how many of its first entries were not kept then, and the parts that had been cut out of it, by whichever caller; and its own entries in it
 pub record OfPass : Type 0 where
   pub table : TableId
   pub terms : Terms
   pub seat : ℕ
   pub seen : List Entry
   pub from : ℕ
+  pub cuts : List Cut
   pub mine : List Entry
 
 -- a caller that is placed, and where
@@ -48,11 +53,21 @@ Extends p cmd reply q = let e = entry p.seat cmd reply in
 abbrev pub Looks : OfPass → OfPass → Type 0
 Looks p q = IsPrefix p.seen q.seen × (q.mine ≡ p.mine) × (of_seat p.seat q.seen ≡ q.mine)
 
+-- more is known of what was cut out of the history, and the caller cut none of it
+abbrev pub OthersCut : OfPass → OfPass → Type 0
+OthersCut p q = IsPrefix p.cuts q.cuts × (cut_by p.seat q.cuts ≡ cut_by p.seat p.cuts) × IsCutUp q.terms.keeping q.seen q.from q.cuts
+
+-- the same, but that the last of it is the caller's new part, where there is one
+abbrev pub HasCut : OfPass → Option Part → OfPass → Type 0
+HasCut p None q = OthersCut p q
+HasCut p (Some part) q = let c = cut p.seat part.from part.entries.items in
+    (between : List Cut) × (q.cuts ≡ (p.cuts ++ between) ++ c ∷ []) × (cut_by p.seat q.cuts ≡ cut_by p.seat p.cuts ++ c ∷ []) × IsCutUp q.terms.keeping q.seen q.from q.cuts
+
 -- ---- at the opening
 
 -- a pass of the seat k that has seen nothing and called nothing
 abbrev pub fresh : OfOffice → ℕ → OfPass
-fresh o k = record { table = o.table; terms = o.terms; seat = k; seen = []; from = 0; mine = [] }
+fresh o k = record { table = o.table; terms = o.terms; seat = k; seen = []; from = 0; cuts = []; mine = [] }
 
 -- the chronicle that a new office keeps, or why there is none
 abbrev pub kept_by : {A : Type 0} → Result (OfOffice × A) OpenFault → Result Chronicled OpenFault
@@ -65,25 +80,42 @@ kept_by (Err fault) = Err fault
 abbrev pub Met : List Entry → OfPass → Type 0
 Met history p = IsPrefix p.seen history × (of_seat p.seat history ≡ p.mine)
 
+-- it knew the first of these parts, and those that it cut are all that its seat has of them
+abbrev pub HasParts : List Cut → OfPass → Type 0
+HasParts cuts p = IsPrefix p.cuts cuts × (cut_by p.seat cuts ≡ cut_by p.seat p.cuts)
+
+-- how many parts a caller cut
+abbrev pub parts_by : OfPass → ℕ
+parts_by p = length (cut_by p.seat p.cuts)
+
+-- all parts that these callers cut of a history, each by the caller whose seat it names: they lie end to end, and with the entries that are kept they are the history
+pub record AllParts (keeping : Keeping) (history : List Entry) (from : ℕ) (passes : List OfPass) (placed : List OfPlaced) : Type 0 where
+  pub cuts : List Cut
+  pub cut_up : IsCutUp keeping history from cuts
+  pub of_passes : All (HasParts cuts) passes
+  pub of_placed : All (λ (q : OfPlaced). HasParts cuts q.who) placed
+  pub count : length cuts ≡ sum_by parts_by passes + sum_by (λ (q : OfPlaced). parts_by q.who) placed
+
 -- ---- inside
 
 abbrev pub known_of : View → Known
 known_of (Idle k) = k
 known_of (Holder k) = k
-known_of v = known no_terms 0 [] 0 []
+known_of v = known no_terms 0 [] 0 [] []
 
 abbrev pub pass_of : TableId → Known → OfPass
-pass_of t k = record { table = t; terms = k.terms; seat = k.seat; seen = k.seen; from = k.from; mine = k.mine }
+pass_of t k = record { table = t; terms = k.terms; seat = k.seat; seen = k.seen; from = k.from; cuts = k.cuts; mine = k.mine }
 
 abbrev pub office_of : TableId → Terms → OfOffice
 office_of t terms = record { table = t; terms = terms }
 
--- what a caller's ticket keeps (no public clause has this word): its entries are all that its legal history has of its seat, its share has counted them, and counts a worker where they leave the
--- seat placed
+-- what a caller's ticket keeps (no public clause has this word): its entries are all that its legal history has of its seat, the parts that it knows of are all that was cut out of that history, its
+-- share has counted its entries, and counts a worker where they leave the seat placed
 pub record IsTicket (k : Known) (number : ℕ) (share : Counted) : Type 0 where
   pub number_is : k.seat ≡ number
   pub small : k.seat < k.terms.seats
   pub legal : IsLegal (opening_of k.terms) k.seen
   pub own : of_seat k.seat k.seen ≡ k.mine
+  pub cut_up : IsCutUp k.terms.keeping k.seen k.from k.cuts
   pub calls : share.calls ≡ length k.mine
   pub workers : share.workers ≡ workers_at (own_place k.mine)

@@ -1,5 +1,5 @@
 -- What each kind of step does to the views of the seats. No public clause has these words but the first five.
-use Rattle.std.specs.Prelude.{ℕ, ◌+◌, ◌≤◌, List, [], ◌∷◌, ◌++◌, length}
+use Rattle.std.specs.Prelude.{ℕ, ◌+◌, ◌≤◌, List, [], ◌∷◌, ◌++◌, length, drop, Option, Some, None}
 use Rattle.market_types.specs.declared.command.Cmd.{Cmd}
 use Rattle.market_types.specs.declared.reply.Entry.{Entry}
 use Rattle.market_types.specs.State.{State, opening_to}
@@ -7,8 +7,10 @@ use Rattle.market_types.specs.History.{of_seat}
 use Rattle.edit_history.specs.Chronicled.{Chronicled, most_forgotten}
 use Rattle.edit_history.specs.Places.{LacksPlaces}
 use Rattle.edit_history.specs.declared.keeping.Keeping.TheVariants.{Everything}
+use Rattle.edit_history.specs.declared.part.Part.{Part}
 use Rattle.market_desk.specs.Forgetting.{forgotten}
 use Rattle.edit_history.specs.declared.terms.Terms.{Terms}
+use Rattle.market_lock.specs.declared.view.Cut.{Cut}
 use Rattle.market_lock.specs.declared.view.Known.{Known}
 use Rattle.market_lock.specs.declared.view.View.{View}
 use Rattle.market_lock.specs.declared.view.View.TheVariants.{Opener, Idle, Closer, Spent}
@@ -36,12 +38,27 @@ IsEndless t = (log : List Entry) (seat : ℕ) (cmd : Cmd) → length log ≤ mos
 abbrev pub no_terms : Terms
 no_terms = record { base = 0; hard = 0; seats = 0; places = 0; levels = 0; last = 0; keeping = Everything }
 
-abbrev pub known : Terms → ℕ → List Entry → ℕ → List Entry → Known
-known terms seat seen from mine = record { terms = terms; seat = seat; seen = seen; from = from; mine = mine }
+abbrev pub known : Terms → ℕ → List Entry → ℕ → List Cut → List Entry → Known
+known terms seat seen from cuts mine = record { terms = terms; seat = seat; seen = seen; from = from; cuts = cuts; mine = mine }
 
--- the caller, once it has seen this history, and from where on it is kept
-abbrev pub shown : Known → List Entry → ℕ → Known
-shown k log from = known k.terms k.seat log from (of_seat k.seat log)
+-- the caller, once it has seen this history, from where on it is kept, and what was cut out of it
+abbrev pub shown : Known → List Entry → ℕ → List Cut → Known
+shown k log from cuts = known k.terms k.seat log from cuts (of_seat k.seat log)
+
+-- a part of a seat
+abbrev pub cut : ℕ → ℕ → List Entry → Cut
+cut seat from entries = record { seat = seat; from = from; entries = entries }
+
+-- what was cut out as the caller knows, after a call of it that cuts nothing; after one that cuts out all that is kept of this history; and after a cut
+abbrev pub same_cuts : Known → List Entry → List Cut
+same_cuts k log = k.cuts
+
+abbrev pub more_cuts : Known → List Entry → List Cut
+more_cuts k log = k.cuts ++ cut k.seat k.from (drop k.from log) ∷ []
+
+abbrev pub next_cuts : Option Part → Known → List Entry → List Cut
+next_cuts (Some part) = more_cuts
+next_cuts None = same_cuts
 
 -- one pass more is dealt
 abbrev pub one_more : View → View
@@ -50,7 +67,7 @@ one_more v = v
 
 -- the next pass, which has seen nothing and called nothing
 abbrev pub next_pass : View → View
-next_pass (Opener t made) = Idle (known t made [] 0 [])
+next_pass (Opener t made) = Idle (known t made [] 0 [] [])
 next_pass v = Spent
 
 -- who takes passes back keeps what one of them knew

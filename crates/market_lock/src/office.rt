@@ -12,7 +12,7 @@ ghost use Rattle.edit_history.specs.Places.{placed as seats_placed};
 ghost use Rattle.edit_history.specs.declared.keeping.Keeping.TheVariants.{InParts, Nothing};
 ghost use Rattle.market_types.specs.History.{IsLegal};
 ghost use Rattle.market_lock.specs.Views.{opening_of, chronicle_of, chronicle_cut, IsEndless};
-ghost use Rattle.market_lock.specs.Seen.{OfPass, OfPlaced, IsSamePass, Looks, fresh, kept_by, Met};
+ghost use Rattle.market_lock.specs.Seen.{OfPass, OfPlaced, IsSamePass, Looks, HasCut, fresh, kept_by, Met, AllParts};
 ghost use Rattle.market_lock.specs.Moves.{Called, Fails, HasJoined, HasStayed};
 ghost use Rattle.market_lock.specs.Headline.{IsGivenBy};
 
@@ -329,6 +329,7 @@ impl<C: Ledger, W: Ledger> Office<C, W> {
         ensures part { IfSome result (λ part. EndsWith pass.new.seen part.from part.entries.items) }
         ensures goes_on { IfSome result (λ part. pass.old.from ≤ part.from) }
         ensures all { OnSome result (pass.new.from ≡ length pass.new.seen) }
+        ensures cuts { HasCut pass.old result pass.new }
         ensures countable { OnSome result (length pass.new.seen ≤ most_forgotten) }
         ensures in_parts { OnSome result (pass.old.terms.keeping ≡ InParts) }
         ensures served { pass.old.terms.keeping ≡ InParts → pass.old.terms.seats ≤ vec_capacity spare → length pass.new.seen ≤ most_forgotten → IsSome result }
@@ -339,8 +340,9 @@ impl<C: Ledger, W: Ledger> Office<C, W> {
     }
 
     /// Takes all passes and placed workers back, and leaves one history: each of them had seen a beginning of it, and its entries
-    /// are all that the history has of its seat. The entries that can be read are those since the last cut. It doesn't wait, and
-    /// takes no memory.
+    /// are all that the history has of its seat. The entries that can be read are those since the last cut. All parts that the
+    /// passes cut, put one behind the other by where they begin, and then these entries, are the whole history: no gap, nothing
+    /// twice. It doesn't wait, and takes no memory.
     pub fn close(self, passes: Vec<Pass<C, W>>, placed: Vec<Placed<C, W>>) -> Closed
         requires own { All (λ (p : OfPass). p.table ≡ self.table) passes.items }
         requires own_placed { All (λ (p : OfPlaced). p.who.table ≡ self.table) placed.items }
@@ -349,6 +351,7 @@ impl<C: Ledger, W: Ledger> Office<C, W> {
         ensures whole { result.chronicle ≡ chronicle_cut self.terms result.chronicle.log result.chronicle.from }
         ensures passes { All (Met result.chronicle.log) passes.items }
         ensures placed { All (λ (p : OfPlaced). Met result.chronicle.log p.who) placed.items }
+        ensures parts { AllParts self.terms.keeping result.chronicle.log result.chronicle.from passes.items placed.items }
         ensures calls { result.calls ≡ length result.chronicle.log }
         ensures calls_made { result.calls ≡ sum_by (λ (p : OfPass). length p.mine) passes.items + sum_by (λ (p : OfPlaced). length p.who.mine) placed.items }
         ensures workers { result.workers ≡ seats_placed (market_of result.chronicle) }

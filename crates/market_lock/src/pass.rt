@@ -1,6 +1,7 @@
 //! A caller's pass, and a worker that is placed.
 ghost use Rattle.std.specs.Prelude.{◌≡◌, Some, None, length};
 ghost use Rattle.market_types.specs.History.{IsLegal, place_in};
+ghost use Rattle.market_lock.specs.Cutting.{IsCutUp};
 ghost use Rattle.market_lock.specs.Views.{opening_of};
 
 use crate::ticket::Ticket;
@@ -10,7 +11,8 @@ use std::marker::Model;
 use std::sync::ledger::Ledger;
 
 /// The right to call an office from one seat, while that seat is not placed. It can't be dropped: an office closes with all of its
-/// passes. Contracts see what its caller knows: the history that it saw last, and its own entries in it.
+/// passes. Contracts see what its caller knows: the history that it saw last, its own entries in it, and all parts that had been
+/// cut out of it then: by which seat, and where each began and ended.
 pub struct Pass<C: Ledger, W: Ledger> {
     pub(crate) ticket: Ticket<C, W>,
 }
@@ -51,6 +53,7 @@ impl<C: Ledger, W: Ledger> Pass<C, W> {
         ensures exact { result ≡ self.now.seat }
         ensures unplaced { place_in self.now.seat self.now.seen ≡ None }
         ensures legal { IsLegal (opening_of self.now.terms) self.now.seen }
+        ensures parts { IsCutUp self.now.terms.keeping self.now.seen self.now.from self.now.cuts }
     {
         self.ticket.number()
     }
@@ -68,6 +71,7 @@ impl<C: Ledger, W: Ledger> Placed<C, W> {
     pub fn seat(&self) -> SeatNo
         ensures exact { result ≡ self.now.who.seat }
         ensures legal { IsLegal (opening_of self.now.who.terms) self.now.who.seen }
+        ensures parts { IsCutUp self.now.who.terms.keeping self.now.who.seen self.now.who.from self.now.who.cuts }
     {
         self.ticket.number()
     }

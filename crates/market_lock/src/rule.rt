@@ -36,6 +36,15 @@ impl<C: Ledger, W: Ledger> Play<Desk<C, W>, View> for Give {
     ghost then = { Gives };
 }
 
+/// The seat that has the desk gives it back, once it has cut out what was kept.
+pub(crate) struct GiveCut;
+
+impl<C: Ledger, W: Ledger> Play<Desk<C, W>, View> for GiveCut {
+    ghost use Rattle.market_lock.specs.Rule.{GivesCut};
+
+    ghost then = { GivesCut };
+}
+
 /// A seat comes that takes the others back.
 pub(crate) struct Enter;
 

@@ -8,14 +8,15 @@ ghost use Rattle.edit_history.specs.Parts.{EndsWith};
 ghost use Rattle.edit_history.specs.Places.{takes};
 ghost use Rattle.edit_history.specs.declared.keeping.Keeping.TheVariants.{InParts};
 ghost use Rattle.market_desk.specs.Workers.{own_place};
-ghost use Rattle.market_lock.specs.Views.{opening_of};
+ghost use Rattle.market_lock.specs.Cutting.{IsCutUp};
+ghost use Rattle.market_lock.specs.Views.{opening_of, same_cuts, next_cuts};
 ghost use Rattle.market_lock.specs.Rule.{Follows};
-ghost use Rattle.market_lock.specs.Seen.{Extends, IsSamePass, Looks};
+ghost use Rattle.market_lock.specs.Seen.{Extends, IsSamePass, Looks, OthersCut, HasCut};
 ghost use Rattle.market_lock.specs.Moves.{Fails};
 ghost use Rattle.market_lock.specs.Held.{IsIdle, HasTaken, HasDesk, HoldsDesk, HasGiven};
 ghost use Rattle.market_lock.specs.Serving.{Serves, MayServe, Cuts};
 
-use crate::rule::{Give, Place, Shelf, Take};
+use crate::rule::{Give, GiveCut, Place, Shelf, Take};
 use edit_history::{CallFault, Part};
 use market_types::{Cmd, Entry, Reply, SeatNo};
 use std::alloc::Global;
@@ -120,11 +121,24 @@ fn cut_off<C: Ledger, W: Ledger>(
 /// Gives the desk back.
 fn give<C: Ledger, W: Ledger>(table: &Shelf<C, W>, seat: &mut Place<C, W>)
     requires table { (seat.old.table_id ≡ table.now.shared.table_id) × (table.now.shared.table_id.words ≡ 1) × (table.now.shared.table_id.slots ≡ 1) }
-    requires desk { HoldsDesk seat.old.me Follows }
+    requires desk { HoldsDesk seat.old.me (λ k log from. Follows k log from (same_cuts k log)) }
     ensures table { seat.new.table_id ≡ seat.old.table_id }
-    ensures seat { HasGiven seat.old.me seat.new.me }
+    ensures seat { HasGiven same_cuts seat.old.me seat.new.me }
 {
     table.shared.store::<Give>(seat, 0, 0);
+}
+
+/// Gives the desk back, from which this part was cut, or none.
+fn give_cut<C: Ledger, W: Ledger>(table: &Shelf<C, W>, seat: &mut Place<C, W>, part: &Option<Part>)
+    requires table { (seat.old.table_id ≡ table.now.shared.table_id) × (table.now.shared.table_id.words ≡ 1) × (table.now.shared.table_id.slots ≡ 1) }
+    requires desk { HoldsDesk seat.old.me (λ k log from. Follows k log from (next_cuts part.now k log)) }
+    ensures table { seat.new.table_id ≡ seat.old.table_id }
+    ensures seat { HasGiven (next_cuts part.now) seat.old.me seat.new.me }
+{
+    match part {
+        Some(_) => table.shared.store::<GiveCut>(seat, 0, 0),
+        None => give(table, seat),
+    }
 }
 
 impl<C: Ledger, W: Ledger> Ticket<C, W> {
@@ -142,6 +156,7 @@ impl<C: Ledger, W: Ledger> Ticket<C, W> {
         ensures ok { IfOk result (λ reply. Extends self.old cmd reply self.new) }
         ensures err { IfErr result (λ fault. Fails self.old cmd fault self.new) }
         ensures later { self.old.from ≤ self.new.from }
+        ensures cuts { OthersCut self.old self.new }
         ensures answers { IfOk result (λ reply. Answers (own_place self.old.mine) cmd reply) }
         ensures moved { IfOk result (λ reply. own_place self.new.mine ≡ place_after (own_place self.old.mine) reply) }
         ensures still { moves_seat cmd ≡ false → own_place self.new.mine ≡ own_place self.old.mine }
@@ -170,13 +185,14 @@ impl<C: Ledger, W: Ledger> Ticket<C, W> {
         ensures part { IfSome result (λ part. EndsWith self.new.seen part.from part.entries.items) }
         ensures goes_on { IfSome result (λ part. self.old.from ≤ part.from) }
         ensures all { OnSome result (self.new.from ≡ length self.new.seen) }
+        ensures cuts { HasCut self.old result self.new }
         ensures countable { OnSome result (length self.new.seen ≤ most_forgotten) }
         ensures in_parts { OnSome result (self.old.terms.keeping ≡ InParts) }
         ensures served { self.old.terms.keeping ≡ InParts → self.old.terms.seats ≤ vec_capacity spare → length self.new.seen ≤ most_forgotten → IsSome result }
     {
         take(rt, table, &mut self.seat);
         let part = cut_off(table, &mut self.seat, spare);
-        give(table, &mut self.seat);
+        give_cut(table, &mut self.seat, &part);
         part
     }
 
@@ -184,6 +200,7 @@ impl<C: Ledger, W: Ledger> Ticket<C, W> {
     pub fn number(&self) -> SeatNo
         ensures exact { result ≡ self.now.seat }
         ensures own { of_seat self.now.seat self.now.seen ≡ self.now.mine }
+        ensures parts { IsCutUp self.now.terms.keeping self.now.seen self.now.from self.now.cuts }
         ensures legal { IsLegal (opening_of self.now.terms) self.now.seen }
     {
         self.number

@@ -3,12 +3,21 @@ use edit_history::Terms;
 use market_types::{Entry, SeatNo};
 use std::collections::LinkedList;
 
-/// What a caller knows: the history that it saw last, how many of its first entries were not kept then, and its own entries in it.
+/// A part that was cut out of the history: by which seat, how many entries stand before it, and its entries.
+pub(crate) struct Cut {
+    pub seat: SeatNo,
+    pub from: u64,
+    pub entries: LinkedList<Entry>,
+}
+
+/// What a caller knows: the history that it saw last, how many of its first entries were not kept then, the parts that had been
+/// cut out of it, by whichever caller, and its own entries in it.
 pub(crate) struct Known {
     pub terms: Terms,
     pub seat: SeatNo,
     pub seen: LinkedList<Entry>,
     pub from: u64,
+    pub cuts: LinkedList<Cut>,
     pub mine: LinkedList<Entry>,
 }
 

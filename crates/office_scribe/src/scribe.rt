@@ -6,9 +6,10 @@ ghost use Rattle.market_types.specs.History.{IsLegal};
 ghost use Rattle.edit_history.specs.Chronicled.{most_forgotten};
 ghost use Rattle.edit_history.specs.declared.keeping.Keeping.TheVariants.{InParts};
 ghost use Rattle.market_lock.specs.Views.{opening_of};
-ghost use Rattle.market_lock.specs.Seen.{IsSamePass, Looks};
+ghost use Rattle.market_lock.specs.Seen.{IsSamePass, Looks, HasCut};
 ghost use Rattle.market_lock.specs.Moves.{Called, Fails};
-ghost use Rattle.office_scribe.specs.Written.{HasMissed, IsElsewhere};
+ghost use Rattle.office_scribe.specs.Written.{part_of, HasMissed, IsElsewhere, HasWrittenAll, IsAlone};
+ghost use Rattle.office_scribe.specs.declared.missed.Missed.TheVariants.{NoPart};
 
 use crate::missed::Missed;
 use edit_history::{CallFault, Part};
@@ -48,7 +49,7 @@ impl<C: Ledger, W: Ledger> Scribe<C, W> {
 
     /// The next part of the history, as `Office::cut` gives it. It goes on behind what was written, and with it all that the pass
     /// has seen is written. `NoPart` is as there. Where somebody else had cut, it is `Elsewhere` with the part, from then on at
-    /// each call. Nothing is written then.
+    /// each call. Nothing is written then. A scribe that is the only one who cuts is never told `Elsewhere`.
     pub fn cut<R: Wait>(
         &mut self,
         rt: &R,
@@ -59,6 +60,9 @@ impl<C: Ledger, W: Ledger> Scribe<C, W> {
         ensures same { IsSamePass self.old.pass self.new.pass }
         ensures legal { IsLegal (opening_of self.new.pass.terms) self.new.pass.seen }
         ensures looks { Looks self.old.pass self.new.pass }
+        ensures cuts { HasCut self.old.pass (part_of result) self.new.pass }
+        ensures alone { HasWrittenAll self.old → IsAlone self.new → IfErr result (λ missed. missed ≡ NoPart) }
+        ensures still_all { HasWrittenAll self.old → IsAlone self.new → HasWrittenAll self.new }
         ensures goes_on { IfOk result (λ part. part.from ≡ length self.old.written) }
         ensures written { IfOk result (λ part. self.new.written ≡ self.old.written ++ part.entries.items) }
         ensures all { OnOk result (self.new.written ≡ self.new.pass.seen) }
@@ -90,6 +94,7 @@ impl<C: Ledger, W: Ledger> Scribe<C, W> {
         ensures answered { IfOk result (λ reply. Called self.old.pass cmd reply self.new.pass) }
         ensures failed { IfErr result (λ fault. Fails self.old.pass cmd fault self.new.pass) }
         ensures unwritten { self.new.written ≡ self.old.written }
+        ensures still_all { HasWrittenAll self.old → IsAlone self.new → HasWrittenAll self.new }
     {
         office.call(rt, alloc, &mut self.pass, cmd)
     }

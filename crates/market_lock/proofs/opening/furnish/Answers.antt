@@ -11,4 +11,4 @@ pub new-requires-3 : goal.new-requires-3
 new-requires-3 g c =
     let key = c.args.terms.now in
     let items : c.push_reserved.new.self.items ≡ c.new-2.result ∷ [] = search rules in
-    subst (λ (xs : List Chronicled). Kept key (opening (0 ∷ []) xs (Opener key 0))) (sym items) (begins key c.new-2.result (let is = c.new-2.ensures.exact ∙ c.requires.chronicle in is ∙ ap (chronicle_from key []) (sym (ap (λ (d : Chronicled). d.from) is))))
+    subst (λ (xs : List Chronicled). Kept key (opening (0 ∷ []) xs (Opener key 0))) (sym items) (let is = c.new-2.ensures.exact ∙ c.requires.chronicle in let from = ap (λ (d : Chronicled). d.from) is in begins key c.new-2.result (is ∙ ap (chronicle_from key []) (sym from)) from)

@@ -6,13 +6,13 @@ use Rattle.edit_history.specs.Places.{placed}
 use Rattle.market_desk.specs.Forgetting.{forgotten}
 use Rattle.worker_ledger.specs.Pooled.{Pooled}
 use Rattle.edit_history.specs.declared.terms.Terms.{Terms}
-use Rattle.market_lock.specs.Seen.{OfOffice, Met}
+use Rattle.market_lock.specs.Seen.{OfOffice, Met, AllParts}
 use Rattle.market_lock.specs.Held.{whos}
 use Rattle.market_lock.proofs.Meeting.{all_who}
 use Rattle.market_lock.specs.Headline.{IsGivenBy}
 use Rattle.market_lock.specs.Views.{opening_of, chronicle_from, chronicle_cut}
 use Rattle.market_lock.proofs.Steps.{enters_it}
-use Rattle.market_lock.proofs.Ending.{ended_by, all_met, given_by, seats_kept, all_active, long_whos}
+use Rattle.market_lock.proofs.Ending.{ended_by, all_met, all_parts, given_by, seats_kept, all_active, long_whos}
 use Rattle.market_lock.proofs.office.Office.close.Goals as goal
 
 pub load_new_seat-requires : goal.load_new_seat-requires
@@ -60,6 +60,17 @@ returns-clause-placed g c =
     (search rules) c.take_back_passes.ensures.seat c.take_back_placed.ensures.seat (omega (arith, long_whos c.args.placed.items, seats, c.requires.all)) c.close_with-closed.ensures.values.2 c.take-desk.ensures.value in
     all_who (Met c.into_parts-chronicle.result.0.log) c.args.placed.items
     ((all_met key c.args.passes.items (whos c.args.placed.items) c.take-desk.result o c.into_parts-chronicle.result.0.log (ap (λ (d : Chronicled). d.log) c.into_parts-chronicle.ensures.chronicle)).1)
+
+pub returns-clause-parts : goal.returns-clause-parts
+returns-clause-parts g c =
+    let key : Terms = c.self.inside.table.shared.key in
+    let seat = c.take_back_placed.new.seat in
+    let seats : key.seats ≡ c.args.self.terms.seats = ap (λ (x : OfOffice). x.terms.seats) c.self.view_is in
+    let o = ended_by key seat.id c.load_new_seat.result.1.me c.take_back_passes.new.seat.me seat.me c.args.passes.items (whos c.args.placed.items) c.close_with-closed.result.words.items c.close_with-closed.result.slots.items c.take-desk.result
+    (search rules) c.take_back_passes.ensures.seat c.take_back_placed.ensures.seat (omega (arith, long_whos c.args.placed.items, seats, c.requires.all)) c.close_with-closed.ensures.values.2 c.take-desk.ensures.value in
+    let same : c.into_parts-chronicle.result.0 ≡ c.take-desk.result = c.into_parts-chronicle.ensures.chronicle in
+    let terms : key ≡ c.args.self.terms = ap (λ (x : OfOffice). x.terms) c.self.view_is in
+    subst (λ (z : Terms × Chronicled). AllParts z.0.keeping z.1.log z.1.from c.args.passes.items c.args.placed.items) (λ i. (terms i, sym same i)) (all_parts key c.args.passes.items c.args.placed.items c.take-desk.result o)
 
 pub returns-clause-active : goal.returns-clause-active
 returns-clause-active g c =

@@ -7,9 +7,9 @@ use Rattle.market_core.specs.Moves.{Answers}
 use Rattle.edit_history.specs.declared.fault.CallFault.{CallFault}
 use Rattle.edit_history.specs.Places.{takes}
 use Rattle.market_desk.specs.Workers.{own_place}
-use Rattle.market_lock.specs.Seen.{OfPass, known_of, pass_of, Extends}
+use Rattle.market_lock.specs.Seen.{OfPass, known_of, pass_of, Extends, OthersCut}
 use Rattle.market_lock.specs.Moves.{Fails}
-use Rattle.market_lock.proofs.Calls.{may_serve, served_by, may_give, ticket_after, later_after, extends_after, fails_after, answers_after, never_after, moved_after, still_after}
+use Rattle.market_lock.proofs.Calls.{may_serve, served_by, may_give, ticket_after, later_after, extends_after, fails_after, cuts_known, answers_after, never_after, moved_after, still_after}
 use Rattle.market_lock.proofs.ticket.Ticket.call.Goals as goal
 
 pub serve-answer-requires-clause-desk : goal.serve-answer-requires-clause-desk
@@ -81,3 +81,11 @@ returns-clause-later g c =
     let r : Result Reply CallFault = c.serve-answer.result in
     let o = served_by old c.take.new.seat.me c.serve-answer.new.seat.me c.self.inside.number c.args.cmd r c.self.inside.share c.serve-answer.new.share c.self.invariant.1 c.take.ensures.seat c.serve-answer.ensures.view c.serve-answer.ensures.desk in
     subst (λ (p : OfPass). p.from ≤ (known_of c.give.new.seat.me.0).from) c.self.view_is (later_after (known_of old.0) c.self.inside.number c.args.cmd r c.self.inside.share c.serve-answer.new.share c.serve-answer.new.seat.me o c.give.new.seat.me c.give.ensures.seat)
+
+pub returns-clause-cuts : goal.returns-clause-cuts
+returns-clause-cuts g c =
+    let old = c.self.inside.seat.me in
+    let r : Result Reply CallFault = c.serve-answer.result in
+    let o = served_by old c.take.new.seat.me c.serve-answer.new.seat.me c.self.inside.number c.args.cmd r c.self.inside.share c.serve-answer.new.share c.self.invariant.1 c.take.ensures.seat c.serve-answer.ensures.view c.serve-answer.ensures.desk in
+    subst (λ (p : OfPass). OthersCut p (pass_of c.give.new.seat.table_id (known_of c.give.new.seat.me.0))) c.self.view_is
+    (cuts_known (known_of old.0) c.self.inside.number c.args.cmd r c.self.inside.share c.serve-answer.new.share c.serve-answer.new.seat.me o c.give.new.seat.me c.give.ensures.seat c.self.inside.seat.table_id c.give.new.seat.table_id)
