@@ -1,26 +1,25 @@
 -- What is written of a journal reads back as what it was written of.
 use Rattle.std.specs.Prelude.{IsUtf8}
 use Rattle.std.proofs.Common.{◌≡◌, ◌<◌, ◌≤◌, ◌^◌, ◌++◌, ℕ, Bool, true, false, cond, List, [], codes, decimal, Option, Some, option_and_then, append-nil, refl, sym, ap, ◌∙◌, arith, rules}
-use Rattle.std.proofs.lemmas.Str.{IsUtf8-append}
 use Rattle.json.specs.Token.{Token}
 use Rattle.json.specs.Lex.{tokens}
-use Rattle.json.specs.Print.{print, quoted}
+use Rattle.json.specs.Print.{print}
 use Rattle.json.specs.Json as json
 use Rattle.json.specs.Tree.{json_tokens, depth, HasNumbers}
 use Rattle.json.proofs.Printed.Decimals.{IsNumber-decimal}
 use Rattle.json.proofs.Printed.Tokens.{tokens-print}
 use Rattle.json.proofs.Printed.Trees.{value-json_tokens, ArePrintable-json_tokens}
-use Rattle.json.proofs.Printed.Utf8.{are_ascii, IsUtf8-are_ascii, IsUtf8-quoted}
+use Rattle.json.proofs.Printed.Utf8.{are_ascii, IsUtf8-are_ascii}
 use Rattle.serde_json.specs.Data.{Data}
 use Rattle.serde_json.specs.Read.{read, of_json, max_depth}
 use Rattle.serde_json.proofs.Numbers.{number_of-decimal}
 use Rattle.serde_json.proofs.OnLiterals.{serde_json_on_literals}
 use Rattle.journal_replay.specs.declared.header.Header.{Header}
-use Rattle.journal_replay.specs.Journal.{fits_second, second_data, third_data, header_data, entry_data, second_line, third_line, header_line, fields_line}
+use Rattle.journal_replay.specs.Journal.{fits_second, second_data, third_data, header_data, second_line, third_line, header_line}
 use Rattle.journal_replay.specs.Reading.{json_of}
-use Rattle.journal_replay.proofs.Ascii.{number-then}
-use Rattle.journal_replay.proofs.Entries.{entry-json, printed, as-data}
 use Rattle.journal_replay.proofs.Json.{json-read}
+use Rattle.journal_replay.proofs.PlainTexts.{ascii-append, ascii-plain}
+use Rattle.journal_replay.proofs.PlainWritten.{plain-decimal}
 
 abbrev whole : Option (json.Json × List Token) → Option Data
 whole o = option_and_then of_json (option_and_then (λ p. json.if_last p.0 p.1) o)
@@ -32,25 +31,11 @@ json-back j d text is utf8 numbers shallow same =
     let lexed : tokens (print ts) ≡ ts ++ [] = tokens-print ts (ArePrintable-json_tokens j numbers) ∙ sym (append-nil ts) in
     json-read text utf8 ∙ ap read (sym is) ∙ ap whole (ap (json.value max_depth) lexed ∙ value-json_tokens j max_depth [] shallow) ∙ same
 
--- ---- entries
-
-fields-utf8 : (cmd reply : List ℕ) (seat : ℕ) → are_ascii cmd ≡ true → are_ascii reply ≡ true → IsUtf8 (fields_line cmd reply seat)
-fields-utf8 cmd reply seat c r =
-    let seated : IsUtf8 (codes ",\"seat\":" ++ (decimal seat ++ codes "}")) = IsUtf8-are_ascii (codes ",\"seat\":" ++ (decimal seat ++ codes "}")) (number-then seat (codes "}") refl) in
-    let replied : IsUtf8 (quoted reply ++ (codes ",\"seat\":" ++ (decimal seat ++ codes "}"))) =
-    IsUtf8-append (quoted reply) (codes ",\"seat\":" ++ (decimal seat ++ codes "}")) (IsUtf8-quoted reply (IsUtf8-are_ascii reply r)) seated in
-    let label : IsUtf8 (codes ",\"reply\":" ++ (quoted reply ++ (codes ",\"seat\":" ++ (decimal seat ++ codes "}")))) =
-    IsUtf8-append (codes ",\"reply\":") (quoted reply ++ (codes ",\"seat\":" ++ (decimal seat ++ codes "}"))) (IsUtf8-are_ascii (codes ",\"reply\":") refl) replied in
-    let commanded : IsUtf8 (quoted cmd ++ (codes ",\"reply\":" ++ (quoted reply ++ (codes ",\"seat\":" ++ (decimal seat ++ codes "}"))))) =
-    IsUtf8-append (quoted cmd) (codes ",\"reply\":" ++ (quoted reply ++ (codes ",\"seat\":" ++ (decimal seat ++ codes "}")))) (IsUtf8-quoted cmd (IsUtf8-are_ascii cmd c)) label in
-    IsUtf8-append (codes "{\"cmd\":") (quoted cmd ++ (codes ",\"reply\":" ++ (quoted reply ++ (codes ",\"seat\":" ++ (decimal seat ++ codes "}"))))) (IsUtf8-are_ascii (codes "{\"cmd\":") refl) commanded
-
-pub entry-back : (cmd reply : List ℕ) (seat : ℕ) → seat < 2 ^ 64 → are_ascii cmd ≡ true → are_ascii reply ≡ true → json_of (fields_line cmd reply seat) ≡ Some (entry_data cmd reply seat)
-entry-back cmd reply seat small c r =
-    json-back (entry-json cmd reply seat) (entry_data cmd reply seat) (fields_line cmd reply seat) (printed cmd reply seat) (fields-utf8 cmd reply seat c r)
-    (tt, (tt, (IsNumber-decimal seat small, tt))) (omega arith) (as-data cmd reply seat small)
-
 -- ---- headers
+
+-- a number and what follows it
+number-then : (n : ℕ) (rest : List ℕ) → are_ascii rest ≡ true → are_ascii (decimal n ++ rest) ≡ true
+number-then n rest h = ascii-append (decimal n) rest (ascii-plain (decimal n) (plain-decimal n)) h
 
 -- a header whose numbers are in their ranges
 pub record IsInRanges (h : Header) : Type 0 where

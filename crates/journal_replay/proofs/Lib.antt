@@ -3,15 +3,11 @@ mod Limits
 mod Json
 mod Legal
 mod Told
-mod Entries
-mod Ascii
 mod Back
 mod Few
 mod Short
 mod PlainTexts
-mod SpelledEntries
 mod PlainWritten
 mod PushedEntries
-mod MemberOrders
-mod Replays
-mod SpacedLines
+mod ReadMembers
+mod CutLines

@@ -1,12 +1,10 @@
 -- Plain texts stand in a JSON string as they are.
 use Rattle.std.specs.Prelude.{IfSome, MatchOption, nat_lt}
-use Rattle.std.proofs.Common.{◌≡◌, ℕ, true, List, [], ◌∷◌, ◌++◌, codes, decimal, Option, Some, None, refl, sym, ap, ◌∙◌, append_assoc, arith}
+use Rattle.std.proofs.Common.{◌≡◌, ℕ, true, List, [], ◌∷◌, ◌++◌, codes, decimal, Option, Some, None, refl, ap, ◌∙◌, append_assoc, arith}
 use Rattle.std.proofs.lemmas.Bool.{and_parts}
 use Rattle.std.proofs.lemmas.Bool.Decides.{nat_tests}
 use Rattle.json.specs.Print.{escape_byte, escape, quoted}
 use Rattle.json.proofs.Printed.Utf8.{are_ascii}
-use Rattle.market_types.specs.Reading.{number}
-use Rattle.market_types.proofs.Decimals.{number_only}
 use Rattle.journal_replay.specs.Plain.{is_plain, are_plain}
 use Rattle.journal_replay.specs.Journal.{fields_line}
 
@@ -14,11 +12,6 @@ use Rattle.journal_replay.specs.Journal.{fields_line}
 pub some-part : {X : Type 0} (A : Type 0) (P : X → Type 0) (r : Option X) → MatchOption r A P → IfSome r P
 some-part A P None h = tt
 some-part A P (Some x) h = h
-
--- digits that read as a number, and what follows them
-pub then-decimal : (text digits rest : List ℕ) (r : Option ℕ) → text ≡ digits ++ rest → r ≡ number digits → IfSome r (λ n. text ≡ decimal n ++ rest)
-then-decimal text digits rest None is read = tt
-then-decimal text digits rest (Some n) is read = is ∙ ap (λ xs. xs ++ rest) (number_only digits n (sym read)).0
 
 escape-byte : (x : ℕ) → is_plain x ≡ true → escape_byte x ≡ x ∷ []
 unfolding escape_byte
@@ -35,6 +28,10 @@ pub ascii-plain : (xs : List ℕ) → are_plain xs ≡ true → are_ascii xs ≡
 ascii-plain [] h = refl
 ascii-plain (x ∷ xs) h = let p = and_parts (is_plain x) (are_plain xs) h in rw (ascii-byte x p.0) (ascii-plain xs p.1)
 
+pub ascii-append : (xs ys : List ℕ) → are_ascii xs ≡ true → are_ascii ys ≡ true → are_ascii (xs ++ ys) ≡ true
+ascii-append [] ys h k = k
+ascii-append (x ∷ xs) ys h k = let p = and_parts (nat_lt x 128) (are_ascii xs) h in rw p.0 (ascii-append xs ys p.1 k)
+
 pub quoted-plain : (xs : List ℕ) → are_plain xs ≡ true → quoted xs ≡ 34 ∷ (xs ++ 34 ∷ [])
 quoted-plain xs h = ap (λ ys. 34 ∷ (ys ++ 34 ∷ [])) (escape-plain xs h)
 
@@ -48,10 +45,3 @@ fields-plain cmd reply seat c r =
     let last : List ℕ = codes ",\"seat\":" ++ (decimal seat ++ codes "}") in
     ap (λ xs. codes "{\"cmd\":" ++ xs) (quoted-then cmd (codes ",\"reply\":" ++ (quoted reply ++ last)) c)
     ∙ ap (λ xs. codes "{\"cmd\":\"" ++ (cmd ++ 34 ∷ (codes ",\"reply\":" ++ xs))) (quoted-then reply last r)
-
--- a line that was cut into fields
-pub spelled-fields : (line a b c d e : List ℕ) (cmd reply : List ℕ) (seat : ℕ) → line ≡ codes "{\"cmd\":\"" ++ a → a ≡ cmd ++ 34 ∷ b → b ≡ codes ",\"reply\":\"" ++ c → c ≡ reply ++ 34 ∷ d → d ≡ codes ",\"seat\":" ++ e
-    → e ≡ decimal seat ++ codes "}" → are_plain cmd ≡ true → are_plain reply ≡ true → line ≡ fields_line cmd reply seat
-spelled-fields line a b c d e cmd reply seat one two three four five six p q =
-    one ∙ ap (λ xs. codes "{\"cmd\":\"" ++ xs) (two ∙ ap (λ xs. cmd ++ 34 ∷ xs) (three ∙ ap (λ xs. codes ",\"reply\":\"" ++ xs) (four ∙ ap (λ xs. reply ++ 34 ∷ xs) (five ∙ ap (λ xs. codes ",\"seat\":" ++ xs) six))))
-    ∙ sym (fields-plain cmd reply seat p q)

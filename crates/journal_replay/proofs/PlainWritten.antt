@@ -35,7 +35,7 @@ plain-onto (suc k) n acc h =
     let more = plain-glyph n acc h in
     plain-either (n / 10 == 0) (digit_glyph false (n % 10) ∷ acc) (digits_onto k 10 false (n / 10) (digit_glyph false (n % 10) ∷ acc)) more (plain-onto k (n / 10) (digit_glyph false (n % 10) ∷ acc) more)
 
-plain-decimal : (n : ℕ) → are_plain (decimal n) ≡ true
+pub plain-decimal : (n : ℕ) → are_plain (decimal n) ≡ true
 unfolding digits
 plain-decimal n = plain-onto 64 n [] refl
 

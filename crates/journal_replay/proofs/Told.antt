@@ -29,8 +29,9 @@ use Rattle.journal_replay.specs.declared.header.Extent.{Extent}
 use Rattle.journal_replay.specs.declared.header.Extent.TheVariants.{Limited, Endless}
 use Rattle.journal_replay.specs.declared.header.Header.{Header}
 use Rattle.journal_replay.specs.Written.{IsShort}
-use Rattle.journal_replay.proofs.Ascii.{ascii-cmd, ascii-reply}
-use Rattle.journal_replay.proofs.Back.{IsInRanges, entry-back, header-back}
+use Rattle.journal_replay.proofs.Back.{IsInRanges, header-back}
+use Rattle.journal_replay.proofs.CutLines.{entry-back}
+use Rattle.journal_replay.proofs.PlainWritten.{plain-cmd, plain-reply}
 
 -- what an entry has to be to be read again
 record IsTold (seats levels : ℕ) (e : Entry) : Type 0 where
@@ -233,7 +234,7 @@ all-of seats levels [] few calls shorts = tt
 all-of seats levels (e ∷ log) few calls shorts =
     let call : IsCallOf seats e = All-head (IsCallOf seats) e log calls in
     let seat : e.call.seat < 2 ^ 64 = omega (arith, call.0) in
-    let back = entry-back (cmd_text levels e.call.cmd) (reply_text e.reply) e.call.seat seat (ascii-cmd levels e.call.cmd) (ascii-reply e.reply) in
+    let back = entry-back (cmd_text levels e.call.cmd) (reply_text e.reply) e.call.seat seat (plain-cmd levels e.call.cmd) (plain-reply e.reply) in
     (record { call = call; read = back; short = All-head (IsShort levels) e log shorts }, all-of seats levels log few (All-tail (IsCallOf seats) e log calls) (All-tail (IsShort levels) e log shorts))
 
 second-short : (h : Header) → IsInRanges h → length (second_line h) ≤ 65536

@@ -6,5 +6,6 @@ pub mod VerdictTexts
 pub mod Legality
 pub mod Written
 pub mod Plain
+pub mod Cuts
 pub mod Members
-pub mod Replayed
+pub mod EntryLines

@@ -1,27 +1,24 @@
 //! A journal, checked line by line.
-ghost use Rattle.std.specs.Prelude.{◌≡◌, ◌+◌, ◌<◌, ◌≤◌, ◌^◌, true, false, length, Some, IfOk, IfErr, IfNone, IfSome, IsUtf8, OnOk, option_map, option_and_then};
+ghost use Rattle.std.specs.Prelude.{◌≡◌, ◌+◌, ◌<◌, ◌≤◌, ◌^◌, true, false, length, IfOk, IfErr, IsUtf8, OnOk, option_and_then, option_map};
 ghost use Rattle.std.specs.Io.KnownBytes.{IsAtEnd};
 ghost use Rattle.std.specs.Str.{bytes_eq};
 ghost use Rattle.serde_json.specs.View.{view};
 ghost use Rattle.market_types.specs.Step.{step};
 ghost use Rattle.market_types.specs.Texts.{reply_text};
-ghost use Rattle.journal_replay.specs.Verdicts.{Finds, StopsReading, after_header, after_line, after_record, json_by, lines_taken, most_bytes, verdict, verdict_of};
-ghost use Rattle.journal_replay.specs.Reading.{header_of};
-ghost use Rattle.journal_replay.specs.Replayed.{IsReplayed};
+ghost use Rattle.journal_replay.specs.EntryLines.{IsSeated, reading_of};
+ghost use Rattle.journal_replay.specs.Verdicts.{Finds, StopsReading, after_header, after_line, json_by, lines_taken, most_bytes, verdict, verdict_of};
+ghost use Rattle.journal_replay.specs.Reading.{entry_in, header_of};
 
+use crate::entry::{Reading, Room, read};
 use crate::header::Extent;
-use crate::reading::{Opened, Recorded, open_market, read_entry, read_json};
-use crate::spaced::read_plain;
-use crate::tokens::read_tokens;
+use crate::reading::{Opened, Recorded, open_market, read_json};
 use crate::verdict::{DueReply, Verdict};
 use byte_devices::Source;
-use json::Scratch;
 use line_engine::{InputFault, LONGEST_INPUT, LineForm, LineTaker, Nowhere, take_lines, take_text};
 use market_core::Market;
-use market_types::{push_reply, reply_text};
+use market_types::push_reply;
 use serde_json::Value;
 use std::alloc::{AllocError, Global};
-use std::mem;
 
 /// How far a journal is found legal.
 #[derive(Drop)]
@@ -44,17 +41,27 @@ fn read_line(alloc: Global, line: &[u8], form: LineForm) -> Result<Option<Value>
     }
 }
 
-/// Memory that is used again for each line.
-#[derive(Drop)]
-struct Room {
-    /// For the tokens of a line, and for its texts once their escapes are undone: from the first line on that is to be read so.
-    scratch: Option<Box<Scratch>>,
-    /// For the text of the reply that is due.
-    due: Vec<u8>,
+/// What a line is in a market of so many seats and levels, if it is whole.
+#[inline(always)]
+fn read_whole<'a>(
+    alloc: Global,
+    line: &'a [u8],
+    form: LineForm,
+    room: &'a mut Room,
+    seats: u8,
+    levels: u32,
+) -> Result<Reading<'a>, AllocError>
+    ensures exact { IfOk result (λ reading. reading_of reading ≡ option_map (entry_in seats levels) (json_by form line.entry.now)) }
+    ensures seat { IfOk result (λ reading. IsSeated seats reading) }
+{
+    match form {
+        LineForm::Whole => read(alloc, line, room, seats, levels),
+        LineForm::WithoutLf | LineForm::TooLong => Ok(Reading::NotJson),
+    }
 }
 
-/// Gives an entry's call to the market, and writes the text of the reply that is due in the room of another: whether the entry
-/// tells it.
+/// Gives an entry's call to the market, and writes the text of the reply that is due in the room of another: whether it is the
+/// entry's.
 fn replay(
     alloc: Global,
     market: &mut Market,
@@ -65,7 +72,7 @@ fn replay(
     ensures market { OnOk result (market.new ≡ (step market.old entry.now.seat entry.now.cmd).1) }
     ensures due { OnOk result (due.new.items ≡ reply_text (step market.old entry.now.seat entry.now.cmd).0) }
     ensures utf8 { OnOk result (IsUtf8 due.new.items) }
-    ensures told { IfOk result (λ told. told ≡ bytes_eq (reply_text (step market.old entry.now.seat entry.now.cmd).0) entry.now.reply.now) }
+    ensures same { IfOk result (λ same. same ≡ bytes_eq (reply_text (step market.old entry.now.seat entry.now.cmd).0) entry.now.reply.now) }
 {
     let Ok(reply) = market.apply(alloc, entry.seat, entry.cmd) else {
         return Err(AllocError);
@@ -77,97 +84,21 @@ fn replay(
     Ok(due.as_slice() == entry.reply)
 }
 
-/// Where a line is an entry of plain texts, gives its call to the market, and writes the text of the reply that is
-/// due: whether the entry tells it. None of a line that is left to its tokens or is no entry, which changes nothing.
-fn replay_plain(
-    alloc: Global,
-    market: &mut Market,
-    line: &[u8],
-    due: &mut Vec<u8>,
-) -> Result<Option<bool>, AllocError>
-    ensures replayed { IfOk result (λ found. IfSome found (λ told. IsReplayed market.old line.now market.new due.new.items told)) }
-    ensures utf8 { IfOk result (λ found. IfSome found (λ _. IsUtf8 due.new.items)) }
-    ensures left { IfOk result (λ found. IfNone found (market.new ≡ market.old)) }
+/// The reply of this text, which has room of its own and none to spare.
+fn due_reply(alloc: Global, due: &[u8]) -> Result<DueReply, AllocError>
+    requires { IsUtf8 due.now }
+    ensures { IfOk result (λ reply. reply ≡ due.now) }
 {
-    match read_plain(line, market.seats(), market.levels()) {
-        Some(entry) => Ok(Some(replay(alloc, market, due, &entry)?)),
-        None => Ok(None),
-    }
-}
-
-/// The same by a line's tokens.
-fn replay_tokens<'a>(
-    alloc: Global,
-    market: &mut Market,
-    line: &'a [u8],
-    scratch: &'a mut Scratch,
-    due: &mut Vec<u8>,
-) -> Result<Option<bool>, AllocError>
-    ensures replayed { IfOk result (λ found. IfSome found (λ told. IsReplayed market.old line.entry.now market.new due.new.items told)) }
-    ensures utf8 { IfOk result (λ found. IfSome found (λ _. IsUtf8 due.new.items)) }
-    ensures left { IfOk result (λ found. IfNone found (market.new ≡ market.old)) }
-{
-    match read_tokens(line, scratch, market.seats(), market.levels()) {
-        Ok(Some(entry)) => Ok(Some(replay(alloc, market, due, &entry)?)),
-        Ok(None) => Ok(None),
-        Err(_) => Err(AllocError),
-    }
-}
-
-/// Room for the tokens of lines.
-// Apart, since each line would else make room for it on the stack.
-#[cold]
-#[inline(never)]
-fn new_scratch(alloc: Global) -> Result<Box<Scratch>, AllocError> {
-    Ok(Box::new(alloc, Scratch::new(alloc))?)
-}
-
-/// The line may be an object, as each entry is: it begins with a brace, or with white space.
-fn may_be_object(line: &[u8]) -> bool {
-    matches!(line.first(), Some(b'{' | b' ' | b'\t' | b'\r'))
-}
-
-/// The same by whichever of the two tells the line. Room for tokens is made at the first line that wants it, since most
-/// journals have none.
-fn replay_line(
-    alloc: Global,
-    market: &mut Market,
-    line: &[u8],
-    room: &mut Room,
-) -> Result<Option<bool>, AllocError>
-    ensures replayed { IfOk result (λ found. IfSome found (λ told. IsReplayed market.old line.now market.new room.new.due.items told)) }
-    ensures utf8 { IfOk result (λ found. IfSome found (λ _. IsUtf8 room.new.due.items)) }
-    ensures left { IfOk result (λ found. IfNone found (market.new ≡ market.old)) }
-{
-    if let Some(told) = replay_plain(alloc, market, line, &mut room.due)? {
-        return Ok(Some(told));
-    }
-    if !may_be_object(line) {
-        return Ok(None);
-    }
-    let mut scratch = match room.scratch.take() {
-        Some(scratch) => scratch,
-        None => new_scratch(alloc)?,
-    };
-    let found = replay_tokens(alloc, market, line, &mut scratch, &mut room.due)?;
-    room.scratch = Some(scratch);
-    Ok(found)
-}
-
-/// The reply of this text.
-fn due_reply(text: Vec<u8>) -> DueReply
-    requires { IsUtf8 text.items }
-    ensures { result ≡ text.items }
-{
+    let text = Vec::from_slice(alloc, due)?;
     let Ok(text) = String::from_utf8(text) else {
         unreachable!()
     };
-    DueReply::new(text)
+    Ok(DueReply::new(text))
 }
 
 impl Progress {
-    /// After the first line, by what it is as JSON.
-    fn after_header(alloc: Global, value: Option<Value>) -> Result<Progress, AllocError>
+    /// What a header opens, by what the line is as JSON.
+    fn opened(alloc: Global, value: Option<Value>) -> Result<Progress, AllocError>
         ensures { IfOk result (λ progress. progress ≡ after_header (option_and_then header_of (option_map view value))) }
     {
         let Some(value) = value else {
@@ -179,106 +110,32 @@ impl Progress {
         Ok(Progress::Replaying(market, 0, extent))
     }
 
-    /// After a line that is JSON, behind so many entries.
-    fn after_record(
-        alloc: Global,
-        mut market: Market,
-        entries: u64,
-        extent: Extent,
-        value: &Value,
-    ) -> Result<Progress, AllocError>
-        requires few { entries + 2 < 2 ^ 64 }
-        ensures { IfOk result (λ progress. progress ≡ after_record market entries extent (view value.now)) }
-    {
-        let bad_record = Verdict::BadRecord(entries + 2);
-        if extent.is_full(entries) {
-            drop(market);
-            return Ok(Progress::Faulty(bad_record, extent));
-        }
-        let Some(entry) = read_entry(value, market.seats(), market.levels()) else {
-            drop(market);
-            return Ok(Progress::Faulty(bad_record, extent));
-        };
-        let Ok(reply) = market.apply(alloc, entry.seat, entry.cmd) else {
-            drop(market);
-            return Err(AllocError);
-        };
-        let text = reply_text(alloc, &reply);
-        drop(reply);
-        let Ok(due) = text else {
-            drop(market);
-            return Err(AllocError);
-        };
-        if due.as_bytes() != entry.reply {
-            drop(market);
-            let wrong_reply = Verdict::WrongReply(entries + 2, DueReply::new(due));
-            return Ok(Progress::Faulty(wrong_reply, extent));
-        }
-        Ok(Progress::Replaying(market, entries + 1, extent))
-    }
-
-    /// After one line more.
-    pub(crate) fn after_line(
-        self,
-        alloc: Global,
-        line: &[u8],
-        form: LineForm,
-    ) -> Result<Progress, AllocError>
-        requires few { lines_taken self + 1 < 2 ^ 64 }
-        ensures { IfOk result (λ progress. progress ≡ after_line self (record { bytes = line.now; form = form })) }
-    {
-        match self {
-            Progress::Unopened => {
-                let value = read_line(alloc, line, form)?;
-                Progress::after_header(alloc, value)
-            }
-            Progress::Replaying(market, entries, extent) => match read_line(alloc, line, form)? {
-                Some(value) => Progress::after_record(alloc, market, entries, extent, &value),
-                None => Ok(Progress::Faulty(Verdict::BadJson(entries + 2), extent)),
-            },
-            Progress::Faulty(verdict, extent) => Ok(Progress::Faulty(verdict, extent)),
-        }
-    }
-
-    /// After one line more, where the market is replaying and the line is an entry of plain texts, or one that is told by its tokens:
-    /// whether it is. The market stays where it is, and memory that is kept serves for each line. Else nothing is changed.
-    fn take_entry(
-        &mut self,
-        alloc: Global,
-        line: &[u8],
-        form: LineForm,
-        room: &mut Room,
-    ) -> Result<bool, AllocError>
-        requires few { lines_taken self.old + 1 < 2 ^ 64 }
-        ensures taken { IfOk result (λ taken. taken ≡ true → self.new ≡ after_line self.old (record { bytes = line.now; form = form })) }
-        ensures left { IfOk result (λ taken. taken ≡ false → self.new ≡ self.old) }
-    {
-        if form != LineForm::Whole {
-            return Ok(false);
-        }
-        let Progress::Replaying(market, entries, extent) = self else {
-            return Ok(false);
-        };
-        if extent.is_full(*entries) {
-            return Ok(false);
-        }
-        let Some(told) = replay_line(alloc, market, line, room)? else {
-            return Ok(false);
-        };
-        if told {
-            *entries += 1;
-            return Ok(true);
-        }
-        let (line, extent) = (*entries + 2, *extent);
-        self.stop(alloc, line, &room.due, extent)?;
-        Ok(true)
-    }
-
-    /// This line's reply is not the one of this text, which is due. What is found has a text of its own, with no room to spare.
-    // Apart, since each line would else make room for what is found of it.
+    /// Takes the header.
+    // Apart, since each line would else make room for all that is needed here.
     #[cold]
     #[inline(never)]
-    fn stop(
+    fn open(&mut self, alloc: Global, line: &[u8], form: LineForm) -> Result<(), AllocError>
+        ensures { OnOk result (self.new ≡ after_header (option_and_then header_of (json_by form line.now))) }
+    {
+        let value = read_line(alloc, line, form)?;
+        *self = Progress::opened(alloc, value)?;
+        Ok(())
+    }
+
+    /// Ends the journal, which may have so many entries, with what is found.
+    // Apart, since each line would else make room for it.
+    #[cold]
+    #[inline(never)]
+    fn end(&mut self, verdict: Verdict, extent: Extent)
+        ensures { self.new ≡ Progress.Faulty verdict extent }
+    {
+        *self = Progress::Faulty(verdict, extent);
+    }
+
+    /// Ends the journal with this line, whose reply is not the one of this text, which is due.
+    #[cold]
+    #[inline(never)]
+    fn end_wrong(
         &mut self,
         alloc: Global,
         line: u64,
@@ -288,9 +145,54 @@ impl Progress {
         requires { IsUtf8 due.now }
         ensures { OnOk result (self.new ≡ Progress.Faulty (Verdict.WrongReply line due.now) extent) }
     {
-        let due = Vec::from_slice(alloc, due)?;
-        *self = Progress::Faulty(Verdict::WrongReply(line, due_reply(due)), extent);
+        let due = due_reply(alloc, due)?;
+        self.end(Verdict::WrongReply(line, due), extent);
         Ok(())
+    }
+
+    /// Takes one line more: the header, or an entry, which is replayed and counted, or what ends the journal. The market stays where it
+    /// is, and memory that is kept serves for each line, for what it is read as and for the text of the reply that is due.
+    #[inline(always)]
+    fn take_line<'a>(
+        &mut self,
+        alloc: Global,
+        line: &'a [u8],
+        form: LineForm,
+        room: &'a mut Room,
+        due: &mut Vec<u8>,
+    ) -> Result<(), AllocError>
+        requires few { lines_taken self.old + 1 < 2 ^ 64 }
+        ensures { OnOk result (self.new ≡ after_line self.old (record { bytes = line.entry.now; form = form })) }
+    {
+        match self {
+            Progress::Unopened => self.open(alloc, line, form),
+            Progress::Faulty(_, _) => Ok(()),
+            Progress::Replaying(market, entries, extent) => {
+                let (number, extent) = (*entries + 2, *extent);
+                match read_whole(alloc, line, form, room, market.seats(), market.levels()) {
+                    Ok(Reading::Entry(entry)) => {
+                        if extent.is_full(*entries) {
+                            self.end(Verdict::BadRecord(number), extent);
+                            return Ok(());
+                        }
+                        if replay(alloc, market, due, &entry)? {
+                            *entries += 1;
+                            return Ok(());
+                        }
+                        self.end_wrong(alloc, number, due, extent)
+                    }
+                    Ok(Reading::NotEntry) => {
+                        self.end(Verdict::BadRecord(number), extent);
+                        Ok(())
+                    }
+                    Ok(Reading::NotJson) => {
+                        self.end(Verdict::BadJson(number), extent);
+                        Ok(())
+                    }
+                    Err(_) => Err(AllocError),
+                }
+            }
+        }
     }
 
     /// The most bytes that the journal may have.
@@ -322,6 +224,8 @@ pub(crate) struct Checker {
     alloc: Global,
     progress: Progress,
     room: Room,
+    /// The text of the reply that was due last.
+    due: Vec<u8>,
 }
 
 impl Checker {
@@ -332,24 +236,9 @@ impl Checker {
         Checker {
             alloc,
             progress: Progress::Unopened,
-            room: Room {
-                scratch: None,
-                due: Vec::new(alloc),
-            },
+            room: Room::new(),
+            due: Vec::new(alloc),
         }
-    }
-
-    /// Takes a line that is no entry told at once, as the header.
-    // Apart, since each line would else make room for all that is needed here.
-    #[cold]
-    #[inline(never)]
-    fn take_other(&mut self, line: &[u8], form: LineForm) -> Result<(), AllocError>
-        requires few { lines_taken self.old.progress + 1 < 2 ^ 64 }
-        ensures { OnOk result (self.new.progress ≡ after_line self.old.progress (record { bytes = line.now; form = form })) }
-    {
-        let progress = mem::replace(&mut self.progress, Progress::Unopened);
-        self.progress = progress.after_line(self.alloc, line, form)?;
-        Ok(())
     }
 }
 
@@ -389,13 +278,8 @@ impl LineTaker for Checker {
         form: LineForm,
         _replies: &mut Vec<u8>,
     ) -> Result<(), AllocError> {
-        if self
-            .progress
-            .take_entry(self.alloc, line, form, &mut self.room)?
-        {
-            return Ok(());
-        }
-        self.take_other(line, form)
+        self.progress
+            .take_line(self.alloc, line, form, &mut self.room, &mut self.due)
     }
 }
 

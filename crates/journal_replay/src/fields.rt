@@ -1,31 +1,77 @@
-//! The fields of an entry's line, in whichever way they were found.
-ghost use Rattle.std.specs.Prelude.{◌≡◌, ◌<◌, Some, IfSome};
-ghost use Rattle.journal_replay.specs.Journal.{entry_data};
+//! The fields of an entry, in whichever way its members are found.
+ghost use Rattle.std.specs.Prelude.{◌≡◌, ◌<◌, IfSome, option_map};
+ghost use Rattle.serde_json.specs.Data.{no_members, object};
+ghost use Rattle.journal_replay.specs.Members.{members_of, with_member};
 ghost use Rattle.journal_replay.specs.Reading.{entry_in};
 
 use crate::reading::Recorded;
 use market_types::{SeatNo, read_cmd};
 
-/// The texts of a command and of its reply, and the number of a seat.
+/// A member of an entry.
 #[derive(Clone, Copy)]
-pub(crate) struct Fields<'a> {
-    pub(crate) cmd: &'a [u8],
-    pub(crate) reply: &'a [u8],
-    pub(crate) seat: u32,
+pub(crate) enum Member<'a> {
+    Cmd(&'a [u8]),
+    Reply(&'a [u8]),
+    Seat(u32),
 }
 
-/// The entry that has these fields, in a market of so many seats and levels. None where no entry has them.
-#[inline(always)]
-pub(crate) fn entry_of(fields: Fields<'_>, seats: u8, levels: u32) -> Option<Recorded<'_>>
-    ensures exact { IfSome result (λ e. entry_in seats levels (entry_data fields.entry.cmd.now fields.entry.reply.now fields.entry.seat) ≡ Some (record { seat = e.seat; cmd = e.cmd; reply = e.reply.now })) }
-    ensures seat { IfSome result (λ e. e.seat < seats) }
-    ensures small { IfSome result (λ _. fields.entry.seat < seats) }
-{
-    let Fields { cmd, reply, seat } = fields;
-    let cmd = read_cmd(cmd, levels)?;
-    if seat >= u32::from(seats) {
-        return None;
+/// The fields that the members of an object tell so far: the texts of a command and of its reply, and the number of a seat. The
+/// last member of a key counts, as in JSON.
+#[derive(Clone, Copy)]
+pub(crate) struct Fields<'a> {
+    pub(crate) cmd: Option<&'a [u8]>,
+    pub(crate) reply: Option<&'a [u8]>,
+    pub(crate) seat: Option<u32>,
+}
+
+impl<'a> Fields<'a> {
+    /// Before the first member.
+    #[inline(always)]
+    pub(crate) fn none() -> Self
+        ensures { members_of result ≡ no_members }
+    {
+        Fields {
+            cmd: None,
+            reply: None,
+            seat: None,
+        }
     }
-    let seat = SeatNo::new(seat as u8);
-    Some(Recorded { seat, cmd, reply })
+
+    /// After one member more.
+    #[inline(always)]
+    pub(crate) fn with(self, member: Member<'a>) -> Self
+        ensures { members_of result ≡ with_member member.entry (members_of self.entry) }
+    {
+        match member {
+            Member::Cmd(text) => Fields {
+                cmd: Some(text),
+                ..self
+            },
+            Member::Reply(text) => Fields {
+                reply: Some(text),
+                ..self
+            },
+            Member::Seat(number) => Fields {
+                seat: Some(number),
+                ..self
+            },
+        }
+    }
+
+    /// The entry that has exactly these fields, in a market of so many seats and levels. None where one is missing, where the
+    /// command does not read, or where the market has no such seat.
+    #[tactic(auto, unfolding(crate::specs::Reading::entry_in))]
+    #[inline(always)]
+    pub(crate) fn entry(self, seats: u8, levels: u32) -> Option<Recorded<'a>>
+        ensures exact { option_map (λ e. record { seat = e.seat; cmd = e.cmd; reply = e.reply.now }) result ≡ entry_in seats levels (object (members_of self.entry)) }
+        ensures seat { IfSome result (λ e. e.seat < seats) }
+    {
+        let (text, reply, seat) = (self.cmd?, self.reply?, self.seat?);
+        let cmd = read_cmd(text, levels)?;
+        if seat >= u32::from(seats) {
+            return None;
+        }
+        let seat = SeatNo::new(seat as u8);
+        Some(Recorded { seat, cmd, reply })
+    }
 }

@@ -7,14 +7,14 @@
 #![tactic(auto)]
 
 mod checker;
+mod cutter;
+mod entry;
 mod fields;
 mod header;
 mod journal;
 mod law;
 mod line;
 mod reading;
-mod spaced;
-mod spelled;
 mod tokens;
 mod verdict;
 

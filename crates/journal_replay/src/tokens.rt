@@ -1,120 +1,80 @@
-//! Lines of entries with escapes, many spaces or other white space, as other tools may spell them. They are read token by token in
-//! room that is kept, where a tree of values with its map, keys and texts took most of the time of such a replay. Of a line whose
-//! tokens are not those of an entry, each key once, nothing is told here: one with a key twice, as every other, is read as JSON.
-ghost use Rattle.std.specs.Prelude.{◌≡◌, ◌<◌, ◌^◌, ◌++◌, ◌∷◌, [], Some, IfOk, IfSome, option_and_then};
-ghost use Rattle.json.specs.Token.{begin_object, end_object};
-ghost use Rattle.serde_json.specs.Read.{read};
-ghost use Rattle.journal_replay.specs.Journal.{entry_data};
-ghost use Rattle.journal_replay.specs.Members.{data_of, member_tokens};
-ghost use Rattle.journal_replay.specs.Reading.{entry_in, json_of};
+//! Lines whose texts have escapes, as other tools may spell them, read token by token in room that is kept.
+ghost use Rattle.std.specs.Prelude.{◌≡◌, ◌∷◌, [], true, false, Some, IfOk, IfSome};
+ghost use Rattle.json.specs.Reads.{token_of};
+ghost use Rattle.json.specs.Token.{end_object, key};
+ghost use Rattle.serde_json.specs.Data.{object};
+ghost use Rattle.journal_replay.specs.Members.{IsCounted, TakesMember, data_of, member_tokens, members_of};
+ghost use Rattle.journal_replay.specs.Reading.{json_of};
 
-use crate::fields::{Fields, entry_of};
-use crate::reading::Recorded;
+use crate::fields::{Fields, Member};
 use json::{Reader, Scratch, Token};
 use market_types::read_number;
 use std::alloc::AllocError;
 use std::str;
 
-/// A member of an entry.
-#[derive(Clone, Copy)]
-pub(crate) enum Member<'a> {
-    Cmd(&'a [u8]),
-    Reply(&'a [u8]),
-    Seat(u32),
-}
-
-/// The next member, where it is one of an entry.
-fn next_member<'a>(reader: &mut Reader<'a>) -> Option<Member<'a>>
-    ensures { IfSome result (λ m. reader.old ≡ member_tokens m ++ reader.new) }
+/// The member of this key and this value, where an entry may have it.
+fn member_of<'a>(name: &str, value: Token<'a>) -> Option<Member<'a>>
+    ensures tokens { IfSome result (λ m. member_tokens m ≡ key name.now ∷ token_of value.entry ∷ []) }
+    ensures counted { IfSome result (λ m. IsCounted m) }
 {
-    let Some(Token::Key(key)) = reader.next() else {
-        return None;
-    };
-    let value = reader.next()?;
-    if key == "cmd" {
-        let Token::String(text) = value else {
-            return None;
-        };
-        return Some(Member::Cmd(text.as_bytes()));
-    }
-    if key == "reply" {
-        let Token::String(text) = value else {
-            return None;
-        };
-        return Some(Member::Reply(text.as_bytes()));
-    }
-    if key == "seat" {
-        let Token::Number(digits) = value else {
-            return None;
-        };
-        return Some(Member::Seat(read_number(digits.as_bytes())?));
-    }
-    None
-}
-
-/// The fields of an entry that has these members, each once.
-pub(crate) fn fields_of<'a>(
-    first: Member<'a>,
-    second: Member<'a>,
-    third: Member<'a>,
-) -> Option<Fields<'a>>
-    ensures { IfSome result (λ f. f.seat < 2 ^ 64
-        → data_of (begin_object ∷ (member_tokens first.entry ++ (member_tokens second.entry ++ (member_tokens third.entry ++ end_object ∷ [])))) ≡ Some (entry_data f.cmd.now f.reply.now f.seat)) }
-{
-    match (first, second, third) {
-        (Member::Cmd(cmd), Member::Reply(reply), Member::Seat(seat)) => {
-            Some(Fields { cmd, reply, seat })
+    match value {
+        Token::String(text) => {
+            if name == "cmd" {
+                Some(Member::Cmd(text.as_bytes()))
+            } else if name == "reply" {
+                Some(Member::Reply(text.as_bytes()))
+            } else {
+                None
+            }
         }
-        (Member::Cmd(cmd), Member::Seat(seat), Member::Reply(reply)) => {
-            Some(Fields { cmd, reply, seat })
-        }
-        (Member::Reply(reply), Member::Cmd(cmd), Member::Seat(seat)) => {
-            Some(Fields { cmd, reply, seat })
-        }
-        (Member::Reply(reply), Member::Seat(seat), Member::Cmd(cmd)) => {
-            Some(Fields { cmd, reply, seat })
-        }
-        (Member::Seat(seat), Member::Cmd(cmd), Member::Reply(reply)) => {
-            Some(Fields { cmd, reply, seat })
-        }
-        (Member::Seat(seat), Member::Reply(reply), Member::Cmd(cmd)) => {
-            Some(Fields { cmd, reply, seat })
+        Token::Number(digits) => {
+            if name == "seat" {
+                Some(Member::Seat(read_number(digits.as_bytes())?))
+            } else {
+                None
+            }
         }
         _ => None,
     }
 }
 
-/// The fields of the entry whose tokens come next, where nothing comes behind them.
-fn whole_fields<'a>(reader: &mut Reader<'a>) -> Option<Fields<'a>>
-    ensures { IfSome result (λ f. f.seat < 2 ^ 64 → data_of reader.old ≡ Some (entry_data f.cmd.now f.reply.now f.seat)) }
+/// Takes the next member, where one of an entry comes next: true, and false where the object ends.
+fn take_member<'a>(reader: &mut Reader<'a>, fields: &mut Fields<'a>) -> Option<bool>
+    ensures more { IfSome result (λ more. more ≡ true → TakesMember reader.old reader.new (members_of fields.old) (members_of fields.new)) }
+    ensures end { IfSome result (λ more. more ≡ false → (reader.old ≡ end_object ∷ reader.new) × (members_of fields.new ≡ members_of fields.old)) }
+{
+    match reader.next()? {
+        Token::Key(name) => {
+            let member = member_of(name, reader.next()?)?;
+            *fields = fields.with(member);
+            Some(true)
+        }
+        Token::EndObject => Some(false),
+        _ => None,
+    }
+}
+
+/// The fields that the tokens of an object tell whose members are those of an entry, where nothing comes behind it.
+fn read_members<'a>(reader: &mut Reader<'a>) -> Option<Fields<'a>>
+    ensures { IfSome result (λ fields. data_of reader.old ≡ Some (object (members_of fields))) }
 {
     let Some(Token::BeginObject) = reader.next() else {
         return None;
     };
-    let first = next_member(reader)?;
-    let second = next_member(reader)?;
-    let third = next_member(reader)?;
-    let Some(Token::EndObject) = reader.next() else {
-        return None;
-    };
+    let mut fields = Fields::none();
+    while take_member(reader, &mut fields)? {}
     if reader.next().is_some() {
         return None;
     }
-    fields_of(first, second, third)
+    Some(fields)
 }
 
-/// The entry that a line tells by its tokens, in a market of so many seats and levels. None of a line whose tokens are not those
-/// of an entry, each key once, and of one that is no entry.
-// Apart, since a line that is told by its places would else make room for a reader.
-#[inline(never)]
+/// The fields that a line tells by its tokens as an object of members of an entry. None of a line whose tokens are others.
 pub(crate) fn read_tokens<'a>(
     line: &'a [u8],
     scratch: &'a mut Scratch,
-    seats: u8,
-    levels: u32,
-) -> Result<Option<Recorded<'a>>, AllocError>
-    ensures exact { IfOk result (λ found. IfSome found (λ e. option_and_then (entry_in seats levels) (json_of line.entry.now) ≡ Some (record { seat = e.seat; cmd = e.cmd; reply = e.reply.now }))) }
-    ensures seat { IfOk result (λ found. IfSome found (λ e. e.seat < seats)) }
+) -> Result<Option<Fields<'a>>, AllocError>
+    ensures { IfOk result (λ found. IfSome found (λ fields. json_of line.entry.now ≡ Some (object (members_of fields)))) }
 {
     let Ok(text) = str::from_utf8(line) else {
         return Ok(None);
@@ -122,8 +82,5 @@ pub(crate) fn read_tokens<'a>(
     let Ok(mut reader) = Reader::new(text, scratch) else {
         return Err(AllocError);
     };
-    let Some(fields) = whole_fields(&mut reader) else {
-        return Ok(None);
-    };
-    Ok(entry_of(fields, seats, levels))
+    Ok(read_members(&mut reader))
 }

@@ -1,0 +1,227 @@
+//! Lines whose texts stand in them as they are, cut member by member. At each place what is written here is tried first, and only
+//! where it is missing white space is passed over: so a line that is spelled as ours is told by its places, and one that another
+//! tool wrote as soon as the two differ. What is cut is proved to be what the lexer of JSON finds there.
+ghost use Rattle.std.specs.Prelude.{◌≡◌, ◌<◌, ◌≤◌, ◌^◌, ◌++◌, ◌∷◌, [], true, length, Some, IfSome, decimal};
+ghost use Rattle.std.specs.Bool.{OnTrue};
+ghost use Rattle.json.specs.Lex.{class, comma, operator, operator_lexeme, space, token};
+ghost use Rattle.json.specs.Token.{begin_object, number, string};
+ghost use Rattle.json.specs.Word.{ends_word};
+ghost use Rattle.serde_json.specs.Data.{object};
+ghost use Rattle.journal_replay.specs.Cuts.{IsCut};
+ghost use Rattle.journal_replay.specs.Members.{CutsMember, IsCounted, member_lexemes, members_of};
+ghost use Rattle.journal_replay.specs.Plain.{are_plain, is_plain};
+ghost use Rattle.journal_replay.specs.Reading.{json_of};
+
+use crate::fields::{Fields, Member};
+use market_types::read_number;
+use memchr::memchr;
+
+/// The byte stands in a text as it is.
+#[inline(always)]
+fn is_plain(byte: u8) -> bool
+    ensures { result ≡ is_plain byte }
+{
+    (byte >= 32) & (byte < 127) & (byte != b'"') & (byte != b'\\')
+}
+
+/// Each byte does. It looks at all of them, so that several are looked at at a time.
+fn are_plain(text: &[u8]) -> bool
+    ensures { result ≡ are_plain text.now }
+{
+    let mut plain = true;
+    for byte in text {
+        plain &= is_plain(*byte);
+    }
+    plain
+}
+
+/// The plain text before the first quote, and what follows the quote.
+#[inline(always)]
+fn cut_plain(text: &[u8]) -> Option<(&[u8], &[u8])>
+    ensures cut { IfSome result (λ cut. text.now ≡ cut.0.now ++ 34 ∷ cut.1.now) }
+    ensures plain { IfSome result (λ cut. are_plain cut.0.now ≡ true) }
+{
+    let at = memchr(b'"', text)?;
+    if !are_plain(&text[..at]) {
+        return None;
+    }
+    Some((&text[..at], &text[at + 1..]))
+}
+
+/// What follows a label.
+#[inline(always)]
+fn behind<'a>(text: &'a [u8], label: &[u8]) -> Option<&'a [u8]>
+    ensures { IfSome result (λ rest. text.entry.now ≡ label.now ++ rest.now) }
+{
+    text.strip_prefix(label)
+}
+
+/// The byte is white space. No line has an LF.
+#[inline(always)]
+fn is_space(byte: u8) -> bool
+    ensures white { OnTrue result (class byte ≡ space) }
+    ensures ascii { OnTrue result (byte < 128) }
+{
+    matches!(byte, b' ' | b'\t' | b'\r')
+}
+
+/// What follows the white space that a text begins with.
+#[inline(always)]
+fn skip_space(text: &[u8]) -> &[u8]
+    ensures { IsCut text.now result.now [] }
+{
+    let mut rest = text;
+    while let Some((first, more)) = rest.split_first() {
+        if !is_space(*first) {
+            return rest;
+        }
+        rest = more;
+    }
+    rest
+}
+
+/// What follows this byte, with which the text begins behind white space.
+#[inline(always)]
+fn after_operator(text: &[u8], byte: u8) -> Option<&[u8]>
+    requires { class byte ≡ operator }
+    ensures cut { IfSome result (λ rest. IsCut text.now rest.now (operator_lexeme byte ∷ [])) }
+    ensures shorter { IfSome result (λ rest. length rest.now < length text.now) }
+{
+    let (first, rest) = skip_space(text).split_first()?;
+    if *first == byte { Some(rest) } else { None }
+}
+
+/// The plain text in quotes with which the text begins behind white space, and what follows it.
+fn cut_text(text: &[u8]) -> Option<(&[u8], &[u8])>
+    ensures { IfSome result (λ cut. IsCut text.now cut.1.now (token (string cut.0.now) ∷ [])) }
+{
+    let rest = behind(skip_space(text), b"\"")?;
+    cut_plain(rest)
+}
+
+/// How many digits a text begins with.
+fn count_digits(text: &[u8]) -> usize
+    ensures { result ≤ length text.now }
+{
+    for (at, byte) in text.iter().enumerate() {
+        if !byte.is_ascii_digit() {
+            return at;
+        }
+    }
+    text.len()
+}
+
+/// Whether a number may end before this text: at white space, a comma or a brace.
+fn ends_number(text: &[u8]) -> bool
+    ensures { OnTrue result (ends_word text.now ≡ true) }
+{
+    match text.first() {
+        Some(first) => matches!(*first, b' ' | b'\t' | b'\r' | b',' | b'}'),
+        None => false,
+    }
+}
+
+/// The number with which the text begins behind white space, and what follows it.
+fn cut_whole(text: &[u8]) -> Option<(u32, &[u8])>
+    ensures cut { IfSome result (λ cut. IsCut text.now cut.1.now (token (number (decimal cut.0)) ∷ [])) }
+    ensures counted { IfSome result (λ cut. cut.0 < 2 ^ 64) }
+{
+    let text = skip_space(text);
+    let (digits, rest) = text.split_at(count_digits(text));
+    let number = read_number(digits)?;
+    if !ends_number(rest) {
+        return None;
+    }
+    Some((number, rest))
+}
+
+/// The member with which the text begins, and what follows it.
+#[inline(always)]
+fn cut_member(text: &[u8]) -> Option<(Member<'_>, &[u8])>
+    ensures cut { IfSome result (λ cut. IsCut text.now cut.1.now (member_lexemes cut.0)) }
+    ensures counted { IfSome result (λ cut. IsCounted cut.0) }
+{
+    let text = skip_space(text);
+    if let Some(rest) = behind(text, b"\"cmd\"") {
+        let (cmd, rest) = cut_text(after_operator(rest, b':')?)?;
+        return Some((Member::Cmd(cmd), rest));
+    }
+    if let Some(rest) = behind(text, b"\"reply\"") {
+        let (reply, rest) = cut_text(after_operator(rest, b':')?)?;
+        return Some((Member::Reply(reply), rest));
+    }
+    let rest = behind(text, b"\"seat\"")?;
+    let (seat, rest) = cut_whole(after_operator(rest, b':')?)?;
+    Some((Member::Seat(seat), rest))
+}
+
+/// Takes the member with which a text begins: white space may stand before its key, its colon and its value. It gives what follows.
+// Apart, since a member that is spelled as ours would else make room for what is cut here.
+#[inline(never)]
+fn take_member<'a>(text: &'a [u8], fields: &mut Fields<'a>) -> Option<&'a [u8]>
+    ensures { IfSome result (λ rest. CutsMember [] text.entry.now rest.now (members_of fields.old) (members_of fields.new)) }
+{
+    let (member, rest) = cut_member(text)?;
+    *fields = fields.with(member);
+    Some(rest)
+}
+
+/// The same of the first member, behind the brace that begins the object. Ours is a command.
+#[inline(always)]
+fn take_first<'a>(line: &'a [u8], fields: &mut Fields<'a>) -> Option<&'a [u8]>
+    ensures { IfSome result (λ rest. CutsMember (token begin_object ∷ []) line.entry.now rest.now (members_of fields.old) (members_of fields.new)) }
+{
+    let Some(rest) = behind(line, b"{\"cmd\":\"") else {
+        return take_member(after_operator(line, b'{')?, fields);
+    };
+    let (cmd, rest) = cut_plain(rest)?;
+    *fields = fields.with(Member::Cmd(cmd));
+    Some(rest)
+}
+
+/// The same of the second member, behind a comma. Ours is a reply, whose label is compared by eight bytes and two.
+#[inline(always)]
+fn take_second<'a>(text: &'a [u8], fields: &mut Fields<'a>) -> Option<&'a [u8]>
+    ensures { IfSome result (λ rest. CutsMember (comma ∷ []) text.entry.now rest.now (members_of fields.old) (members_of fields.new)) }
+{
+    let Some(rest) = behind(text, b",\"reply\"") else {
+        return take_member(after_operator(text, b',')?, fields);
+    };
+    let (reply, rest) = cut_text(after_operator(rest, b':')?)?;
+    *fields = fields.with(Member::Reply(reply));
+    Some(rest)
+}
+
+/// The same of the third member, behind a comma. Ours is a seat.
+#[inline(always)]
+fn take_third<'a>(text: &'a [u8], fields: &mut Fields<'a>) -> Option<&'a [u8]>
+    ensures { IfSome result (λ rest. CutsMember (comma ∷ []) text.entry.now rest.now (members_of fields.old) (members_of fields.new)) }
+{
+    let Some(rest) = behind(text, b",\"seat\":") else {
+        return take_member(after_operator(text, b',')?, fields);
+    };
+    let (seat, rest) = cut_whole(rest)?;
+    *fields = fields.with(Member::Seat(seat));
+    Some(rest)
+}
+
+/// The fields that a line tells as an object of an entry's members, three or more, whose texts are plain. None of a line that is
+/// spelled otherwise, and of one that is no such object.
+#[inline(always)]
+pub(crate) fn cut_line(line: &[u8]) -> Option<Fields<'_>>
+    ensures { IfSome result (λ fields. json_of line.now ≡ Some (object (members_of fields))) }
+{
+    let mut fields = Fields::none();
+    let rest = take_first(line, &mut fields)?;
+    let rest = take_second(rest, &mut fields)?;
+    let mut rest = take_third(rest, &mut fields)?;
+    // A key comes twice.
+    while let Some(next) = after_operator(rest, b',') {
+        rest = take_member(next, &mut fields)?;
+    }
+    let rest = skip_space(after_operator(rest, b'}')?);
+    if !rest.is_empty() {
+        return None;
+    }
+    Some(fields)
+}

@@ -1,0 +1,149 @@
+//! A line of a journal, read as an entry. Nearly every line is cut at the places of its members (`cutter`). One whose texts have
+//! escapes is read by its tokens (`tokens`), and every other as a tree of values, by `serde_json`: what is none of these is no
+//! entry as a rule, so that it ends the journal.
+ghost use Rattle.std.specs.Prelude.{◌≡◌, Some, IfOk, IfSome, option_map};
+ghost use Rattle.serde_json.specs.Data.{object};
+ghost use Rattle.journal_replay.specs.EntryLines.{IsSeated, reading_of};
+ghost use Rattle.journal_replay.specs.Members.{members_of};
+ghost use Rattle.journal_replay.specs.Reading.{entry_in, json_of};
+
+use crate::cutter::cut_line;
+use crate::fields::Fields;
+use crate::reading::{Recorded, read_entry, read_json};
+use crate::tokens::read_tokens;
+use json::Scratch;
+use memchr::memchr;
+use serde_json::Value;
+use std::alloc::{AllocError, Global};
+
+/// What a line is in a market of so many seats and levels.
+#[derive(Clone, Copy)]
+pub(crate) enum Reading<'a> {
+    /// An entry.
+    Entry(Recorded<'a>),
+    /// JSON, and no entry.
+    NotEntry,
+    /// No JSON.
+    NotJson,
+}
+
+impl<'a> Reading<'a> {
+    /// What an object is that has these fields, in a market of so many seats and levels.
+    #[inline(always)]
+    fn of(fields: Fields<'a>, seats: u8, levels: u32) -> Self
+        ensures exact { reading_of result ≡ Some (entry_in seats levels (object (members_of fields.entry))) }
+        ensures seat { IsSeated seats result }
+    {
+        match fields.entry(seats, levels) {
+            Some(entry) => Reading::Entry(entry),
+            None => Reading::NotEntry,
+        }
+    }
+}
+
+/// Memory that is used again for each line that is not cut.
+#[derive(Drop)]
+pub(crate) struct Room {
+    /// For the tokens of a line, and for its texts once their escapes are undone: from the first line on that is to be read so.
+    scratch: Option<Box<Scratch>>,
+    /// The tree of values that the last line was read as.
+    tree: Option<Value>,
+}
+
+impl Room {
+    /// Before the first line.
+    pub(crate) fn new() -> Self {
+        Room {
+            scratch: None,
+            tree: None,
+        }
+    }
+}
+
+/// Room for the tokens of lines.
+// Apart, since each line would else make room for it on the stack.
+#[cold]
+#[inline(never)]
+fn new_scratch(alloc: Global) -> Result<Box<Scratch>, AllocError> {
+    Ok(Box::new(alloc, Scratch::new(alloc))?)
+}
+
+/// The fields of a line by its tokens.
+fn read_escaped<'a>(
+    alloc: Global,
+    line: &'a [u8],
+    scratch: &'a mut Option<Box<Scratch>>,
+) -> Result<Option<Fields<'a>>, AllocError>
+    ensures { IfOk result (λ found. IfSome found (λ fields. json_of line.entry.now ≡ Some (object (members_of fields)))) }
+{
+    if scratch.is_none() {
+        *scratch = Some(new_scratch(alloc)?);
+    }
+    match scratch {
+        Some(scratch) => read_tokens(line, scratch),
+        None => Ok(None),
+    }
+}
+
+/// What a line is by the tree of its values.
+fn read_tree<'a>(
+    alloc: Global,
+    line: &[u8],
+    tree: &'a mut Option<Value>,
+    seats: u8,
+    levels: u32,
+) -> Result<Reading<'a>, AllocError>
+    ensures exact { IfOk result (λ reading. reading_of reading ≡ option_map (entry_in seats levels) (json_of line.now)) }
+    ensures seat { IfOk result (λ reading. IsSeated seats reading) }
+{
+    *tree = read_json(alloc, line)?;
+    let Some(value) = tree else {
+        return Ok(Reading::NotJson);
+    };
+    match read_entry(value, seats, levels) {
+        Some(entry) => Ok(Reading::Entry(entry)),
+        None => Ok(Reading::NotEntry),
+    }
+}
+
+/// What a line is that was not cut.
+// Apart, since each line would else make room for all that is needed here.
+#[inline(never)]
+fn read_uncut<'a>(
+    alloc: Global,
+    line: &'a [u8],
+    room: &'a mut Room,
+    seats: u8,
+    levels: u32,
+) -> Result<Reading<'a>, AllocError>
+    ensures exact { IfOk result (λ reading. reading_of reading ≡ option_map (entry_in seats levels) (json_of line.entry.now)) }
+    ensures seat { IfOk result (λ reading. IsSeated seats reading) }
+{
+    // An entry without an escape was cut, but for odd ones: so no room for tokens is made for a line that ends the journal.
+    let Room { scratch, tree } = room;
+    if memchr(b'\\', line).is_some() {
+        if let Some(fields) = read_escaped(alloc, line, scratch)? {
+            return Ok(Reading::of(fields, seats, levels));
+        }
+    }
+    read_tree(alloc, line, tree, seats, levels)
+}
+
+/// What a line is as JSON, and which entry that is in a market of so many seats and levels.
+// Apart, since what is cut and what is replayed would else fight for registers.
+#[inline(never)]
+pub(crate) fn read<'a>(
+    alloc: Global,
+    line: &'a [u8],
+    room: &'a mut Room,
+    seats: u8,
+    levels: u32,
+) -> Result<Reading<'a>, AllocError>
+    ensures exact { IfOk result (λ reading. reading_of reading ≡ option_map (entry_in seats levels) (json_of line.entry.now)) }
+    ensures seat { IfOk result (λ reading. IsSeated seats reading) }
+{
+    match cut_line(line) {
+        Some(fields) => Ok(Reading::of(fields, seats, levels)),
+        None => read_uncut(alloc, line, room, seats, levels),
+    }
+}
