@@ -16,7 +16,7 @@ use Rattle.recall_hire.specs.declared.rows.Staffing.{Staffing}
 use Rattle.recall_hire.specs.declared.sharing.Sharing.{Sharing}
 use Rattle.recall_hire.specs.declared.sharing.Sharing.TheVariants.{Carried, Picked}
 use Rattle.recall_hire.specs.Staffed.{recall_in, hire_in, above_zero_in, counts_in, imbalances, actives}
-use Rattle.recall_hire.specs.Shared.{AreShared, CanShareAll, IsListed, IsLow, IsOver, IsPassing, IsUnserved, IsWalk, row_share, row_carry, staffed, carry_after}
+use Rattle.recall_hire.specs.Shared.{CanShareAll, IsListed, IsLow, IsOver, IsWalk, row_share, row_carry, staffed, carry_after}
 use Rattle.recall_hire.proofs.Shares.{share-below, carry-below, staffed-append, carry-append}
 
 -- a row beside what its arena is allotted and has
@@ -304,29 +304,13 @@ due-over k d seats rows rest c e u met p h =
           nothing-over (Carried k d) seats rows p.passed rest c e u p.rows_are (due-below k d seats c e p.passed (omega (arith, asked, low, p.carried)) p.carried nobody) nobody
     ]
 
-shared-over : (s : Sharing) (k d : ℕ) (seats : List (Option ℕ)) (rows rest : List Row) (c e u : ℕ) → u ≡ 0 → AreShared s k d → IsPassed k d rows rest c e → IsReady s seats rows c u → IsOver s seats rows rest c e u
-shared-over (Carried a q) k d seats rows rest c e u met by p h = due-over a q seats rows rest c e u met (subst (λ n. IsPassed n (max q 1) rows rest c e) by.0 (subst (λ n. IsPassed k n rows rest c e) by.1 p)) h
-shared-over (Picked o w) k d seats rows rest c e u met by p h = absurd by
-
 -- those whom no worker is due to, once all seats are met
-pub passed-over : (s : Sharing) (k d : ℕ) (seats : List (Option ℕ)) (rows rest : List Row) (c e u : ℕ) → IsPassing s u k d → IsPassed k d rows rest c e → IsReady s seats rows c u → IsOver s seats rows rest c e u
-passed-over s k d seats rows rest c e u by p h =
-    elim (cases_eq d 0) [
-      | inl z ↦
-          let none : p.passed ≡ [] = p.none (omega (arith, z)) in
-          let same : e ≡ c = p.carried ∙ ap (λ l. c + k * requests l) none ∙ omega arith in
-          record {
-            passed = [];
-            rows_are = p.rows_are ∙ ap (λ l. l ++ rest) none;
-            walked = λ visits lists. subst (λ n. IsWalk s seats [] c n u u visits visits lists lists) (sym same) (walk-ends s seats c u visits visits lists [] refl refl);
-          }
-      | inr some ↦ let due = by.due (omega (arith, some)) in shared-over s k d seats rows rest c e u due.0 due.1 p h
-    ]
+pub passed-over : (s : Sharing) (k d : ℕ) (seats : List (Option ℕ)) (rows rest : List Row) (c e u : ℕ) → s ≡ Carried k d → u ≤ 0 → IsPassed k (max d 1) rows rest c e → IsReady s seats rows c u → IsOver s seats rows rest c e u
+passed-over s k d seats rows rest c e u is met p = subst (λ t. IsReady t seats rows c u → IsOver t seats rows rest c e u) (sym is) (due-over k d seats rows rest c e u (omega (arith, met)) p)
 
 -- all, where nobody is served
-pub all-over : (s : Sharing) (seats : List (Option ℕ)) (rows : List Row) (c u : ℕ) → IsUnserved s u → IsReady s seats rows c u → IsOver s seats rows [] c c u
-all-over (Carried k d) seats rows c u none h = absurd none
-all-over (Picked o w) seats rows c u none h =
-    let nobody : actives (staffed (Picked o w) seats c rows) ≡ 0 = omega (arith, none.0, h.unmet) in
-    subst (λ p. actives (staffed (Picked p w) seats c rows) ≡ 0 → IsOver (Picked p w) seats rows [] c c u) (sym none.1)
+pub all-over : (s : Sharing) (picked : Option ℕ) (w : ℕ) (seats : List (Option ℕ)) (rows : List Row) (c u : ℕ) → s ≡ Picked picked w → picked ≡ None → u ≤ 0 → IsReady s seats rows c u → IsOver s seats rows [] c c u
+all-over s picked w seats rows c u is unserved met h =
+    let nobody : actives (staffed s seats c rows) ≡ 0 = omega (arith, met, h.unmet) in
+    subst (λ t. actives (staffed t seats c rows) ≡ 0 → IsOver t seats rows [] c c u) (sym (is ∙ ap (λ p. Picked p w) unserved))
     (λ idle. nothing-over (Picked None w) seats rows rows [] c c u (sym (append-nil rows)) (none-picked w seats c rows idle) idle) nobody

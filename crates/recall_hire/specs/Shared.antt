@@ -1,5 +1,5 @@
 -- How the workers of a level are shared out among the rows of its arenas, in order.
-use Rattle.std.specs.Prelude.{◌≡◌, ℕ, ◌<◌, ◌≤◌, length, max, None, ◌+◌, ◌*◌, ◌/◌, ◌%◌, ◌^◌, ◌==◌, if◌then◌else◌, List, [], ◌∷◌, ◌++◌, Option}
+use Rattle.std.specs.Prelude.{◌≡◌, ℕ, ◌<◌, ◌≤◌, length, max, None, ◌+◌, ◌*◌, ◌/◌, ◌%◌, ◌==◌, if◌then◌else◌, List, [], ◌∷◌, ◌++◌, Option}
 use Rattle.std.specs.List.{fold, count_by}
 use Rattle.market_types.specs.declared.row.Row.{Row}
 use Rattle.market_types.specs.Allotment.{is_just}
@@ -84,20 +84,3 @@ pub record IsOver (sharing : Sharing) (seats : List (Option ℕ)) (rows rest : L
   pub passed : List Row
   pub rows_are : rows ≡ passed ++ rest
   pub walked : (visits : ℕ) (lists : Counts) → IsWalk sharing seats passed carry after unmet unmet visits visits lists lists
-
--- these are the workers and the demand by which they are shared out, and at least 1 of it
-abbrev pub AreShared : Sharing → ℕ → ℕ → Type 0
-AreShared (Carried assigned asked) workers demand = (workers ≡ assigned) × (demand ≡ max asked 1)
-AreShared (Picked arena assigned) workers demand = ⊥
-
--- by these workers and this demand nobody is passed over, or, once all seats are met, those whom no worker is due to (private
--- functions alone cite this)
-pub record IsPassing (sharing : Sharing) (unmet workers demand : ℕ) : Type 0 where
-  pub few : workers < 2 ^ 31
-  pub small : demand < 2 ^ 32
-  pub due : 0 < demand → (unmet ≡ 0) × AreShared sharing workers demand
-
--- all seats are met, and nobody is served (private functions alone cite this)
-abbrev pub IsUnserved : Sharing → ℕ → Type 0
-IsUnserved (Carried workers demand) unmet = ⊥
-IsUnserved (Picked arena workers) unmet = (unmet ≡ 0) × (arena ≡ None)

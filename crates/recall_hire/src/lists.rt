@@ -2,7 +2,7 @@
 ghost use Rattle.std.specs.Prelude.{◌≡◌, ◌+◌, ◌^◌, ◌<◌, ◌≤◌, [], ◌∷◌, ◌++◌, length, IsOk, IfOk, IfSome, IfNone, OnOk, OnErr};
 ghost use Rattle.prefix_tree.specs.Rows.{requests};
 ghost use Rattle.recall_hire.specs.Staffed.{actives, counts_in, imbalances};
-ghost use Rattle.recall_hire.specs.Shared.{CanShareAll, IsLow, row_share, row_carry, staffed, IsListed, IsOver, IsPassing, IsUnserved, IsWalk};
+ghost use Rattle.recall_hire.specs.Shared.{CanShareAll, IsLow, row_share, row_carry, staffed, IsListed, IsOver, IsWalk};
 
 use crate::roster::Roster;
 use crate::rows::{Staffing, hire, recall};
@@ -69,29 +69,15 @@ impl Listing<'_> {
         ensures some { IfSome result (λ quad. 0 < length quad) }
         ensures none { IfNone result (IsOver self.now.sharing self.now.roster.now rest.old [] carry.old carry.new unmet) }
     {
-        let Some((workers, demand)) = self.passing(unmet) else {
-            return None;
-        };
-        rest.next_due(workers, demand, carry)
-    }
-
-    /// The workers and the demand by which arenas are passed over. At a demand of 0 nobody is: so it is while seats are left to be
-    /// met, and where the enqueued work of an arena is served. None where nobody can be listed any more.
-    #[inline(always)]
-    fn passing(&self, unmet: u32) -> Option<(u64, u64)>
-        requires shared { CanShareAll self.now.sharing 0 0 }
-        ensures by { IfSome result (λ by. IsPassing self.now.sharing unmet by.0 by.1) }
-        ensures none { IfNone result (IsUnserved self.now.sharing unmet) }
-    {
         if unmet > 0 {
-            return Some((0, 0));
+            return rest.next();
         }
         match self.sharing {
             // A level that asks for nobody has a demand of 0, and all of it is passed over.
-            Sharing::Carried { workers, demand } => Some((workers, demand.max(1))),
+            Sharing::Carried { workers, demand } => rest.next_due(workers, demand.max(1), carry),
             Sharing::Picked { arena, .. } => match arena {
                 None => None,
-                Some(_) => Some((0, 0)),
+                Some(_) => rest.next(),
             },
         }
     }
