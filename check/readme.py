@@ -1,5 +1,5 @@
 #!/usr/bin/env python3
-"""Compares the samples of the README and of docs/ with what the program prints, and the README's first program with its source.
+"""Compares the samples of the README and of docs/ with what the program prints, and the first programs of the README and of docs/EMBEDDING.md with their sources.
 
     check/readme.py crates/market/out/market
 
@@ -11,7 +11,7 @@ import subprocess
 import sys
 
 ROOT = os.path.dirname(os.path.dirname(os.path.abspath(__file__)))
-PAGES = ["README.md", "docs/RULES.md", "docs/FORMATS.md", "docs/ARCHITECTURE.md", "docs/TESTING.md"]
+PAGES = ["README.md", "docs/RULES.md", "docs/FORMATS.md", "docs/ARCHITECTURE.md", "docs/EMBEDDING.md", "docs/TESTING.md"]
 INDENT = "    "
 
 
@@ -57,22 +57,23 @@ def told_by(command, program):
     return told.stdout.decode("utf-8").split("\n")[:-1]
 
 
-def compare_first_program():
-    """The block of the README that is a source file is that of `first_market`."""
-    source = open(os.path.join(ROOT, "crates/first_market/src/main.rt"), encoding="utf-8").read()
-    told = [block for _, block in blocks_of("README.md") if block[0].startswith("//! A first program")]
+def compare_program(page, crate):
+    """The block of a page that is a source file is that of a crate."""
+    source = open(os.path.join(ROOT, "crates", crate, "src/main.rt"), encoding="utf-8").read()
+    told = [block for _, block in blocks_of(page) if block[0].startswith("//! A first program")]
     # A block ends at an empty line, and a source has some.
-    text = open(os.path.join(ROOT, "README.md"), encoding="utf-8").read()
+    text = open(os.path.join(ROOT, page), encoding="utf-8").read()
     indented = "".join(INDENT + line if line.strip() else line for line in source.splitlines(keepends=True))
     if len(told) != 1 or indented not in text:
-        sys.exit("README.md: the first program is not that of crates/first_market")
+        sys.exit(f"{page}: the first program is not that of crates/{crate}")
 
 
 def main():
     if len(sys.argv) != 2:
         sys.exit(__doc__)
     program = os.path.abspath(sys.argv[1])
-    compare_first_program()
+    compare_program("README.md", "first_market")
+    compare_program("docs/EMBEDDING.md", "first_threads")
     compared = passed_over = 0
     for page in PAGES:
         for first, block in blocks_of(page):
