@@ -108,7 +108,8 @@ impl Levels {
     #[inline(always)]
     pub fn whole(&self, level: usize) -> Span<'_>
         requires level { level < 8 }
-        ensures { result ≡ with_height (rows_at level self.now) }
+        ensures exact { result ≡ with_height (rows_at level self.now) }
+        ensures few { length (rows_at level self.now) ≤ 1024 }
     {
         Span::new(&self.levels[level])
     }
