@@ -64,6 +64,7 @@ module _ (d : Chronicled) (seat : ℕ) (cmd : Cmd) where
   at-full lack =
       record {
         reply = tt;
+        held = tt;
         recorded = tt;
         unchanged = refl;
         full = λ _. refl;
@@ -74,12 +75,13 @@ module _ (d : Chronicled) (seat : ℕ) (cmd : Cmd) where
         keeping = refl;
       }
 
-  pub at-memory : (log : List Entry) → log ≡ d.log → (LacksPlaces d seat cmd → ⊥) → (takes (place_of (market_of d) seat) cmd ≡ 0 → ⊥) → IsAnswered d seat cmd (Err Memory) (record d { log = log })
-  at-memory log same enough some =
+  pub at-memory : (log : List Entry) (market : State) → log ≡ d.log → market ≡ d.market → (LacksPlaces d seat cmd → ⊥) → (takes (place_of (market_of d) seat) cmd ≡ 0 → ⊥) → IsAnswered d seat cmd (Err Memory) (record d { market = market; log = log })
+  at-memory log market same stays enough some =
       record {
         reply = tt;
+        held = tt;
         recorded = tt;
-        unchanged = ap (λ (l : List Entry). record d { log = l }) same;
+        unchanged = λ i. record d { market = stays i; log = same i };
         full = λ lack. absurd (enough lack);
         room = λ full. absurd (let other : Memory ≡ HistoryFull = full in cc);
         leave = λ none. absurd (some none);
@@ -88,11 +90,12 @@ module _ (d : Chronicled) (seat : ℕ) (cmd : Cmd) where
         keeping = refl;
       }
 
-  pub at-reply : (log : List Entry) (from : ℕ) (r : Reply) → r ≡ (step (market_of d) seat cmd).0 → log ≡ d.log ++ entry seat cmd r ∷ [] → (LacksPlaces d seat cmd → ⊥)
-      → IsAnswered d seat cmd (Ok r) (record d { log = log; from = from })
-  at-reply log from r is more enough =
+  pub at-reply : (log : List Entry) (market : State) (from : ℕ) (r : Reply) → r ≡ (step (market_of d) seat cmd).0 → market ≡ (step d.market seat cmd).1 → log ≡ d.log ++ entry seat cmd r ∷ [] → (LacksPlaces d seat cmd → ⊥)
+      → IsAnswered d seat cmd (Ok r) (record d { market = market; log = log; from = from })
+  at-reply log market from r is next more enough =
       record {
         reply = is;
+        held = next;
         recorded = more;
         unchanged = tt;
         full = λ lack. absurd (enough lack);

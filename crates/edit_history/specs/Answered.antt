@@ -12,6 +12,7 @@ use Rattle.edit_history.specs.Places.{takes, LacksPlaces}
 -- want of memory changes nothing; a Leave by a placed seat is never refused. Own.
 pub record IsAnswered (old : Chronicled) (seat : ℕ) (cmd : Cmd) (result : Result Reply CallFault) (new : Chronicled) : Type 0 where
   pub reply : IfOk result (λ reply. reply ≡ (step (market_of old) seat cmd).0)
+  pub held : IfOk result (λ reply. new.market ≡ (step old.market seat cmd).1)
   pub recorded : IfOk result (λ reply. new.log ≡ old.log ++ entry seat cmd reply ∷ [])
   pub unchanged : OnErr result (new ≡ old)
   pub full : LacksPlaces old seat cmd → IsErrOf result HistoryFull

@@ -12,15 +12,16 @@ use Rattle.market_types.specs.State.{State, opening_to, usual_last}
 use Rattle.market_types.specs.Reading.{Fits}
 use Rattle.market_types.specs.History.{calls_of, state_after}
 
--- the market at its opening, the history since, the number of places, how many of the first entries are no longer kept, and which entries are to be kept (own)
+-- the market at its opening, the one that it holds now, the history since, the number of places, how many of the first entries are no longer kept, and which entries are to be kept (own)
 pub record Chronicled : Type 0 where
   pub start : State
+  pub market : State
   pub log : List Entry
   pub places : ℕ
   pub from : ℕ
   pub keeping : Keeping
 
--- the market as it stands
+-- what the opening becomes by the history: the market that is held is this one
 abbrev pub market_of : Chronicled → State
 market_of c = state_after c.start (calls_of c.log)
 
@@ -35,7 +36,8 @@ entry seat cmd reply = record { call = record { seat = seat; cmd = cmd }; reply 
 -- a chronicle that nothing has happened to
 abbrev pub begun : Terms → Chronicled
 begun t =
-    record { start = opening_to t.base t.hard t.seats t.levels t.last; log = []; places = t.places; from = 0; keeping = t.keeping }
+    let start = opening_to t.base t.hard t.seats t.levels t.last in
+    record { start = start; market = start; log = []; places = t.places; from = 0; keeping = t.keeping }
 
 -- a new chronicle, or the first of its numbers that is out of range; the last number is never (own)
 abbrev pub opened_by : Terms → Result Chronicled OpenFault

@@ -30,7 +30,8 @@ const MOST_PLACES: u32 = 1_048_576;
 /// How long a history is at most whose entries are all forgotten or cut out: with all places after it, 64 bits still count its calls.
 pub const MOST_FORGOTTEN: u64 = u64::MAX - MOST_PLACES as u64;
 
-/// A market whose calls are recorded. Contracts see it as its opening, the history since, and its number of places.
+/// A market whose calls are recorded. Contracts see it as its opening, the market that it holds, the history since, and its number
+/// of places.
 #[derive(Drop)]
 pub struct Chronicle {
     opened: Snapshot<Market>,
@@ -50,7 +51,7 @@ impl Model for Chronicle {
 
     ghost Value = { Chronicled };
 
-    ghost view = { λ c. record { start = c.opened.value; log = c.past ++ c.recent.items; places = c.places; from = c.from; keeping = c.keeping } };
+    ghost view = { λ c. record { start = c.opened.value; market = c.market; log = c.past ++ c.recent.items; places = c.places; from = c.from; keeping = c.keeping } };
 
     ghost invariant = { λ c. IsKept c.opened.value c.market c.past c.recent.items c.from c.places (vec_capacity c.recent) };
 }
@@ -121,6 +122,7 @@ impl Chronicle {
     pub fn call(&mut self, alloc: Global, seat: SeatNo, cmd: Cmd) -> Result<Reply, CallFault>
         requires seat { seat < length self.old.start.seats }
         ensures reply { IfOk result (λ reply. reply ≡ (step (market_of self.old) seat cmd).0) }
+        ensures held { IfOk result (λ reply. self.new.market ≡ (step self.old.market seat cmd).1) }
         ensures recorded { IfOk result (λ reply. self.new.log ≡ self.old.log ++ entry seat cmd reply ∷ []) }
         ensures unchanged { OnErr result (self.new ≡ self.old) }
         ensures full { LacksPlaces self.old seat cmd → IsErrOf result HistoryFull }
@@ -260,9 +262,11 @@ impl Chronicle {
         self.recent.as_slice()
     }
 
-    /// The market as it stands: what the opening becomes by the calls of the history. The history is legal: each reply is the
-    /// one that was due, and each call is one that the market can have. The market has the numbers of its opening still.
+    /// The market as it stands: the one that the chronicle holds, which is what the opening becomes by the calls of the history. The
+    /// history is legal: each reply is the one that was due, and each call is one that the market can have. The market has the
+    /// numbers of its opening still.
     pub fn market(&self) -> &Market
+        ensures held { result.now ≡ self.now.market }
         ensures exact { result.now ≡ market_of self.now }
         ensures legal { IsLegal self.now.start self.now.log }
         ensures calls { All (IsCallOf (length self.now.start.seats)) self.now.log }

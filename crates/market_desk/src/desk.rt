@@ -68,6 +68,7 @@ impl<C: Ledger, W: Ledger> Desk<C, W> {
         requires worker { share.old.workers ≡ workers_at (place_in seat self.old.log) }
         ensures reply { IfOk result (λ reply. reply ≡ (step (market_of self.old) seat cmd).0) }
         ensures answers { IfOk result (λ reply. Answers (place_in seat self.old.log) cmd reply) }
+        ensures held { self.new.market ≡ market_of self.new }
         ensures recorded { IfOk result (λ reply. self.new.log ≡ self.old.log ++ entry seat cmd reply ∷ []) }
         ensures counted { OnOk result (share.new.calls ≡ share.old.calls + 1) }
         ensures worker { share.new.workers ≡ workers_at (place_in seat self.new.log) }
@@ -121,13 +122,14 @@ impl<C: Ledger, W: Ledger> Desk<C, W> {
         &self.chronicle
     }
 
-    /// The chronicle, whose history is legal, and the book, which has a call for each entry and a worker for each placed seat:
-    /// so these are what the shares have counted together, once the book has gathered them.
+    /// The chronicle, whose history is legal and has made the market that it holds, and the book, which has a call for each entry and
+    /// a worker for each placed seat: so these are what the shares have counted together, once the book has gathered them.
     pub fn into_parts(self) -> (Chronicle, Book<C, W>)
         ensures chronicle { result.0 ≡ self }
         ensures calls { result.1.calls ≡ length self.log }
         ensures workers { result.1.workers ≡ placed (market_of self) }
         ensures legal { IsLegal self.start self.log }
+        ensures held { result.0.market ≡ market_of result.0 }
         ensures from { self.from ≡ forgotten self.keeping (length self.log) self.from }
     {
         let Desk { chronicle, book } = self;
@@ -139,6 +141,7 @@ impl<C: Ledger, W: Ledger> Desk<C, W> {
 /// What is true of every chronicle. This does nothing: what it ensures holds wherever it is called.
 #[inline(always)]
 fn facts_of(chronicle: &Chronicle)
+    ensures held { chronicle.now.market ≡ market_of chronicle.now }
     ensures legal { IsLegal chronicle.now.start chronicle.now.log }
     ensures own { (seat : ℕ) → seat < length chronicle.now.start.seats
         → place_of (market_of chronicle.now) seat ≡ place_in seat chronicle.now.log }

@@ -11,7 +11,7 @@ use Rattle.market_types.specs.declared.reply.Entry.{Entry}
 use Rattle.market_types.specs.declared.reply.Reply.{Reply}
 use Rattle.market_types.specs.State.{State}
 use Rattle.market_types.specs.Commands.{moves_seat}
-use Rattle.market_types.specs.History.{IsLegal, of_seat, place_after, place_in}
+use Rattle.market_types.specs.History.{IsLegal, calls_of, of_seat, place_after, place_in, state_after}
 use Rattle.market_core.specs.Moves.{Answers}
 use Rattle.edit_history.specs.Chronicled.{Chronicled, entry, most_forgotten}
 use Rattle.edit_history.specs.Parts.{EndsWith}
@@ -28,7 +28,7 @@ use Rattle.market_lock.specs.declared.view.Known.{Known}
 use Rattle.market_lock.specs.declared.view.View.{View}
 use Rattle.market_lock.specs.declared.view.View.TheVariants.{Idle, Holder}
 use Rattle.market_lock.specs.Cutting.{cut_by, IsCutUp}
-use Rattle.market_lock.specs.Views.{opening_of, chronicle_from, chronicle_cut, shown, cut, same_cuts, more_cuts, next_cuts}
+use Rattle.market_lock.specs.Views.{opening_of, chronicle_from, chronicle_cut, shown, cut, same_cuts, next_cuts}
 use Rattle.market_lock.specs.Rule.{Follows}
 use Rattle.market_lock.specs.Serving.{Serves, MayServe, Cuts}
 use Rattle.market_lock.specs.Held.{HasTaken, HasDesk, HoldsDesk, HasGiven, HasPart, IsSeenCut}
@@ -61,7 +61,7 @@ pub record Served (k : Known) (number : ℕ) (cmd : Cmd) (r : Result Reply CallF
 module _ (k : Known) (number : ℕ) (cmd : Cmd) (log : List Entry) (from : ℕ) (cuts : List Cut) (e : Chronicled) (a b : Counted) where
   -- what is given back is the chronicle after its history
   back : (r : Result Reply CallFault) → Served k number cmd r log from cuts e a b → e ≡ chronicle_from k.terms e.log e.from
-  back r s = λ i. record { start = s.did.start i; log = e.log; places = s.did.places i; from = e.from; keeping = s.did.keeping i }
+  back r s = λ i. record { start = s.did.start i; market = (s.did.held ∙ ap (λ (o : State). state_after o (calls_of e.log)) s.did.start) i; log = e.log; places = s.did.places i; from = e.from; keeping = s.did.keeping i }
 
   same_log : (f : CallFault) → Served k number cmd (Err f) log from cuts e a b → e.log ≡ log
   same_log f s = ap (λ (c : Chronicled). c.log) s.did.done.0

@@ -22,10 +22,10 @@ use Rattle.market_lock.specs.declared.view.View.{View}
 use Rattle.market_lock.specs.declared.view.View.TheVariants.{Closer}
 use Rattle.market_lock.specs.Views.{opening_of, chronicle_from}
 use Rattle.market_lock.specs.Cutting.{cut_by, IsCutUp}
-use Rattle.market_lock.specs.Rule.{Kept, Once, Fitting, parts_of, parts_of_all}
+use Rattle.market_lock.specs.Rule.{Kept, Once, Fitting, parts_of_all}
 use Rattle.market_lock.specs.Seen.{OfPass, OfPlaced, Met, HasParts, parts_by, AllParts}
 use Rattle.market_lock.specs.Held.{taken_in, whos, IsClosing, kept_of, known_for}
-use Rattle.market_lock.specs.Headline.{IsGivenBy}
+use Rattle.market_lock.specs.Headline.{IsGivenBy, shown_of}
 use Rattle.market_lock.proofs.Steps.{ends_it}
 use Rattle.market_lock.proofs.Meeting.{all_taken, all_who, active_is}
 
@@ -105,14 +105,19 @@ module _ (key : Terms) (ps qs : List OfPass) (desk : Chronicled) (o : Ended key 
   pub started : desk.start ≡ opening_of key
   started = ap (λ (d : Chronicled). d.start) o.desk_is
 
-  -- what the desk's chronicle shows is what its history gives
+  -- the market that it holds is what the opening becomes by its history
+  held : desk.market ≡ state_after (opening_of key) (calls_of desk.log)
+  held = ap (λ (d : Chronicled). d.market) o.desk_is
+
+  -- what that market shows is what its history gives
   pub given_by : IsLegal desk.start desk.log → IsGivenBy (opening_of key) desk
   given_by legal = record {
     replies = subst (λ (s : State). IsLegal s desk.log) started legal;
-    allotments = λ a. ap (λ (s : State). allotment_of (state_after s (calls_of desk.log)) a) started;
-    tops = λ a. ap (λ (s : State). is_top (state_after s (calls_of desk.log)) a) started;
-    recalls = λ a. ap (λ (s : State). recall (state_after s (calls_of desk.log)) a) started;
-    hires = λ a. ap (λ (s : State). hire (state_after s (calls_of desk.log)) a) started;
+    shows = λ a. ap (λ (s : State). shown_of s a) held;
+    allotments = λ a. ap (λ (s : State). allotment_of s a) held;
+    tops = λ a. ap (λ (s : State). is_top s a) held;
+    recalls = λ a. ap (λ (s : State). recall s a) held;
+    hires = λ a. ap (λ (s : State). hire s a) held;
   }
 
   -- it has as many seats as it was opened with

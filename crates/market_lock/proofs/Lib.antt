@@ -1,5 +1,5 @@
 mod Fronts
-mod Tiles
+pub mod Tiles
 mod Seats
 mod Steps
 mod Entries

@@ -1,5 +1,5 @@
 -- Parts that lie end to end: one more of them, and one seat's own.
-use Rattle.std.proofs.Common.{◌≡◌, ◌≢◌, ℕ, ◌+◌, ◌==◌, Bool, true, false, cond, List, [], ◌∷◌, ◌++◌, length, drop, refl, ap, sym, ◌∙◌, subst, arith, append_assoc, append-nil, length-append, eq-eqb, ne_eqb}
+use Rattle.std.proofs.Common.{◌≡◌, ◌≢◌, ℕ, ◌+◌, ◌==◌, Bool, true, false, cond, List, [], ◌∷◌, ◌++◌, length, drop, refl, ap, sym, ◌∙◌, arith, append_assoc, append-nil, length-append, eq-eqb, ne_eqb}
 use Rattle.std.proofs.Math.Seq.{drop-append_seam}
 use mathlib.Core.List.{IsPrefix}
 use Rattle.market_types.specs.declared.reply.Entry.{Entry}
@@ -10,7 +10,7 @@ use Rattle.market_lock.specs.declared.view.Cut.{Cut}
 use Rattle.market_lock.specs.Cutting.{entries_of, EndToEnd, cut_by, IsCutUp}
 use Rattle.market_lock.specs.Views.{cut}
 
-entries_last : (cs : List Cut) (c : Cut) → entries_of (cs ++ c ∷ []) ≡ entries_of cs ++ c.entries
+pub entries_last : (cs : List Cut) (c : Cut) → entries_of (cs ++ c ∷ []) ≡ entries_of cs ++ c.entries
 entries_last [] c = append-nil c.entries
 entries_last (x ∷ xs) c = ap (λ es. x.entries ++ es) (entries_last xs c) ∙ sym (append_assoc x.entries (entries_of xs) c.entries)
 

@@ -35,6 +35,7 @@ pub record Serves (seat : ℕ) (cmd : Cmd) (r : Result Reply CallFault) (d e : C
   pub keeping : e.keeping ≡ d.keeping
   pub found : IsLegal d.start d.log
   pub legal : IsLegal e.start e.log
+  pub held : e.market ≡ market_of e
   pub workers : t.workers ≡ workers_at (place_in seat e.log)
   pub done : Done seat cmd r d e s t
 

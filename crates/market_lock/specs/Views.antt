@@ -3,7 +3,7 @@ use Rattle.std.specs.Prelude.{ℕ, ◌+◌, ◌≤◌, List, [], ◌∷◌, ◌+
 use Rattle.market_types.specs.declared.command.Cmd.{Cmd}
 use Rattle.market_types.specs.declared.reply.Entry.{Entry}
 use Rattle.market_types.specs.State.{State, opening_to}
-use Rattle.market_types.specs.History.{of_seat}
+use Rattle.market_types.specs.History.{of_seat, calls_of, state_after}
 use Rattle.edit_history.specs.Chronicled.{Chronicled, most_forgotten}
 use Rattle.edit_history.specs.Places.{LacksPlaces}
 use Rattle.edit_history.specs.declared.keeping.Keeping.TheVariants.{Everything}
@@ -19,9 +19,9 @@ use Rattle.market_lock.specs.declared.view.View.TheVariants.{Opener, Idle, Close
 abbrev pub opening_of : Terms → State
 opening_of t = opening_to t.base t.hard t.seats t.levels t.last
 
--- the chronicle of an office after this history, which keeps the entries from this one on
+-- the chronicle of an office after this history, whose market it has made, and of which it keeps the entries from this one on
 abbrev pub chronicle_from : Terms → List Entry → ℕ → Chronicled
-chronicle_from t log from = record { start = opening_of t; log = log; places = t.places; from = from; keeping = t.keeping }
+chronicle_from t log from = record { start = opening_of t; market = state_after (opening_of t) (calls_of log); log = log; places = t.places; from = from; keeping = t.keeping }
 
 -- the chronicle that lies on the desk after this history, of which so many entries were cut out where it is kept in parts
 abbrev pub chronicle_cut : Terms → List Entry → ℕ → Chronicled

@@ -97,7 +97,7 @@ pub nothing-more : (c : Chronicled) → lengthened c [] ≡ c
 nothing-more c = ap (λ log. let x : Chronicled = record c { log = log } in x) (append-nil c.log)
 
 more-and-more : (c : Chronicled) (a b : List Entry) → lengthened (lengthened c a) b ≡ lengthened c (a ++ b)
-more-and-more c a b = ap (λ log. let x : Chronicled = record c { log = log } in x) (append_assoc c.log a b)
+more-and-more c a b = λ i. record c { market = sym (calls-longer c.market a b) i; log = append_assoc c.log a b i }
 
 chronicle-after : (c : Chronicled) (n : ℕ) (lines : List Line) → (after recording_rule (c, n) lines).0 ≡ lengthened c (recorded (market_of c) lines)
 chronicle-after c n [] = sym (nothing-more c)

@@ -30,7 +30,7 @@ pub record Journals (start : State) (left left' taken taken' : Option (List ℕ)
 
 -- the chronicle of a script before its first line
 abbrev pub unwritten : State → Chronicled
-unwritten start = record { start = start; log = []; places = script_places; from = 0; keeping = Everything }
+unwritten start = record { start = start; market = start; log = []; places = script_places; from = 0; keeping = Everything }
 
 -- why a journal was not written: the history is full at one of the lines, or what stops a run too
 abbrev pub JournalCauseOf : RunFault → State → List ℕ → Bool → Bool → Type 0

@@ -4,6 +4,7 @@ use Rattle.market_types.specs.declared.command.Cmd.{Cmd}
 use Rattle.market_types.specs.declared.reply.Entry.{Entry}
 use Rattle.market_types.specs.declared.reply.OpenFault.{OpenFault}
 use Rattle.market_types.specs.State.{State}
+use Rattle.market_types.specs.History.{calls_of, state_after}
 use Rattle.market_types.specs.Reading.{line_reading}
 use Rattle.edit_history.specs.Chronicled.{Chronicled, market_of}
 use Rattle.edit_history.specs.Places.{LacksPlaces}
@@ -20,9 +21,9 @@ use Rattle.market_prog.specs.Recorded.{entries_of}
 abbrev pub script_places : ℕ
 script_places = 1048576
 
--- the history with these entries more
+-- the history with these entries more, whose calls the market has made
 abbrev pub lengthened : Chronicled → List Entry → Chronicled
-lengthened c entries = record c { log = c.log ++ entries }
+lengthened c entries = record c { market = state_after c.market (calls_of entries); log = c.log ++ entries }
 
 -- the entry of a line by its form: one that is too long has none
 abbrev pub entries_by : LineForm → State → List ℕ → List Entry

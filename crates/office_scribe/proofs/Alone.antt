@@ -1,8 +1,7 @@
 -- A seat that is the only one who cuts.
-use Rattle.std.proofs.Common.{◌≡◌, ℕ, ◌==◌, ◌+◌, ◌≤◌, Bool, true, false, cond, List, [], ◌∷◌, ◌++◌, length, Result, Ok, Err, Option, Some, None, refl, ap, sym, ◌∙◌, subst, arith, append_assoc, append-nil, length-append}
+use Rattle.std.proofs.Common.{◌≡◌, ℕ, ◌==◌, ◌+◌, ◌≤◌, Bool, true, false, cond, List, [], ◌∷◌, ◌++◌, length, Result, Ok, Err, Some, refl, ap, sym, ◌∙◌, subst, arith, append_assoc, append-nil, length-append}
 use Rattle.std.specs.Prelude.{IfOk, IfErr}
 use mathlib.Core.List.{IsPrefix}
-use Rattle.market_types.specs.declared.reply.Entry.{Entry}
 use Rattle.market_types.specs.declared.command.Cmd.{Cmd}
 use Rattle.market_types.specs.declared.reply.Reply.{Reply}
 use Rattle.edit_history.specs.Chronicled.{entry}
@@ -13,6 +12,7 @@ use Rattle.market_lock.specs.Cutting.{entries_of, EndToEnd, cut_by}
 use Rattle.market_lock.specs.Views.{cut}
 use Rattle.market_lock.specs.Seen.{OfPass, OthersCut, HasCut}
 use Rattle.market_lock.specs.Moves.{Called, Fails}
+use Rattle.market_lock.proofs.Tiles.{entries_last}
 
 shorter_if : (b : Bool) (x : Cut) (l : List Cut) → length (cond b (x ∷ l) l) ≤ length l + 1
 shorter_if true x l = omega arith
@@ -39,10 +39,6 @@ one_came n old between new c is own alone =
     let none' : between ≡ [] = empty between
     (omega (arith, ap length alone, ap length own, shorter n old, ap length is, length-append (old ++ between) (c ∷ []), length-append old between, length-append (cut_by n old) (c ∷ []))) in
     is ∙ ap (λ l. l ++ c ∷ []) (ap (λ l. old ++ l) none' ∙ append-nil old)
-
-entries_last : (cs : List Cut) (c : Cut) → entries_of (cs ++ c ∷ []) ≡ entries_of cs ++ c.entries
-entries_last [] c = append-nil c.entries
-entries_last (x ∷ xs) c = ap (λ es. x.entries ++ es) (entries_last xs c) ∙ sym (append_assoc x.entries (entries_of xs) c.entries)
 
 last_begins : (from : ℕ) (cs : List Cut) (c : Cut) → EndToEnd from (cs ++ c ∷ []) → c.from ≡ from + length (entries_of cs)
 last_begins from [] c row = omega (arith, row.0)

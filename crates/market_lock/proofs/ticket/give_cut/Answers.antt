@@ -1,4 +1,4 @@
-use Rattle.std.proofs.Common.{rules, ◌≡◌, [], List, Option, sym, subst}
+use Rattle.std.proofs.Common.{rules, ◌≡◌, [], Option, sym, subst}
 use Rattle.edit_history.specs.declared.part.Part.{Part}
 use Rattle.market_lock.specs.declared.view.View.TheVariants.{Idle}
 use Rattle.market_lock.specs.declared.view.Known.{Known}

@@ -23,6 +23,7 @@ returns-clause-desk g c =
           keeping = did.keeping;
           found = did.found;
           legal = did.legal;
+          held = did.held;
           workers = did.worker;
           done = search rules;
         },

@@ -29,7 +29,7 @@ forgot-all c keeps = subst (λ (d : Chronicled). d.from ≡ length d.log) (sym c
 
 -- what contracts saw of the chronicle
 abbrev was : After-reserve → Chronicled
-was c = record { start = c.self.inside.opened.value; log = c.self.inside.past ++ c.self.inside.recent.items; places = c.self.inside.places; from = c.self.inside.from; keeping = c.self.inside.keeping }
+was c = record { start = c.self.inside.opened.value; market = c.self.inside.market; log = c.self.inside.past ++ c.self.inside.recent.items; places = c.self.inside.places; from = c.self.inside.from; keeping = c.self.inside.keeping }
 
 -- the places that the call takes were free
 places-free : (c : After-reserve) → c.free.result + taken (was c) ≡ c.self.inside.places
@@ -77,7 +77,7 @@ invariant_of-self c = kept-same _ _ _ _ _ _ _ c.self.invariant _ _ _ refl c.in_d
 pub returns-in_default-clause-answered : goal.returns-in_default-clause-answered
 returns-in_default-clause-answered c =
     let at = (goal.at.returns-in_default-clause-answered c).After-reserve in
-    seen _ _ _ _ _ _ c.self.view_is (at-memory _ _ _ _ (ap (λ (l : List Entry). c.self.inside.past ++ l) c.in_default.ensures.items) (enough at) (λ none.
+    seen _ _ _ _ _ _ c.self.view_is (at-memory _ _ _ _ _ (ap (λ (l : List Entry). c.self.inside.past ++ l) c.in_default.ensures.items) refl (enough at) (λ none.
     let needed : c.takes_of-takes.result ≡ takes (place_of (market_of (was at)) c.args.seat) c.args.cmd = takes-is _ _ c.args.seat c.args.cmd _ _ c.self.invariant.market_is c.arena_of.ensures.exact c.takes_of-takes.ensures.exact in
     let were = c.placed-placed.ensures.exact in
     let before = c.self.inside.recent.ok.0 in
@@ -100,7 +100,7 @@ invariant_of-self-in_default-apply c =
 pub returns-in_default-apply-clause-answered : goal.returns-in_default-apply-clause-answered
 returns-in_default-apply-clause-answered c =
     let at = (goal.at.returns-in_default-apply-clause-answered c).After-reserve in
-    seen _ _ _ _ _ _ c.self.view_is (at-memory _ _ _ _ (ap (λ (l : List Entry). c.self.inside.past ++ l) c.in-Ok.ensures.items) (enough at) (λ none.
+    seen _ _ _ _ _ _ c.self.view_is (at-memory _ _ _ _ _ (ap (λ (l : List Entry). c.self.inside.past ++ l) c.in-Ok.ensures.items) c.in_default-apply.ensures.unchanged (enough at) (λ none.
     let failed : false ≡ true = c.in_default-apply.ensures.no_memory (takes-none _ _ none) in cc))
 
 pub returns-in_default-apply-clause-kept : goal.returns-in_default-apply-clause-kept
@@ -129,7 +129,7 @@ pub returns-then-not-keeps-clause-answered : goal.returns-then-not-keeps-clause-
 returns-then-not-keeps-clause-answered c =
     let at = goal.at.returns-then-not-keeps-clause-answered c in
     let none : c.self.inside.recent.items ≡ [] = kept-none _ _ _ _ _ _ _ c.self.invariant (forgot-all at.After-placed-placed c.if-not-keeps.true) in
-    seen _ _ _ _ _ _ c.self.view_is (at-reply _ _ _ _ _ _ (c.in-Ok-apply.ensures.reply ∙ ap (λ (s : State). (step s c.args.seat c.args.cmd).0) c.self.invariant.market_is) (log-forgot _ _ _ _ _ none c.push.ensures c.in-Ok.ensures.items) (enough at.After-reserve))
+    seen _ _ _ _ _ _ c.self.view_is (at-reply _ _ _ _ _ _ _ (c.in-Ok-apply.ensures.reply ∙ ap (λ (s : State). (step s c.args.seat c.args.cmd).0) c.self.invariant.market_is) c.in-Ok-apply.ensures.next (log-forgot _ _ _ _ _ none c.push.ensures c.in-Ok.ensures.items) (enough at.After-reserve))
 
 pub returns-then-not-keeps-clause-kept : goal.returns-then-not-keeps-clause-kept
 returns-then-not-keeps-clause-kept c = λ keeps. absurd (let other : true ≡ false = sym keeps ∙ c.if-not-keeps.true in cc)
@@ -152,8 +152,11 @@ invariant_of-self-in_default-copied c =
 pub returns-in_default-copied-clause-answered : goal.returns-in_default-copied-clause-answered
 returns-in_default-copied-clause-answered c =
     let at = (goal.at.returns-in_default-copied-clause-answered c).After-reserve in
+    let market : State = c.self.inside.market in
+    let listed : is_listed (step market c.args.seat c.args.cmd).0 ≡ true = ap is_listed (sym c.in-Ok-apply.ensures.reply) ∙ c.in_default-copied.ensures.lists_alone in
+    let same : c.apply.new.self ≡ market = c.in-Ok-apply.ensures.next ∙ (steps market c.args.seat c.args.cmd).listed listed in
     let due : c.in-Ok-apply.reply ≡ (step (market_of (was at)) c.args.seat c.args.cmd).0 = c.in-Ok-apply.ensures.reply ∙ ap (λ (s : State). (step s c.args.seat c.args.cmd).0) c.self.invariant.market_is in
-    seen _ _ _ _ _ _ c.self.view_is (at-memory _ _ _ _ (ap (λ (l : List Entry). c.self.inside.past ++ l) c.in-Ok.ensures.items) (enough at) (λ none.
+    seen _ _ _ _ _ _ c.self.view_is (at-memory _ _ _ _ _ (ap (λ (l : List Entry). c.self.inside.past ++ l) c.in-Ok.ensures.items) same (enough at) (λ none.
     lists-none _ c.args.cmd _ none (steps (market_of (was at)) c.args.seat c.args.cmd).answers (ap is_listed (sym due) ∙ c.in_default-copied.ensures.lists_alone)))
 
 pub returns-in_default-copied-clause-kept : goal.returns-in_default-copied-clause-kept
@@ -184,7 +187,7 @@ returns-clause-answered c =
     let at = (goal.at.returns-clause-answered c).After-reserve in
     let items = c.push_reserved.ensures.items ∙ ap (λ (l : List Entry). l ++ entry c.args.seat c.args.cmd c.in-Ok-copied.kept ∷ []) c.in-Ok.ensures.items in
     let log = log-longer c.self.inside.past c.self.inside.recent.items _ _ items ∙ ap (λ (r : Reply). (c.self.inside.past ++ c.self.inside.recent.items) ++ entry c.args.seat c.args.cmd r ∷ []) c.in-Ok-copied.ensures.exact in
-    seen _ _ _ _ _ _ c.self.view_is (at-reply _ _ _ _ _ _ (c.in-Ok-apply.ensures.reply ∙ ap (λ (s : State). (step s c.args.seat c.args.cmd).0) c.self.invariant.market_is) log (enough at))
+    seen _ _ _ _ _ _ c.self.view_is (at-reply _ _ _ _ _ _ _ (c.in-Ok-apply.ensures.reply ∙ ap (λ (s : State). (step s c.args.seat c.args.cmd).0) c.self.invariant.market_is) c.in-Ok-apply.ensures.next log (enough at))
 
 pub returns-clause-kept : goal.returns-clause-kept
 returns-clause-kept c = λ _. ap (λ (d : Chronicled). d.from) c.self.view_is

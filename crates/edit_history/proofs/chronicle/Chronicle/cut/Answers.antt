@@ -52,7 +52,7 @@ returns-clause-cut c =
     let at = (goal.at.returns-clause-cut c).After-replace-entries in
     let log : c.append.new.self ++ c.replace-entries.new.dest.items ≡ c.self.inside.past ++ c.self.inside.recent.items =
     ap (λ (l : List Entry). c.append.new.self ++ l) (none-kept at) ∙ append-nil c.append.new.self ∙ c.append.ensures in
-    (λ i. record { start = c.self.inside.opened.value; log = log i; places = c.self.inside.places; from = from-is at i; keeping = c.self.inside.keeping })
+    (λ i. record { start = c.self.inside.opened.value; market = c.self.inside.market; log = log i; places = c.self.inside.places; from = from-is at i; keeping = c.self.inside.keeping })
     ∙ ap (λ (d : Chronicled). record d { from = length d.log }) c.self.view_is
 
 pub returns-clause-countable : goal.returns-clause-countable

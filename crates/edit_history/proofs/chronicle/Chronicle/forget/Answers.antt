@@ -31,7 +31,7 @@ pub returns-clause-same : goal.returns-clause-same
 returns-clause-same c =
     let log : c.append.new.self ++ c.clear.new.self.items ≡ c.self.inside.past ++ c.self.inside.recent.items =
     ap (λ (l : List Entry). c.append.new.self ++ l) c.clear.ensures.items ∙ append-nil c.append.new.self ∙ c.append.ensures in
-    (λ i. record { start = c.self.inside.opened.value; log = log i; places = c.self.inside.places; from = c.len-calls.result; keeping = c.self.inside.keeping })
+    (λ i. record { start = c.self.inside.opened.value; market = c.self.inside.market; log = log i; places = c.self.inside.places; from = c.len-calls.result; keeping = c.self.inside.keeping })
     ∙ ap (λ (d : Chronicled). record d { from = c.len-calls.result }) c.self.view_is
 
 pub returns-clause-forgotten : goal.returns-clause-forgotten

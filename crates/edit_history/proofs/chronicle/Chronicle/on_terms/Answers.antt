@@ -18,4 +18,4 @@ pub returns-in-Ok : goal.returns-in-Ok
 returns-in-Ok c = record { exact = opened-places c.args.terms _ c.in-Ok.ensures.exact (sym c.are_bad.ensures ∙ c.if-are_bad.true) }
 
 pub returns-in-Ok-2 : goal.returns-in-Ok-2
-returns-in-Ok-2 c = record { exact = opened-well c.args.terms _ c.in-Ok.ensures.exact _ (sym c.are_bad.ensures ∙ c.if-are_bad.false) (λ i. record { start = (c.of.ensures ∙ c.in-Ok.ensures.opened) i; log = c.new.ensures i ++ c.new-in-Ok-2.ensures.items i; places = c.args.terms.places; from = 0; keeping = c.args.terms.keeping }) }
+returns-in-Ok-2 c = record { exact = opened-well c.args.terms _ c.in-Ok.ensures.exact _ (sym c.are_bad.ensures ∙ c.if-are_bad.false) (λ i. record { start = (c.of.ensures ∙ c.in-Ok.ensures.opened) i; market = c.in-Ok.ensures.opened i; log = c.new.ensures i ++ c.new-in-Ok-2.ensures.items i; places = c.args.terms.places; from = 0; keeping = c.args.terms.keeping }) }

@@ -1,6 +1,6 @@
 use Rattle.std.proofs.Common.{◌∙◌, sym, subst}
 use Rattle.market_lock.specs.Seen.{OfPass}
-use Rattle.office_scribe.specs.Written.{OfScribe, HasWrittenAll}
+use Rattle.office_scribe.specs.Written.{HasWrittenAll}
 use Rattle.office_scribe.proofs.Alone.{others_none, others_by, seen_by}
 use Rattle.office_scribe.proofs.Fronts.{still-written}
 use Rattle.office_scribe.proofs.scribe.Scribe.call.Goals as goal
