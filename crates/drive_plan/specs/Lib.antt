@@ -6,3 +6,4 @@ pub mod Digits
 pub mod Tasks
 pub mod Plans
 pub mod Format
+pub mod Sections
