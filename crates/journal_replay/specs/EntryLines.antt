@@ -1,7 +1,9 @@
 -- What a line was read as.
-use Rattle.std.specs.Prelude.{ℕ, ◌<◌, Option, Some, None, ⊤}
+use Rattle.std.specs.Prelude.{◌≡◌, ℕ, ◌<◌, Bool, true, false, Option, Some, None, ⊤}
+use Rattle.serde_json.specs.Data.{Data, Members}
 use Rattle.journal_replay.specs.declared.entry.Reading.{Reading}
 use Rattle.journal_replay.specs.declared.entry.Reading.TheVariants.{Entry, NotEntry, NotJson}
+use Rattle.journal_replay.specs.EntryFields.{HasFields}
 use Rattle.journal_replay.specs.Reading.{Recorded}
 
 -- none where it is no JSON, and else the entry that it is, if any
@@ -15,3 +17,8 @@ abbrev pub IsSeated : ℕ → Reading → Type 0
 IsSeated seats (Entry e) = e.seat < seats
 IsSeated seats NotEntry = ⊤
 IsSeated seats NotJson = ⊤
+
+-- whether it is JSON, and if so its fields
+abbrev pub Tells : Bool → Members → Option Data → Type 0
+Tells json fields None = json ≡ false
+Tells json fields (Some d) = (json ≡ true) × HasFields fields d

@@ -8,4 +8,5 @@ pub mod Written
 pub mod Plain
 pub mod Cuts
 pub mod Members
+pub mod EntryFields
 pub mod EntryLines

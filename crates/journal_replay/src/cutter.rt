@@ -162,7 +162,7 @@ fn take_member<'a>(text: &'a [u8], fields: &mut Fields<'a>) -> Option<&'a [u8]>
     ensures { IfSome result (λ rest. CutsMember [] text.entry.now rest.now (members_of fields.old) (members_of fields.new)) }
 {
     let (member, rest) = cut_member(text)?;
-    *fields = fields.with(member);
+    fields.put(member);
     Some(rest)
 }
 
@@ -175,7 +175,7 @@ fn take_first<'a>(line: &'a [u8], fields: &mut Fields<'a>) -> Option<&'a [u8]>
         return take_member(after_operator(line, b'{')?, fields);
     };
     let (cmd, rest) = cut_plain(rest)?;
-    *fields = fields.with(Member::Cmd(cmd));
+    fields.put(Member::Cmd(cmd));
     Some(rest)
 }
 
@@ -188,7 +188,7 @@ fn take_second<'a>(text: &'a [u8], fields: &mut Fields<'a>) -> Option<&'a [u8]>
         return take_member(after_operator(text, b',')?, fields);
     };
     let (reply, rest) = cut_text(after_operator(rest, b':')?)?;
-    *fields = fields.with(Member::Reply(reply));
+    fields.put(Member::Reply(reply));
     Some(rest)
 }
 
@@ -201,27 +201,28 @@ fn take_third<'a>(text: &'a [u8], fields: &mut Fields<'a>) -> Option<&'a [u8]>
         return take_member(after_operator(text, b',')?, fields);
     };
     let (seat, rest) = cut_whole(rest)?;
-    *fields = fields.with(Member::Seat(seat));
+    fields.put(Member::Seat(seat));
     Some(rest)
 }
 
-/// The fields that a line tells as an object of an entry's members, three or more, whose texts are plain. None of a line that is
+/// Takes the members of a line that is an object of an entry's members, three or more, whose texts are plain. None of a line that is
 /// spelled otherwise, and of one that is no such object.
-#[inline(always)]
-pub(crate) fn cut_line(line: &[u8]) -> Option<Fields<'_>>
-    ensures { IfSome result (λ fields. json_of line.now ≡ Some (object (members_of fields))) }
+// Apart, since what is cut and what is replayed would else contend for registers.
+#[inline(never)]
+pub(crate) fn cut_line<'a>(line: &'a [u8], fields: &mut Fields<'a>) -> Option<()>
+    ensures { IfSome result (λ _. json_of line.entry.now ≡ Some (object (members_of fields.new))) }
 {
-    let mut fields = Fields::none();
-    let rest = take_first(line, &mut fields)?;
-    let rest = take_second(rest, &mut fields)?;
-    let mut rest = take_third(rest, &mut fields)?;
+    *fields = Fields::none();
+    let rest = take_first(line, fields)?;
+    let rest = take_second(rest, fields)?;
+    let mut rest = take_third(rest, fields)?;
     // A key comes twice.
     while let Some(next) = after_operator(rest, b',') {
-        rest = take_member(next, &mut fields)?;
+        rest = take_member(next, fields)?;
     }
     let rest = skip_space(after_operator(rest, b'}')?);
     if !rest.is_empty() {
         return None;
     }
-    Some(fields)
+    Some(())
 }

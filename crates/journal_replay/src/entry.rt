@@ -1,15 +1,15 @@
 //! A line of a journal, read as an entry. Nearly every line is cut at the places of its members (`cutter`). One whose texts have
 //! escapes is read by its tokens (`tokens`), and every other as a tree of values, by `serde_json`: what is none of these is no
 //! entry as a rule, so that it ends the journal.
-ghost use Rattle.std.specs.Prelude.{◌≡◌, Some, IfOk, IfSome, option_map};
+ghost use Rattle.std.specs.Prelude.{◌≡◌, true, Some, IfOk, option_map};
 ghost use Rattle.serde_json.specs.Data.{object};
-ghost use Rattle.journal_replay.specs.EntryLines.{IsSeated, reading_of};
+ghost use Rattle.journal_replay.specs.EntryLines.{IsSeated, Tells, reading_of};
 ghost use Rattle.journal_replay.specs.Members.{members_of};
 ghost use Rattle.journal_replay.specs.Reading.{entry_in, json_of};
 
 use crate::cutter::cut_line;
 use crate::fields::Fields;
-use crate::reading::{Recorded, read_entry, read_json};
+use crate::reading::{Recorded, fields_in, read_json};
 use crate::tokens::read_tokens;
 use json::Scratch;
 use memchr::memchr;
@@ -68,70 +68,62 @@ fn new_scratch(alloc: Global) -> Result<Box<Scratch>, AllocError> {
     Ok(Box::new(alloc, Scratch::new(alloc))?)
 }
 
-/// The fields of a line by its tokens.
+/// Takes the fields of a line by its tokens: whether they are an entry's.
 fn read_escaped<'a>(
     alloc: Global,
     line: &'a [u8],
     scratch: &'a mut Option<Box<Scratch>>,
-) -> Result<Option<Fields<'a>>, AllocError>
-    ensures { IfOk result (λ found. IfSome found (λ fields. json_of line.entry.now ≡ Some (object (members_of fields)))) }
+    fields: &mut Fields<'a>,
+) -> Result<bool, AllocError>
+    ensures { IfOk result (λ taken. taken ≡ true → json_of line.entry.now ≡ Some (object (members_of fields.new))) }
 {
     if scratch.is_none() {
         *scratch = Some(new_scratch(alloc)?);
     }
     match scratch {
-        Some(scratch) => read_tokens(line, scratch),
-        None => Ok(None),
+        Some(scratch) => read_tokens(line, scratch, fields),
+        None => Ok(false),
     }
 }
 
-/// What a line is by the tree of its values.
+/// Takes the fields of a line by the tree of its values: whether it is JSON.
 fn read_tree<'a>(
     alloc: Global,
     line: &[u8],
     tree: &'a mut Option<Value>,
-    seats: u8,
-    levels: u32,
-) -> Result<Reading<'a>, AllocError>
-    ensures exact { IfOk result (λ reading. reading_of reading ≡ option_map (entry_in seats levels) (json_of line.now)) }
-    ensures seat { IfOk result (λ reading. IsSeated seats reading) }
+    fields: &mut Fields<'a>,
+) -> Result<bool, AllocError>
+    ensures { IfOk result (λ json. Tells json (members_of fields.new) (json_of line.now)) }
 {
     *tree = read_json(alloc, line)?;
     let Some(value) = tree else {
-        return Ok(Reading::NotJson);
+        return Ok(false);
     };
-    match read_entry(value, seats, levels) {
-        Some(entry) => Ok(Reading::Entry(entry)),
-        None => Ok(Reading::NotEntry),
-    }
+    *fields = fields_in(value);
+    Ok(true)
 }
 
-/// What a line is that was not cut.
+/// Takes the fields of a line that was not cut: whether it is JSON.
 // Apart, since each line would else make room for all that is needed here.
 #[inline(never)]
 fn read_uncut<'a>(
     alloc: Global,
     line: &'a [u8],
     room: &'a mut Room,
-    seats: u8,
-    levels: u32,
-) -> Result<Reading<'a>, AllocError>
-    ensures exact { IfOk result (λ reading. reading_of reading ≡ option_map (entry_in seats levels) (json_of line.entry.now)) }
-    ensures seat { IfOk result (λ reading. IsSeated seats reading) }
+    fields: &mut Fields<'a>,
+) -> Result<bool, AllocError>
+    ensures { IfOk result (λ json. Tells json (members_of fields.new) (json_of line.entry.now)) }
 {
-    // An entry without an escape was cut, but for odd ones: so no room for tokens is made for a line that ends the journal.
     let Room { scratch, tree } = room;
-    if memchr(b'\\', line).is_some() {
-        if let Some(fields) = read_escaped(alloc, line, scratch)? {
-            return Ok(Reading::of(fields, seats, levels));
-        }
+    // An entry without an escape was cut, but for odd ones: so no room for tokens is made for a line that ends the journal.
+    if memchr(b'\\', line).is_some() && read_escaped(alloc, line, scratch, fields)? {
+        return Ok(true);
     }
-    read_tree(alloc, line, tree, seats, levels)
+    read_tree(alloc, line, tree, fields)
 }
 
 /// What a line is as JSON, and which entry that is in a market of so many seats and levels.
-// Apart, since what is cut and what is replayed would else fight for registers.
-#[inline(never)]
+#[inline(always)]
 pub(crate) fn read<'a>(
     alloc: Global,
     line: &'a [u8],
@@ -142,8 +134,14 @@ pub(crate) fn read<'a>(
     ensures exact { IfOk result (λ reading. reading_of reading ≡ option_map (entry_in seats levels) (json_of line.entry.now)) }
     ensures seat { IfOk result (λ reading. IsSeated seats reading) }
 {
-    match cut_line(line) {
-        Some(fields) => Ok(Reading::of(fields, seats, levels)),
-        None => read_uncut(alloc, line, room, seats, levels),
+    let mut fields = Fields::none();
+    let json = match cut_line(line, &mut fields) {
+        Some(()) => true,
+        None => read_uncut(alloc, line, room, &mut fields)?,
+    };
+    if json {
+        Ok(Reading::of(fields, seats, levels))
+    } else {
+        Ok(Reading::NotJson)
     }
 }

@@ -37,24 +37,15 @@ impl<'a> Fields<'a> {
         }
     }
 
-    /// After one member more.
+    /// Takes one member more.
     #[inline(always)]
-    pub(crate) fn with(self, member: Member<'a>) -> Self
-        ensures { members_of result ≡ with_member member.entry (members_of self.entry) }
+    pub(crate) fn put(&mut self, member: Member<'a>)
+        ensures { members_of self.new ≡ with_member member.entry (members_of self.old) }
     {
         match member {
-            Member::Cmd(text) => Fields {
-                cmd: Some(text),
-                ..self
-            },
-            Member::Reply(text) => Fields {
-                reply: Some(text),
-                ..self
-            },
-            Member::Seat(number) => Fields {
-                seat: Some(number),
-                ..self
-            },
+            Member::Cmd(text) => self.cmd = Some(text),
+            Member::Reply(text) => self.reply = Some(text),
+            Member::Seat(number) => self.seat = Some(number),
         }
     }
 

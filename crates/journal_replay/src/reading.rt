@@ -1,11 +1,14 @@
 //! The lines of a journal, read.
 ghost use Rattle.std.specs.Prelude.{◌≡◌, ◌<◌, ◌≤◌, IfOk, IfSome, option_map};
 ghost use Rattle.serde_json.specs.View.{view};
-ghost use Rattle.journal_replay.specs.Reading.{entry_in, extent_of, header_in, header_of, json_of, last_in, levels_in, member_count, number_at, seat_in, text_at, version_of, whole_at};
+ghost use Rattle.journal_replay.specs.EntryFields.{HasFields, seat_at};
+ghost use Rattle.journal_replay.specs.Members.{members_of};
+ghost use Rattle.journal_replay.specs.Reading.{extent_of, header_in, header_of, json_of, last_in, levels_in, member_count, number_at, text_at, version_of, whole_at};
 
+use crate::fields::Fields;
 use crate::header::{Extent, Header};
 use market_core::Market;
-use market_types::{Cmd, LastNumber, SeatNo, read_cmd};
+use market_types::{Cmd, LastNumber, SeatNo};
 use serde_json::Value;
 use std::alloc::{AllocError, Global};
 
@@ -38,10 +41,11 @@ fn member_count(value: &Value) -> usize
 }
 
 /// The text at a key.
-fn text_at<'a>(value: &'a Value, key: &str) -> Option<&'a str>
+fn text_at<'a>(value: &'a Value, key: &str) -> Option<&'a [u8]>
     ensures { option_map (λ text. text.now) result ≡ text_at key.now (view value.now) }
 {
-    value.get(key).and_then(Value::as_str)
+    let text = value.get(key).and_then(Value::as_str)?;
+    Some(text.as_bytes())
 }
 
 /// The whole number at a key.
@@ -172,29 +176,24 @@ pub(crate) struct Recorded<'a> {
     pub reply: &'a [u8],
 }
 
-/// The seat that a value names, if the market has it.
-fn seat_in(value: &Value, seats: u8) -> Option<SeatNo>
-    ensures exact { result ≡ seat_in seats (view value.now) }
-    ensures within { IfSome result (λ seat. seat < seats) }
+/// The seat's number that a value tells, where it has 32 bits: no market has a greater one.
+fn seat_at(value: &Value) -> Option<u32>
+    ensures { result ≡ seat_at (view value.now) }
 {
-    let number = whole_at(value, "seat")?;
-    if number >= u64::from(seats) {
-        return None;
-    }
-    Some(SeatNo::new(number as u8))
+    u32::try_from(whole_at(value, "seat")?).ok()
 }
 
-/// The entry that a value is in a market of so many seats and levels, if it is one.
+/// The fields of the entry that a value is, if it is one. None of them where it has not three members.
 #[tactic(auto, unfolding(crate::specs::Reading::entry_in))]
-pub(crate) fn read_entry(value: &Value, seats: u8, levels: u32) -> Option<Recorded<'_>>
-    ensures exact { option_map (λ e. record { seat = e.seat; cmd = e.cmd; reply = e.reply.now }) result ≡ entry_in seats levels (view value.now) }
-    ensures seat { IfSome result (λ e. e.seat < seats) }
+pub(crate) fn fields_in(value: &Value) -> Fields<'_>
+    ensures { HasFields (members_of result) (view value.now) }
 {
     if member_count(value) != 3 {
-        return None;
+        return Fields::none();
     }
-    let cmd = read_cmd(text_at(value, "cmd")?.as_bytes(), levels)?;
-    let reply = text_at(value, "reply")?.as_bytes();
-    let seat = seat_in(value, seats)?;
-    Some(Recorded { seat, cmd, reply })
+    Fields {
+        cmd: text_at(value, "cmd"),
+        reply: text_at(value, "reply"),
+        seat: seat_at(value),
+    }
 }

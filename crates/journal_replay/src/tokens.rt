@@ -46,7 +46,7 @@ fn take_member<'a>(reader: &mut Reader<'a>, fields: &mut Fields<'a>) -> Option<b
     match reader.next()? {
         Token::Key(name) => {
             let member = member_of(name, reader.next()?)?;
-            *fields = fields.with(member);
+            fields.put(member);
             Some(true)
         }
         Token::EndObject => Some(false),
@@ -54,33 +54,34 @@ fn take_member<'a>(reader: &mut Reader<'a>, fields: &mut Fields<'a>) -> Option<b
     }
 }
 
-/// The fields that the tokens of an object tell whose members are those of an entry, where nothing comes behind it.
-fn read_members<'a>(reader: &mut Reader<'a>) -> Option<Fields<'a>>
-    ensures { IfSome result (λ fields. data_of reader.old ≡ Some (object (members_of fields))) }
+/// Takes the members of an object that are an entry's, where nothing comes behind it.
+fn take_members<'a>(reader: &mut Reader<'a>, fields: &mut Fields<'a>) -> Option<()>
+    ensures { IfSome result (λ _. data_of reader.old ≡ Some (object (members_of fields.new))) }
 {
+    *fields = Fields::none();
     let Some(Token::BeginObject) = reader.next() else {
         return None;
     };
-    let mut fields = Fields::none();
-    while take_member(reader, &mut fields)? {}
+    while take_member(reader, fields)? {}
     if reader.next().is_some() {
         return None;
     }
-    Some(fields)
+    Some(())
 }
 
-/// The fields that a line tells by its tokens as an object of members of an entry. None of a line whose tokens are others.
+/// Takes the members of a line that are an entry's by its tokens: whether they are.
 pub(crate) fn read_tokens<'a>(
     line: &'a [u8],
     scratch: &'a mut Scratch,
-) -> Result<Option<Fields<'a>>, AllocError>
-    ensures { IfOk result (λ found. IfSome found (λ fields. json_of line.entry.now ≡ Some (object (members_of fields)))) }
+    fields: &mut Fields<'a>,
+) -> Result<bool, AllocError>
+    ensures { IfOk result (λ taken. taken ≡ true → json_of line.entry.now ≡ Some (object (members_of fields.new))) }
 {
     let Ok(text) = str::from_utf8(line) else {
-        return Ok(None);
+        return Ok(false);
     };
     let Ok(mut reader) = Reader::new(text, scratch) else {
         return Err(AllocError);
     };
-    Ok(read_members(&mut reader))
+    Ok(take_members(&mut reader, fields).is_some())
 }

@@ -10,7 +10,7 @@ loop-next-init c =
     let second = members_of c.take_second.new.fields in
     let third = members_of c.take_third.new.fields in
     cut-more line c.in_ok-rest-2.rest.now c.in_ok-rest-3.rest.now second third
-    (cut-more line c.in_ok-rest.rest.now c.in_ok-rest-2.rest.now first second (cut-opens line c.in_ok-rest.rest.now (members_of c.none-fields.result) first c.in_ok-rest.ensures c.none-fields.ensures) c.in_ok-rest-2.ensures)
+    (cut-more line c.in_ok-rest.rest.now c.in_ok-rest-2.rest.now first second (cut-opens line c.in_ok-rest.rest.now (members_of c.none.result) first c.in_ok-rest.ensures c.none.ensures) c.in_ok-rest-2.ensures)
     c.in_ok-rest-3.ensures
 
 pub loop-next-preserved : goal.loop-next-preserved

@@ -18,5 +18,5 @@ returns c =
       cut = cut-placed 123 (codes "cmd") c.args.line.now (58 ∷ 34 ∷ (text ++ 34 ∷ more)) (34 ∷ (text ++ 34 ∷ more)) more (string text) refl refl
           (c.in-Some.ensures ∙ ap (λ xs. codes "{\"cmd\":\"" ++ xs) c.in_ok-cmd.ensures.cut) (cut-operator 58 (34 ∷ (text ++ 34 ∷ more)) refl) (cut-text text more c.in_ok-cmd.ensures.plain);
       counted = tt;
-      made = c.with.ensures;
+      made = c.put.ensures;
     }

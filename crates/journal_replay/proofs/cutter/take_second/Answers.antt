@@ -15,5 +15,5 @@ returns c = record {
   cut = cut-placed 44 (codes "reply") c.args.text.now c.in-Some.rest.now c.in_ok-after_operator-2.field-0.now c.in_ok-reply.rest.now (string c.in_ok-reply.reply.now) refl refl
       c.in-Some.ensures c.in_ok-after_operator-2.ensures.cut c.in_ok-reply.ensures;
   counted = tt;
-  made = c.with.ensures;
+  made = c.put.ensures;
 }

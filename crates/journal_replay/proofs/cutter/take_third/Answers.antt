@@ -17,5 +17,5 @@ returns c =
       cut = cut-placed 44 (codes "seat") c.args.text.now (58 ∷ rest) rest c.in_ok-seat.rest.now (number (decimal c.in_ok-seat.seat)) refl refl
           c.in-Some.ensures (cut-operator 58 rest refl) c.in_ok-seat.ensures.cut;
       counted = c.in_ok-seat.ensures.counted;
-      made = c.with.ensures;
+      made = c.put.ensures;
     }

@@ -2,10 +2,10 @@ use Rattle.std.proofs.Common.{rules, ◌≡◌, ◌∷◌, [], ap, ◌∙◌, re
 use Rattle.json.specs.Token.{begin_object, end_object}
 use Rattle.journal_replay.specs.Members.{data_of, members_of}
 use Rattle.journal_replay.proofs.ReadMembers.{goes-first, goes-last, goes-more}
-use Rattle.journal_replay.proofs.tokens.read_members.Goals as goal
+use Rattle.journal_replay.proofs.tokens.take_members.Goals as goal
 
 pub loop-init : goal.loop-init
-loop-init c = goes-first (begin_object ∷ c.next.new.self) c.next.new.self (members_of c.none-fields.result) refl c.none-fields.ensures
+loop-init c = goes-first (begin_object ∷ c.next.new.self) c.next.new.self (members_of c.none.result) refl c.none.ensures
 
 pub loop-preserved : goal.loop-preserved
 loop-preserved c =
