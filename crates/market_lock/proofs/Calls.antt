@@ -1,6 +1,8 @@
 -- What one call leaves: the desk was found after the history `log`, of which so many entries were not kept, and `e` is given back.
 use Rattle.std.proofs.Common.{◌≡◌, ◌≢◌, ℕ, ◌+◌, ◌<◌, ◌≤◌, List, [], ◌∷◌, ◌++◌, length, drop, get_or, refl, ap, sym, ◌∙◌, subst, arith, length-append, Result, Ok, Err, Option, Some, None, false}
+use Rattle.std.specs.List.{sum_by}
 use Rattle.std.proofs.lemmas.List.{length-replicate}
+use Rattle.std.proofs.lemmas.List.Sums.{sum_by_push}
 use Rattle.std.proofs.Math.Seq.{drop-append_seam}
 use Rattle.std.specs.Prelude.{IfOk, IfErr, IsOk, IfSome, OnSome, IsSome}
 use mathlib.Core.List.{IsPrefix}
@@ -98,7 +100,7 @@ module _ (k : Known) (number : ℕ) (cmd : Cmd) (log : List Entry) (from : ℕ) 
         later = kept_less r s;
         cut_front = prefix_self cuts;
         cut_others = λ n ne. refl;
-        cut_count = refl;
+        cut_weight = λ weigh. refl;
         cut_up = cut_up_after r s;
       }
 
@@ -229,10 +231,11 @@ module _ (k : Known) (number room : ℕ) (log : List Entry) (from : ℕ) (cuts :
   cuts_others (Some part) n ne = by_other k.seat n from (drop from log) cuts (λ e. ne (sym e))
   cuts_others None n ne = refl
 
-  cuts_count : (r : Option Part) → length (cuts_after r) + length (cut_by k.seat cuts) ≡ length cuts + length (cut_by k.seat (cuts_after r))
-  cuts_count (Some part) =
-      omega (arith, length-append cuts (cut k.seat from (drop from log) ∷ []), ap length (by_own k.seat from (drop from log) cuts), length-append (cut_by k.seat cuts) (cut k.seat from (drop from log) ∷ []))
-  cuts_count None = refl
+  cuts_weight : (weigh : Cut → ℕ) (r : Option Part) → sum_by weigh (cuts_after r) + sum_by weigh (cut_by k.seat cuts) ≡ sum_by weigh cuts + sum_by weigh (cut_by k.seat (cuts_after r))
+  cuts_weight weigh (Some part) =
+      let c : Cut = cut k.seat from (drop from log) in
+      omega (arith, sum_by_push weigh cuts c, ap (sum_by weigh) (by_own k.seat from (drop from log) cuts), sum_by_push weigh (cut_by k.seat cuts) c)
+  cuts_weight weigh None = refl
 
   -- in the words of who gives the desk back
   given_cuts : (r : Option Part) → CutOff k number room r log from cuts e s → next_cuts r (shown k log from cuts) e.log ≡ cuts_after r
@@ -246,7 +249,7 @@ module _ (k : Known) (number room : ℕ) (log : List Entry) (from : ℕ) (cuts :
         later = cut_later r o;
         cut_front = cuts_front r;
         cut_others = cuts_others r;
-        cut_count = cuts_count r;
+        cut_weight = λ weigh. cuts_weight weigh r;
         cut_up = cut_up_now r o;
       }
 

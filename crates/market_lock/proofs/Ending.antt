@@ -23,7 +23,7 @@ use Rattle.market_lock.specs.declared.view.View.TheVariants.{Closer}
 use Rattle.market_lock.specs.Views.{opening_of, chronicle_from}
 use Rattle.market_lock.specs.Cutting.{cut_by, IsCutUp}
 use Rattle.market_lock.specs.Rule.{Kept, Once, Fitting, parts_of_all}
-use Rattle.market_lock.specs.Seen.{OfPass, OfPlaced, Met, HasParts, parts_by, AllParts}
+use Rattle.market_lock.specs.Seen.{OfPass, OfPlaced, Met, HasParts, weight_by, AllParts}
 use Rattle.market_lock.specs.Held.{taken_in, whos, IsClosing, kept_of, known_for}
 use Rattle.market_lock.specs.Headline.{IsGivenBy, shown_of}
 use Rattle.market_lock.proofs.Steps.{ends_it}
@@ -48,7 +48,7 @@ pub record Ended (key : Terms) (ps qs : List OfPass) (desk : Chronicled) : Type 
   pub cuts : List Cut
   pub fits : (i : ℕ) (k : Known) → get_elem? kept i ≡ some k → Fitting key desk.log cuts k
   pub cut_up : IsCutUp key.keeping desk.log desk.from cuts
-  pub parts : parts_of_all kept ≡ length cuts
+  pub parts : (weigh : Cut → ℕ) → parts_of_all weigh kept ≡ sum_by weigh cuts
 
 pub ended_by : (key : Terms) (id : ℕ) (m0 m1 m2 : M) (ps qs : List OfPass) (ws : List ℕ) (xs : List Chronicled) (desk : Chronicled)
     → m0 ≡ (Closer key [], []) → IsClosing key m1 (kept_of m0.0 ++ taken_in ps) → IsClosing key m2 (kept_of m1.0 ++ taken_in qs) → length ps + length qs ≡ key.seats
@@ -73,17 +73,18 @@ ended_by key id m0 m1 m2 ps qs ws xs desk e0 e1 e2 all final got =
       parts = en.7;
     }
 
-parts_append : (xs ys : List Known) → parts_of_all (xs ++ ys) ≡ parts_of_all xs + parts_of_all ys
-parts_append [] ys = omega arith
-parts_append (x ∷ xs) ys = let rest = parts_append xs ys in omega arith
+module _ (weigh : Cut → ℕ) where
+  parts_append : (xs ys : List Known) → parts_of_all weigh (xs ++ ys) ≡ parts_of_all weigh xs + parts_of_all weigh ys
+  parts_append [] ys = omega arith
+  parts_append (x ∷ xs) ys = let rest = parts_append xs ys in omega arith
 
-parts_taken : (ps : List OfPass) → parts_of_all (taken_in ps) ≡ sum_by parts_by ps
-parts_taken [] = refl
-parts_taken (p ∷ ps) = omega (arith, parts_taken ps, parts_append (taken_in ps) (known_for p ∷ []), sum_by-cons parts_by p ps)
+  parts_taken : (ps : List OfPass) → parts_of_all weigh (taken_in ps) ≡ sum_by (weight_by weigh) ps
+  parts_taken [] = refl
+  parts_taken (p ∷ ps) = omega (arith, parts_taken ps, parts_append (taken_in ps) (known_for p ∷ []), sum_by-cons (weight_by weigh) p ps)
 
-parts_whos : (qs : List OfPlaced) → sum_by parts_by (whos qs) ≡ sum_by (λ (q : OfPlaced). parts_by q.who) qs
-parts_whos [] = refl
-parts_whos (q ∷ qs) = omega (arith, parts_whos qs, sum_by-cons parts_by q.who (whos qs), sum_by-cons (λ (q : OfPlaced). parts_by q.who) q qs)
+  parts_whos : (qs : List OfPlaced) → sum_by (weight_by weigh) (whos qs) ≡ sum_by (λ (q : OfPlaced). weight_by weigh q.who) qs
+  parts_whos [] = refl
+  parts_whos (q ∷ qs) = omega (arith, parts_whos qs, sum_by-cons (weight_by weigh) q.who (whos qs), sum_by-cons (λ (q : OfPlaced). weight_by weigh q.who) q qs)
 
 -- all parts that were cut
 pub all_parts : (key : Terms) (ps : List OfPass) (qs : List OfPlaced) (desk : Chronicled) → Ended key ps (whos qs) desk → AllParts key.keeping desk.log desk.from ps qs
@@ -94,7 +95,7 @@ all_parts key ps qs desk o =
       cut_up = o.cut_up;
       of_passes = each.0;
       of_placed = all_who (HasParts o.cuts) qs each.1;
-      count = omega (arith, o.parts, ap parts_of_all o.kept_is, parts_append (taken_in ps) (taken_in (whos qs)), parts_taken ps, parts_taken (whos qs), parts_whos qs);
+      each_once = λ weigh. omega (arith, o.parts weigh, ap (parts_of_all weigh) o.kept_is, parts_append weigh (taken_in ps) (taken_in (whos qs)), parts_taken weigh ps, parts_taken weigh (whos qs), parts_whos weigh qs);
     }
 
 module _ (key : Terms) (ps qs : List OfPass) (desk : Chronicled) (o : Ended key ps qs desk) where

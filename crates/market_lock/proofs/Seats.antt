@@ -3,6 +3,7 @@ use Rattle.std.proofs.Common.{◌≡◌, ℕ, zero, suc, ◌+◌, ◌≤◌, ◌
 use mathlib.Core.Option.{some, some-injective, some-ne-none}
 use lib.ListN.{get_elem?}
 use Rattle.atomic_table.proofs.Lists.{at_set}
+use Rattle.market_lock.specs.declared.view.Cut.{Cut}
 use Rattle.market_lock.specs.declared.view.View.{View}
 use Rattle.market_lock.specs.declared.view.View.TheVariants.{Opener, Idle, Holder, Closer, Spent}
 use Rattle.market_lock.specs.Rule.{seat_of, weight, parts_in, total, Apart, IsGone}
@@ -58,32 +59,33 @@ weights_one [] i v at = absurd (some-ne-none v (sym at))
 weights_one (x ∷ xs) zero v at = let same = ap weight (some-injective x v at) in omega arith
 weights_one (x ∷ xs) (suc i) v at = let rest = weights_one xs i v at in omega arith
 
--- a view that stands for no pass has no parts
-light : (v : View) → weight v ≡ 0 → parts_in v ≡ 0
-light (Opener t n) e = refl
-light (Idle k) e = absurd (omega (arith, e))
-light (Holder k) e = absurd (omega (arith, e))
-light (Closer t []) e = refl
-light (Closer t (k ∷ ks)) e = absurd (omega (arith, e))
-light Spent e = refl
+module _ (weigh : Cut → ℕ) where
+  -- a view that stands for no pass has no parts
+  light : (v : View) → weight v ≡ 0 → parts_in weigh v ≡ 0
+  light (Opener t n) e = refl
+  light (Idle k) e = absurd (omega (arith, e))
+  light (Holder k) e = absurd (omega (arith, e))
+  light (Closer t []) e = refl
+  light (Closer t (k ∷ ks)) e = absurd (omega (arith, e))
+  light Spent e = refl
 
-all_light : (vs : List View) → total weight vs ≡ 0 → total parts_in vs ≡ 0
-all_light [] e = refl
-all_light (v ∷ vs) e = let here = light v (omega (arith, e)) in let rest = all_light vs (omega (arith, e)) in omega arith
+  all_light : (vs : List View) → total weight vs ≡ 0 → total (parts_in weigh) vs ≡ 0
+  all_light [] e = refl
+  all_light (v ∷ vs) e = let here = light v (omega (arith, e)) in let rest = all_light vs (omega (arith, e)) in omega arith
 
--- a view that stands for all passes has all parts
-pub parts_one : (vs : List View) (i : ℕ) (v : View) → get_elem? vs i ≡ some v → total weight vs ≤ weight v → total parts_in vs ≡ parts_in v
-parts_one [] i v at most = absurd (some-ne-none v (sym at))
-parts_one (x ∷ xs) zero v at most =
-    let same = ap weight (some-injective x v at) in
-    let own = ap parts_in (some-injective x v at) in
-    let rest = all_light xs (omega arith) in
-    omega arith
-parts_one (x ∷ xs) (suc i) v at most =
-    let under = weights_one xs i v at in
-    let here = light x (omega arith) in
-    let rest = parts_one xs i v at (omega arith) in
-    omega arith
+  -- a view that stands for all passes has all parts
+  pub parts_one : (vs : List View) (i : ℕ) (v : View) → get_elem? vs i ≡ some v → total weight vs ≤ weight v → total (parts_in weigh) vs ≡ parts_in weigh v
+  parts_one [] i v at most = absurd (some-ne-none v (sym at))
+  parts_one (x ∷ xs) zero v at most =
+      let same = ap weight (some-injective x v at) in
+      let own = ap (parts_in weigh) (some-injective x v at) in
+      let rest = all_light xs (omega arith) in
+      omega arith
+  parts_one (x ∷ xs) (suc i) v at most =
+      let under = weights_one xs i v at in
+      let here = light x (omega arith) in
+      let rest = parts_one xs i v at (omega arith) in
+      omega arith
 
 pub weights_two : (vs : List View) (i j : ℕ) (v w : View) → i ≢ j → get_elem? vs i ≡ some v → get_elem? vs j ≡ some w → weight v + weight w ≤ total weight vs
 weights_two [] i j v w ne p q = absurd (some-ne-none v (sym p))

@@ -1,5 +1,6 @@
 -- Each kind of step of the lock keeps its rule.
 use Rattle.std.proofs.Common.{◌≡◌, ℕ, zero, suc, ◌+◌, ◌<◌, ◌≤◌, ◌≢◌, eqb, List, [], ◌∷◌, ◌++◌, length, get_or, set, ⊎_elim, refl, ap, sym, ◌∙◌, subst, arith, length-set, length-append, get_or-set_same, eq-eqb, ne_eqb}
+use Rattle.std.specs.List.{sum_by}
 use mathlib.Core.Logic.{dite}
 use mathlib.Core.Option.{Option, none, some, some-injective, some-ne-none}
 use mathlib.Core.List.{IsPrefix}
@@ -22,7 +23,7 @@ use Rattle.market_lock.specs.declared.view.View.TheVariants.{Opener, Idle, Holde
 use Rattle.market_lock.specs.Cutting.{cut_by, IsCutUp}
 use Rattle.market_lock.specs.Views.{known, shown, chronicle_from}
 use Rattle.market_lock.specs.Seen.{known_of}
-use Rattle.market_lock.specs.Rule.{Knows, seat_of, weight, parts_of, parts_of_all, parts_in, Fits, Marks, IsGone, Once, Kept, Wins, Takes, GivesAs, Enters, Follows, Fitting}
+use Rattle.market_lock.specs.Rule.{Knows, seat_of, weight, total, parts_of, parts_of_all, parts_in, Fits, Marks, IsGone, Once, Kept, Wins, Takes, GivesAs, Enters, Follows, Fitting}
 use Rattle.market_lock.proofs.Tiles.{none_cut}
 use Rattle.market_lock.proofs.Fronts.{prefix_self, prefix_trans, there, at_snoc, one_set}
 use Rattle.market_lock.proofs.Seats.{each_set, each_snoc, apart_set, gone_set, apart_snoc, gone_snoc, total_set, total_snoc, weights_two, parts_one}
@@ -80,7 +81,7 @@ module _ (terms : Terms) where
         enough = r.enough;
         cut_up = r.cut_up;
         no_parts = r.no_parts;
-        parted = omega (arith, total_set parts_in s.views id (Idle k) w at, r.parted, ap length knows.cut_own);
+        parted = λ weigh. omega (arith, total_set (parts_in weigh) s.views id (Idle k) w at, r.parted weigh, ap (sum_by weigh) knows.cut_own);
       }
 
   -- a take, which wins or loses
@@ -181,7 +182,7 @@ module _ (terms : Terms) where
         enough = r.enough;
         cut_up = subst (λ (t : Terms). IsCutUp t.keeping log from cuts) f.0.from goes.cut_up;
         no_parts = λ n h. let below = f.0.below in alike n (λ e. omega arith) ∙ r.no_parts n h;
-        parted = omega (arith, total_set parts_in s.views id (Holder k) w at, r.parted, goes.cut_count, ap length f.2);
+        parted = λ weigh. omega (arith, total_set (parts_in weigh) s.views id (Holder k) w at, r.parted weigh, goes.cut_weight weigh, ap (sum_by weigh) f.2);
       }
 
   pub gives_it : (next : Known → List Entry → List Cut) (slots id : ℕ) (m : M) (k : Known) (log : List Entry) (from : ℕ) → slots ≡ 1 → m ≡ (Holder k, (0, chronicle_from k.terms log from) ∷ []) → Follows k log from (next k log)
@@ -283,7 +284,7 @@ module _ (terms : Terms) where
           enough = let m = f.1 in omega arith;
           cut_up = r.cut_up;
           no_parts = λ m h. r.no_parts m (omega arith);
-          parted = omega (arith, total_set parts_in s.views id (Opener t n) left at, total_snoc parts_in vs right, r.parted);
+          parted = λ weigh. omega (arith, total_set (parts_in weigh) s.views id (Opener t n) left at, total_snoc (parts_in weigh) vs right, r.parted weigh);
         }
 
   once_snoc : (kept : List Known) (k : Known) → Once kept → ((i : ℕ) (x : Known) → get_elem? kept i ≡ some x → x.seat ≢ k.seat) → Once (kept ++ k ∷ [])
@@ -327,14 +328,14 @@ module _ (terms : Terms) where
           enough = r.enough;
           cut_up = r.cut_up;
           no_parts = r.no_parts;
-          parted = omega (arith, total_snoc parts_in s.views w, r.parted);
+          parted = λ weigh. omega (arith, total_snoc (parts_in weigh) s.views w, r.parted weigh);
         },
         refl,
       )
 
-  parts_last : (kept : List Known) (k : Known) → parts_of_all (kept ++ k ∷ []) ≡ parts_of_all kept + parts_of k
-  parts_last [] k = omega arith
-  parts_last (x ∷ xs) k = let rest = parts_last xs k in omega arith
+  parts_last : (weigh : Cut → ℕ) (kept : List Known) (k : Known) → parts_of_all weigh (kept ++ k ∷ []) ≡ parts_of_all weigh kept + parts_of weigh k
+  parts_last weigh [] k = omega arith
+  parts_last weigh (x ∷ xs) k = let rest = parts_last weigh xs k in omega arith
 
   pub joins_it : (id other : ℕ) (t : Terms) (kept : List Known) (k : Known) → Joins (Kept terms) id (Closer t kept) other (Idle k) (Closer t (kept ++ k ∷ [])) Spent
   joins_it id other t kept k s r at ne there' =
@@ -384,13 +385,13 @@ module _ (terms : Terms) where
         enough = r.enough;
         cut_up = r.cut_up;
         no_parts = r.no_parts;
-        parted = omega (arith, total_set parts_in s.views id (Closer t kept) w at, total_set parts_in vs other (Idle k) Spent there', r.parted, parts_last kept k);
+        parted = λ weigh. omega (arith, total_set (parts_in weigh) s.views id (Closer t kept) w at, total_set (parts_in weigh) vs other (Idle k) Spent there', r.parted weigh, parts_last weigh kept k);
       }
 
   -- ---- the end
   pub ends_it : (id : ℕ) (t : Terms) (kept : List Known) (ws : List ℕ) (xs : List Chronicled) → terms.seats ≤ length kept → Final (Seen (Kept terms) id (Closer t kept)) ws xs
       → (log : List Entry) × (from : ℕ) × (cuts : List Cut) × (xs ≡ chronicle_from terms log from ∷ []) × Once kept × ((i : ℕ) (k : Known) → get_elem? kept i ≡ some k → Fitting terms log cuts k)
-      × IsCutUp terms.keeping log from cuts × (parts_of_all kept ≡ length cuts)
+      × IsCutUp terms.keeping log from cuts × ((weigh : Cut → ℕ) → parts_of_all weigh kept ≡ sum_by weigh cuts)
   ends_it id t kept ws xs all (s, r, same_words, long, values) =
       let k = r.0 in let at = r.1 in
       let free : word s ≡ 0 = dite (ℕ_discrete (word s) 0) (λ z. z) (λ busy. let h = k.away busy in
@@ -400,7 +401,7 @@ module _ (terms : Terms) where
       let d : Chronicled = chronicle_from terms k.log k.from in
       let first : get_elem? xs 0 ≡ some d = values 0 d (ap (λ (l : List (Option Chronicled)). get_elem? l 0) h) in
       let one : length xs ≡ 1 = sym long ∙ ap (λ (l : List (Option Chronicled)). length l) h in
-      let whole = parts_one s.views id (Closer t kept) at (let sum = k.counted in let most = k.enough in omega arith) in (
+      let few : total weight s.views ≤ length kept = let sum = k.counted in let most = k.enough in omega arith in (
         k.log,
         k.from,
         k.cuts,
@@ -408,7 +409,7 @@ module _ (terms : Terms) where
         k.once id t kept at,
         (λ i x p. let old = k.keeps id t kept at i x p in (old.0.front, old.0.own, (let b = old.0.below in let most = k.enough in omega arith), old.0.cut_front, old.0.cut_own)),
         k.cut_up,
-        omega (arith, whole, k.parted),
+        (λ weigh. omega (arith, parts_one weigh s.views id (Closer t kept) at few, k.parted weigh)),
       )
 
   -- ---- the start
@@ -433,5 +434,5 @@ module _ (terms : Terms) where
     enough = omega arith;
     cut_up = none_cut terms.keeping d.from none';
     no_parts = λ n _. refl;
-    parted = refl;
+    parted = λ weigh. refl;
   }

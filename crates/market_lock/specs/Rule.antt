@@ -1,5 +1,5 @@
 -- The rule of the lock (own). Word 0 is 0 while the desk is at home, and 1 while one seat has it. No public clause has these words.
-use Rattle.std.specs.Prelude.{◌≡◌, ◌≢◌, ℕ, ◌+◌, ◌<◌, ◌≤◌, List, [], ◌∷◌, length, slice_index}
+use Rattle.std.specs.Prelude.{◌≡◌, ◌≢◌, ℕ, ◌+◌, ◌<◌, ◌≤◌, List, [], ◌∷◌, length, slice_index, sum_by}
 use mathlib.Core.Option.{Option, none, some}
 use mathlib.Core.List.{IsPrefix}
 use lib.ListN.{get_elem?}
@@ -37,19 +37,19 @@ weight (Holder k) = 1
 weight (Closer t kept) = length kept
 weight v = 0
 
--- how many parts a caller cut, and those did for which a view stands
-abbrev pub parts_of : Known → ℕ
-parts_of k = length (cut_by k.seat k.cuts)
+-- the parts that a caller cut, each weighed by `weigh`, added up; and those that callers cut for which a view stands
+abbrev pub parts_of : (Cut → ℕ) → Known → ℕ
+parts_of weigh k = sum_by weigh (cut_by k.seat k.cuts)
 
-abbrev pub parts_of_all : List Known → ℕ
-parts_of_all [] = 0
-parts_of_all (k ∷ ks) = parts_of k + parts_of_all ks
+abbrev pub parts_of_all : (Cut → ℕ) → List Known → ℕ
+parts_of_all weigh [] = 0
+parts_of_all weigh (k ∷ ks) = parts_of weigh k + parts_of_all weigh ks
 
-abbrev pub parts_in : View → ℕ
-parts_in (Idle k) = parts_of k
-parts_in (Holder k) = parts_of k
-parts_in (Closer t kept) = parts_of_all kept
-parts_in v = 0
+abbrev pub parts_in : (Cut → ℕ) → View → ℕ
+parts_in weigh (Idle k) = parts_of weigh k
+parts_in weigh (Holder k) = parts_of weigh k
+parts_in weigh (Closer t kept) = parts_of_all weigh kept
+parts_in weigh v = 0
 
 -- the sum of this over all views
 abbrev pub total : (View → ℕ) → List View → ℕ
@@ -107,7 +107,7 @@ pub record Kept (terms : Terms) (s : State Chronicled View) : Type 0 where
   -- what was cut out lies end to end, and each part was cut by one of the seats
   pub cut_up : IsCutUp terms.keeping log from cuts
   pub no_parts : (n : ℕ) → made ≤ n → cut_by n cuts ≡ []
-  pub parted : total parts_in s.views ≡ length cuts
+  pub parted : (weigh : Cut → ℕ) → total (parts_in weigh) s.views ≡ sum_by weigh cuts
   pub counted : total weight s.views ≡ made
   pub enough : made ≤ terms.seats
 
@@ -143,7 +143,7 @@ pub record Follows (k : Known) (log : List Entry) (from : ℕ) (cuts : List Cut)
   pub later : k.from ≤ from
   pub cut_front : IsPrefix k.cuts cuts
   pub cut_others : (n : ℕ) → n ≢ k.seat → cut_by n cuts ≡ cut_by n k.cuts
-  pub cut_count : length cuts + parts_of k ≡ length k.cuts + length (cut_by k.seat cuts)
+  pub cut_weight : (weigh : Cut → ℕ) → sum_by weigh cuts + parts_of weigh k ≡ sum_by weigh k.cuts + sum_by weigh (cut_by k.seat cuts)
   pub cut_up : IsCutUp k.terms.keeping log from cuts
 
 -- what was kept is true of the history

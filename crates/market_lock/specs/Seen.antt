@@ -84,17 +84,18 @@ Met history p = IsPrefix p.seen history × (of_seat p.seat history ≡ p.mine)
 abbrev pub HasParts : List Cut → OfPass → Type 0
 HasParts cuts p = IsPrefix p.cuts cuts × (cut_by p.seat cuts ≡ cut_by p.seat p.cuts)
 
--- how many parts a caller cut
-abbrev pub parts_by : OfPass → ℕ
-parts_by p = length (cut_by p.seat p.cuts)
+-- the parts that a caller cut, each weighed by this, added up
+abbrev pub weight_by : (Cut → ℕ) → OfPass → ℕ
+weight_by weigh p = sum_by weigh (cut_by p.seat p.cuts)
 
--- all parts that these callers cut of a history, each by the caller whose seat it names: they lie end to end, and with the entries that are kept they are the history
+-- all parts that these callers cut of a history, each by the caller whose seat it names: they lie end to end, and with the entries that are kept they are the history. However parts are weighed, they weigh what
+-- those of the callers weigh together: so each of them is one part of one caller, and none of a caller's is missing.
 pub record AllParts (keeping : Keeping) (history : List Entry) (from : ℕ) (passes : List OfPass) (placed : List OfPlaced) : Type 0 where
   pub cuts : List Cut
   pub cut_up : IsCutUp keeping history from cuts
   pub of_passes : All (HasParts cuts) passes
   pub of_placed : All (λ (q : OfPlaced). HasParts cuts q.who) placed
-  pub count : length cuts ≡ sum_by parts_by passes + sum_by (λ (q : OfPlaced). parts_by q.who) placed
+  pub each_once : (weigh : Cut → ℕ) → sum_by weigh cuts ≡ sum_by (weight_by weigh) passes + sum_by (λ (q : OfPlaced). weight_by weigh q.who) placed
 
 -- ---- inside
 
