@@ -196,7 +196,9 @@ impl Arenas {
         self.enqueued = self.enqueued - counted(old.claim()) + counted(claim);
         let row = new.row();
         let level = old.level().index();
-        let visits = self.lists.update(level, old.row(), row.request, row.mandated);
+        let visits = self
+            .lists
+            .update(level, old.row(), row.request, row.mandated);
         Ok((claim, visits))
     }
 

@@ -129,7 +129,7 @@ impl Leaf {
         requires { request ≤ 65535 }
         ensures { self.new ≡ set_row stamp request mandated self.old }
     {
-        let place = search::place_of(&self.columns.stamps, stamp);
+        let place = search::place_of(&self.columns.stamps, self.columns.count, stamp);
         if place < self.columns.count {
             self.columns.set(place, request, mandated);
         }
@@ -152,7 +152,7 @@ impl Leaf {
         ensures taken { result ≡ row_at stamp self.old }
         ensures rows { self.new ≡ without stamp self.old }
     {
-        let place = search::place_of(&self.columns.stamps, stamp);
+        let place = search::place_of(&self.columns.stamps, self.columns.count, stamp);
         if place < self.columns.count {
             let row = self.columns.row(place);
             self.columns.remove(place);

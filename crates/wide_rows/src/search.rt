@@ -66,15 +66,17 @@ pub(crate) fn place_above(keys: &[u32; 16], stamp: u32) -> u32
     if bits == 0 { 16 } else { bits.trailing_zeros() }
 }
 
-/// The place of the first key that is a stamp, and more than 15 where none is.
+/// The place of the first key that is a stamp, and more than 15 where none is. So many of the keys count.
 #[inline]
-pub(crate) fn place_of(keys: &[u32; 16], stamp: u32) -> u32
+pub(crate) fn place_of(keys: &[u32; 16], count: u32, stamp: u32) -> u32
     ensures first { (place : ℕ) → place < 16 → place < result → slice_index keys.now place ≢ stamp }
     ensures there { result < 16 → slice_index keys.now result ≡ stamp }
 {
-    // The first is told without the others, which saves the only row of a leaf the vectors.
-    if keys[0] == stamp {
-        return 0;
+    // The only key is compared alone, which saves a market with one arena the vectors.
+    if count == 1 {
+        if keys[0] == stamp {
+            return 0;
+        }
     }
     let same = u32x16::from_array(*keys).simd_eq(u32x16::splat(stamp));
     same.to_bitmask().trailing_zeros()
