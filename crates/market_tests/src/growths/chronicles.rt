@@ -19,12 +19,13 @@ const JOURNAL: &[u8] = b"\
 {\"cmd\":\"leave\",\"reply\":\"left 1\",\"seat\":0}
 ";
 
-/// A journal as other tools spell it: with spaces, another order of keys and escapes, a longer line with one, and a key twice.
+/// A journal as other tools spell it: with spaces, another order of keys and escapes, a longer line with one, and a key twice, at
+/// first with a text where a number counts.
 pub(crate) const FOREIGN: &[u8] = b"\
 {\"base\": 8, \"hard\": 64, \"journal\": 2, \"levels\": 3, \"seats\": 4}
 {\"seat\": 0, \"cmd\": \"open 8 1 norma\\u006c\", \"reply\": \"arena 1\"}
 {\"seat\": 0, \"reply\": \"\\u0072\\u0065\\u0071\\u0075\\u0065\\u0073\\u0074 3\", \"cmd\": \"\\u0072equest 1 3 0\"}
-{\"seat\": 0, \"seat\": 0, \"cmd\": \"lists\", \"reply\": \"recall - hire 1:3\"}
+{\"seat\": \"\", \"seat\": 0, \"cmd\": \"lists\", \"reply\": \"recall - hire 1:3\"}
 ";
 
 /// A chronicle of four seats, opened again where the first growth was refused.
