@@ -64,6 +64,11 @@ cut-space x rest is small =
     let ascii : nat_lt x 128 ≡ true = grind (arith, nat_tests) in
     cut-front (x ∷ []) rest [] (rw ascii refl) (ap (λ c. lex_byte between c x rest (λ next. lex next rest)) is)
 
+-- so are eight spaces
+pub cut-eight : (rest : List ℕ) → IsCut (codes "        " ++ rest) rest []
+unfolding lex
+cut-eight rest = cut-front (codes "        ") rest [] refl refl
+
 operator-by : (q b o s : Bool) → cond q quote (cond b backslash (cond o operator (cond s space other))) ≡ operator → o ≡ true
 operator-by true b o s h = absurd (cc)
 operator-by false true o s h = absurd (cc)

@@ -65,12 +65,16 @@ fn is_space(byte: u8) -> bool
     matches!(byte, b' ' | b'\t' | b'\r')
 }
 
-/// What follows the white space that a text begins with.
-#[inline(always)]
-fn skip_space(text: &[u8]) -> &[u8]
+/// What follows the white space that a text begins with, of which eight spaces are passed at once.
+// Apart, since where a tool writes a space it mostly writes one.
+#[inline(never)]
+fn skip_spaces(text: &[u8]) -> &[u8]
     ensures { IsCut text.now result.now [] }
 {
     let mut rest = text;
+    while let Some(more) = behind(rest, b"        ") {
+        rest = more;
+    }
     while let Some((first, more)) = rest.split_first() {
         if !is_space(*first) {
             return rest;
@@ -78,6 +82,23 @@ fn skip_space(text: &[u8]) -> &[u8]
         rest = more;
     }
     rest
+}
+
+/// What follows the white space that a text begins with.
+#[inline(always)]
+fn skip_space(text: &[u8]) -> &[u8]
+    ensures { IsCut text.now result.now [] }
+{
+    let Some((first, rest)) = text.split_first() else {
+        return text;
+    };
+    if !is_space(*first) {
+        return text;
+    }
+    match rest.first() {
+        Some(second) if is_space(*second) => skip_spaces(rest),
+        _ => rest,
+    }
 }
 
 /// What follows this byte, with which the text begins behind white space.
