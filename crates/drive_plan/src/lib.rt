@@ -14,6 +14,6 @@ mod task;
 
 pub use gather::{GatherFault, gather_done};
 pub use law::plans_are_their_sections;
-pub use plan::{Plan, PlannedArena};
+pub use plan::{MOST_ARENAS, Plan, PlannedArena};
 pub use reader::{PlanFault, read_plan};
 pub use task::{Done, Job, PlannedJob, Task};

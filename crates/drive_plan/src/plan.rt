@@ -10,7 +10,7 @@ use std::alloc::{AllocError, Global};
 use std::marker::Model;
 
 /// The most arenas of a plan.
-const MOST_ARENAS: usize = 64;
+pub const MOST_ARENAS: usize = 64;
 
 /// The most controls of a plan.
 const MOST_CONTROLS: usize = 256;

@@ -2,11 +2,8 @@
 ghost use Rattle.std.specs.Prelude.{◌≡◌, ◌+◌, ◌<◌, ◌≤◌, ℕ, slice_index};
 ghost use Rattle.market_drive.specs.Arenas.{count_of};
 
-use drive_plan::Plan;
+use drive_plan::{MOST_ARENAS, Plan};
 use market_types::ArenaId;
-
-/// The most arenas of a plan.
-const MOST_ARENAS: usize = 64;
 
 /// The place of an arena among all of them: that of arena 1 is 0.
 pub(crate) fn place_of(arena: ArenaId) -> usize

@@ -10,15 +10,12 @@ ghost use Rattle.worker_main.specs.Stations.{HaveOwnArenas};
 use crate::counting::{count_jobs, place_of};
 use crate::ends::{Ends, open_queue};
 use crate::racks::Racks;
-use drive_plan::{Plan, PlannedJob};
+use drive_plan::{MOST_ARENAS, Plan, PlannedJob};
 use market_types::ArenaId;
 use std::alloc::{AllocError, Global};
 use std::marker::Model;
 use std::sync::Wait;
 use worker_main::Station;
-
-/// The most queues that a plan has.
-const MOST_QUEUES: usize = 64;
 
 /// The stations at which workers work, and what stays of their queues while the takers of so many workers are away.
 pub(crate) struct Lines {
@@ -43,8 +40,8 @@ impl Lines {
     fn new(alloc: Global) -> Result<Lines, AllocError>
         ensures { IfOk result (λ lines. (lines.stations ≡ []) × (lines.ends ≡ [])) }
     {
-        let stations = Vec::with_capacity(alloc, MOST_QUEUES)?;
-        let Ok(ends) = Vec::with_capacity(alloc, MOST_QUEUES) else {
+        let stations = Vec::with_capacity(alloc, MOST_ARENAS)?;
+        let Ok(ends) = Vec::with_capacity(alloc, MOST_ARENAS) else {
             stations.destroy_empty();
             return Err(AllocError);
         };

@@ -5,13 +5,10 @@ ghost use Rattle.job_queue.specs.Seen.{QueueId};
 ghost use Rattle.market_drive.specs.Racks.{IsFor, IsRoomy, OfRack, queues_of};
 
 use crate::ends::Ends;
-use drive_plan::Job;
+use drive_plan::{Job, MOST_ARENAS};
 use job_queue::Taker;
 use std::alloc::{AllocError, Global};
 use std::marker::Model;
-
-/// The most queues that a plan has.
-const MOST_QUEUES: usize = 64;
 
 /// The most workers that a plan has.
 const MOST_WORKERS: usize = 16;
@@ -37,7 +34,7 @@ impl Rack {
         ensures room { IfOk result IsRoomy }
     {
         Ok(Rack {
-            takers: Vec::with_capacity(alloc, MOST_QUEUES)?,
+            takers: Vec::with_capacity(alloc, MOST_ARENAS)?,
         })
     }
 

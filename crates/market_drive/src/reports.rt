@@ -1,5 +1,5 @@
 //! What the workers of a plan tell in the end.
-ghost use Rattle.std.specs.Prelude.{◌≡◌, ◌<◌, ◌++◌, IfErr, IfOk, OnOk};
+ghost use Rattle.std.specs.Prelude.{◌≡◌, ◌<◌, ◌++◌, ◌∷◌, [], IfErr, IfOk, OnOk};
 ghost use Rattle.drive_plan.specs.Outcome.{IsOutcome};
 ghost use Rattle.market_drive.specs.Driving.{IsLate};
 
@@ -31,14 +31,16 @@ impl Reports {
 
     /// The first answers stay where they are, and others are put behind them at once.
     fn keep(&mut self, mut done: Vec<Done>, ended: Ended) -> Result<(), AllocError>
-        ensures { OnOk result (self.new.done.items ≡ self.old.done.items ++ done.items) }
+        ensures done { OnOk result (self.new.done.items ≡ self.old.done.items ++ done.items) }
+        ensures ended { OnOk result (self.new.ended.items ≡ self.old.ended.items ++ ended ∷ []) }
     {
         self.ended.push(ended)?;
         if self.done.is_empty() {
             self.done = done;
-            return Ok(());
+            Ok(())
+        } else {
+            self.done.append(&mut done)
         }
-        self.done.append(&mut done)
     }
 
     /// With the answers of a worker that ended so.
