@@ -279,7 +279,9 @@ impl LineTaker for Checker {
         _replies: &mut Vec<u8>,
     ) -> Result<(), AllocError> {
         self.progress
-            .take_line(self.alloc, line, form, &mut self.room, &mut self.due)
+            .take_line(self.alloc, line, form, &mut self.room, &mut self.due)?;
+        self.room.let_go();
+        Ok(())
     }
 }
 

@@ -46,7 +46,7 @@ impl<'a> Reading<'a> {
 pub(crate) struct Room {
     /// For the tokens of a line, and for its texts once their escapes are undone: from the first line on that is to be read so.
     scratch: Option<Box<Scratch>>,
-    /// The tree of values that the last line was read as.
+    /// The tree of values that a line was read as, from which its texts are lent.
     tree: Option<Value>,
 }
 
@@ -56,6 +56,14 @@ impl Room {
         Room {
             scratch: None,
             tree: None,
+        }
+    }
+
+    /// Lets go what only one line was read as.
+    #[inline(always)]
+    pub(crate) fn let_go(&mut self) {
+        if self.tree.is_some() {
+            self.tree = None;
         }
     }
 }
