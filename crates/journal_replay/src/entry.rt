@@ -123,7 +123,7 @@ fn read_uncut<'a>(
     ensures { IfOk result (λ json. Tells json (members_of fields.new) (json_of line.entry.now)) }
 {
     let Room { scratch, tree } = room;
-    // An entry without an escape was cut, but for odd ones: so no room for tokens is made for a line that ends the journal.
+    // An entry without an escape was cut, but for odd ones: so no room for tokens is made for a line without an escape that ends the journal.
     if memchr(b'\\', line).is_some() && read_escaped(alloc, line, scratch, fields)? {
         return Ok(true);
     }

@@ -25,7 +25,7 @@ pub struct Shape {
     ghost few_arenas: { arenas ≤ 1000 },
 }
 
-/// From a small server to the largest market. In the last one many arenas at one level share few workers: the deepest tree, and three
+/// From a small server to the largest market. In the last one many arenas at one level share few workers: the most rows of a level, and three
 /// Stays in five are of a seat that was recalled before and is not placed. Next to no Join is in vain.
 pub const SHAPES: [Shape; 6] = [
     Shape {

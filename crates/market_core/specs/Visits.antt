@@ -21,7 +21,7 @@ most_visits s = 4 * bits (length s.arenas) + 1 + extra_visits s
 abbrev pub most_listed : State → ℕ
 most_listed s = length s.arenas + extra_visits s
 
--- the most that Join may make: each row once, and no more than a way down for each arena that it looks at
+-- the most that Join may make: each row once, and no more than a way down for each arena that is allotted a worker, until one has too few
 abbrev pub most_joined : State → ℕ
 most_joined s = min (length s.arenas) (searches (rows_of s) * (2 * bits (length s.arenas))) + extra_visits s
 
@@ -36,12 +36,12 @@ looks_in_order Join = true
 looks_in_order Lists = true
 looks_in_order _ = false
 
--- where some worker may be active, how many arenas a Join looks at: those that are allotted a worker, until one has too few
+-- where some worker may be active, at how many arenas a Join has to look: those that are allotted a worker, until one has too few
 abbrev pub searched : State → ℕ
 searched s = if limit_of s == 0 then 0 else searches (rows_of s)
 
 -- the fewest that a command makes which has this reply: one for each row that was put in, taken out or set, one to see
--- an arena that asks for workers or to place or keep a seat, one for each arena that a Join looked at, and one for each
+-- an arena that asks for workers or to place or keep a seat, one for each arena at which a Join has to look, and one for each
 -- that is listed
 abbrev pub least_visits : State → Reply → ℕ
 least_visits s (Opened arena) = 1

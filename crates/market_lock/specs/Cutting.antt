@@ -20,7 +20,8 @@ EndToEnd from (c ∷ cs) = (c.from ≡ from) × EndToEnd (from + length c.entrie
 abbrev pub cut_by : ℕ → List Cut → List Cut
 cut_by seat cuts = filter (λ (c : Cut). c.seat == seat) cuts
 
--- the parts lie end to end from the first entry on, and with what is left they are the history: what is kept in parts is kept from where the last of them ends
+-- the parts lie end to end from the first entry on, and with what is left they are the history: an office in parts keeps its entries from where the last of them ends. Of any other office
+-- this says nothing of which entries are kept
 pub record IsCutUp (keeping : Keeping) (history : List Entry) (from : ℕ) (cuts : List Cut) : Type 0 where
   pub in_a_row : EndToEnd 0 cuts
   pub left : List Entry

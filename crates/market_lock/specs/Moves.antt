@@ -15,7 +15,7 @@ use Rattle.market_lock.specs.declared.pass.Stayed.TheVariants as stayed
 use Rattle.market_lock.specs.Views.{opening_of, chronicle_cut}
 use Rattle.market_lock.specs.Seen.{OfPass, OfPlaced, Extends, Looks, IsSamePass, OthersCut}
 
--- the caller knows more of one legal history, and its call is in it; no entry is kept again, and what others cut meanwhile is all that is kept no more
+-- the caller knows more of one legal history, and its call is in it; no entry is kept again, and in an office in parts what others cut meanwhile is all that is kept no more
 abbrev pub Called : OfPass → Cmd → Reply → OfPass → Type 0
 Called p cmd reply q = IsSamePass p q × IsLegal (opening_of q.terms) q.seen × Extends p cmd reply q × (p.from ≤ q.from) × OthersCut p q
 

@@ -88,7 +88,7 @@ HasParts cuts p = IsPrefix p.cuts cuts × (cut_by p.seat cuts ≡ cut_by p.seat 
 abbrev pub weight_by : (Cut → ℕ) → OfPass → ℕ
 weight_by weigh p = sum_by weigh (cut_by p.seat p.cuts)
 
--- all parts that these callers cut of a history, each by the caller whose seat it names: they lie end to end, and with the entries that are kept they are the history. However parts are weighed, they weigh what
+-- all parts that these callers cut of a history, each by the caller whose seat it names: they lie end to end, and in an office in parts they are the history together with the entries that are kept. However parts are weighed, they weigh what
 -- those of the callers weigh together: so each of them is one part of one caller, and none of a caller's is missing.
 pub record AllParts (keeping : Keeping) (history : List Entry) (from : ℕ) (passes : List OfPass) (placed : List OfPlaced) : Type 0 where
   pub cuts : List Cut

@@ -340,9 +340,9 @@ impl<C: Ledger, W: Ledger> Office<C, W> {
     }
 
     /// Takes all passes and placed workers back, and leaves one history: each of them had seen a beginning of it, and its entries
-    /// are all that the history has of its seat. The entries that can be read are those since the last cut. All parts that the
-    /// passes cut, put one behind the other by where they begin, and then these entries, are the whole history: no gap, nothing
-    /// twice. It doesn't wait, and takes no memory.
+    /// are all that the history has of its seat. The entries that can be read are those since the last cut. Of an office in
+    /// parts, all parts that the passes cut, put one behind the other by where they begin, and then these entries, are the whole
+    /// history: no gap, nothing twice. It doesn't wait, and takes no memory.
     pub fn close(self, passes: Vec<Pass<C, W>>, placed: Vec<Placed<C, W>>) -> Closed
         requires own { All (λ (p : OfPass). p.table ≡ self.table) passes.items }
         requires own_placed { All (λ (p : OfPlaced). p.who.table ≡ self.table) placed.items }

@@ -94,7 +94,7 @@ fn a_thousand_arenas_share_all_workers(rt: HostRuntime) {
 }
 
 /// Of 1,024 arenas that ask for one worker each, 64 are allotted one: each sixteenth in order, newest first. A Join finds
-/// the next of them past those that are filled, and enters no more than two paths of the tree for each.
+/// the next of them past those that are filled, and looks at no more than four arenas for each.
 #[test]
 fn joins_pass_over_idle_arenas(rt: HostRuntime) {
     let mut market = opened(&rt, rt.alloc(), 65, 64, 64);
@@ -121,7 +121,7 @@ fn joins_pass_over_idle_arenas(rt: HostRuntime) {
             matches!(&reply, Reply::Placed(arena) if arena.get() == due),
         );
         let passed = u64::from(joined) + 1;
-        holds(&rt, visits >= 2 * passed && visits <= 44 * passed);
+        holds(&rt, visits >= passed && visits <= 4 * passed);
     }
     let lists = answer(&rt, rt.alloc(), &mut market, Cmd::Lists);
     holds(

@@ -41,13 +41,13 @@ impl Market {
     }
 
     /// Does what `apply` does, but never from what the market keeps of an earlier Join, and says how many visits it made: a
-    /// node of k keys that is entered counts as many as k has binary digits, a row that a walk looks at one. For every
-    /// command but Join and Lists they are no more than four times as many as the number of living arenas has binary digits,
-    /// and one; for Lists no more than there are arenas; for Join no more than 44 for each arena that it looks at, which are
-    /// those that are allotted a worker until one has too few, and for each level; where no worker may be active, twice as
-    /// many as these digits more for each level. It is no fewer than one for each row that was put in, taken out or set, one
-    /// to see an arena that asks for workers or to place or keep a seat, one for each arena that a Join looked at on its way,
-    /// and one for each arena that is listed.
+    /// node of k keys that is entered counts as many as k has binary digits, a row that a walk looks at one; the sums by
+    /// which a walk passes over rows count none. For every command but Join and Lists they are no more than four times as
+    /// many as the number of living arenas has binary digits, and one; for Lists no more than there are arenas; for Join no
+    /// more than there are arenas, nor than 22 for each arena that is allotted a worker until one has too few, and for each
+    /// level; where no worker may be active, twice as many as these digits more for each level. They are no fewer than one
+    /// for each row that was put in, taken out or set, one to see an arena that asks for workers or to place or keep a seat,
+    /// one for each arena that is allotted a worker, up to the one that a Join finds, and one for each arena that is listed.
     #[inline(always)]
     pub fn apply_counted(
         &mut self,

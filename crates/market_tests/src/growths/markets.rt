@@ -191,7 +191,7 @@ fn a_refused_growth_is_none_of_ten_commands(rt: HostRuntime) {
     drop(market);
 }
 
-/// How many nodes a seat's command enters, asked for again where there was no memory: then all was as before.
+/// How many visits a seat's command makes, asked for again where there was no memory: then all was as before.
 fn entered(rt: &impl Abort, alloc: Global, market: &mut Market, cmd: &Cmd) -> u64 {
     let _ = market.seats();
     let before = what_is_seen(market);
