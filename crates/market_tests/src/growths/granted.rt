@@ -16,20 +16,26 @@ use std::process::Abort;
 use std::rt::HostRuntime;
 use wide_rows::Levels;
 
+/// The row of arena 1, which asks for 5 workers.
+fn row() -> Row
+    ensures { result.request ≡ 5 }
+{
+    Row {
+        stamp: 1,
+        arena: ArenaId::new(1),
+        request: 5,
+        mandated: false,
+    }
+}
+
 /// Rows, seats and texts.
 #[test]
 fn what_is_written_is_granted(rt: HostRuntime) {
     let alloc = rt.alloc();
     let mut rows = LevelList::new();
-    let row = Row {
-        stamp: 1,
-        arena: ArenaId::new(1),
-        request: 5,
-        mandated: false,
-    };
-    holds(&rt, rows.push(alloc, row).is_ok());
+    holds(&rt, rows.push(alloc, row()).is_ok());
     let mut levels = Levels::new(alloc);
-    holds(&rt, levels.push(alloc, 0, row).is_ok());
+    holds(&rt, levels.push(alloc, 0, row()).is_ok());
     holds(&rt, Roster::new(alloc, 64).is_ok());
     let request = Cmd::Request(ArenaId::new(1_048_576), -1, -1);
     for _ in 0..9 {
