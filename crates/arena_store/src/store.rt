@@ -192,13 +192,14 @@ impl Arenas {
         let old = self.table.at(place);
         let claim = change.made_to(old.claim())?;
         let new = old.with_claim(claim);
-        self.table.set(place, new);
+        let mut near = self.table.near(place);
         self.enqueued = self.enqueued - counted(old.claim()) + counted(claim);
         let row = new.row();
         let level = old.level().index();
         let visits = self
             .lists
-            .update(level, old.row(), row.request, row.mandated);
+            .update(level, old.row(), row.request, row.mandated, &mut near);
+        self.table.set(place, new, near);
         Ok((claim, visits))
     }
 
@@ -233,7 +234,8 @@ impl Arenas {
         let old = self.table.at(place);
         let from = old.level().index();
         let visits = self.lists.promote(from, old.stamp(), level.index(), stamp);
-        self.table.set(place, old.promoted(stamp, level));
+        self.table
+            .set(place, old.promoted(stamp, level), self.table.near(place));
         Some(visits)
     }
 }

@@ -31,6 +31,32 @@ use std::mem;
 /// How many hints there are: a power of two, so that a remainder takes no division.
 const HINTS: usize = 2048;
 
+/// An arena at its place. Contracts see the arena alone.
+#[derive(Drop)]
+struct Kept {
+    arena: StoredArena,
+    /// The leaf of its level that had its row last: where to look first. Nothing but speed rests on it.
+    near: u8,
+}
+
+impl Model for Kept {
+    ghost use Rattle.market_types.specs.State.{Arena};
+
+    ghost Value = { Arena };
+
+    ghost view = { λ k. k.arena };
+}
+
+impl Kept {
+    /// The arena.
+    #[inline(always)]
+    fn arena(&self) -> StoredArena
+        ensures { result ≡ self.now }
+    {
+        self.arena
+    }
+}
+
 /// Arenas, found by number. Contracts see them as a list by rising number, with the place of each.
 #[derive(Drop)]
 pub struct Table {
@@ -39,7 +65,7 @@ pub struct Table {
     /// The place of each.
     places: Vec<u16>,
     /// The arenas, each at its place.
-    records: Vec<Option<StoredArena>>,
+    records: Vec<Option<Kept>>,
     /// The places at which no arena stands.
     free: Vec<u16>,
     /// By the remainder of a number, the place to look at first; empty before the first arena.
@@ -129,7 +155,7 @@ impl Table {
         let hint = *self.hints.get(arena.get() as usize % HINTS)?;
         let place = hint as usize;
         match self.records.get(place) {
-            Some(Some(stored)) if stored.arena().get() == arena.get() => Some(place),
+            Some(Some(kept)) if kept.arena().arena().get() == arena.get() => Some(place),
             _ => None,
         }
     }
@@ -164,20 +190,29 @@ impl Table {
         requires { index_in self.now.places place < length self.now.arenas }
         ensures { result ≡ slice_index_or self.now.arenas (index_in self.now.places place) result }
     {
-        match self.records[place] {
-            Some(stored) => stored,
+        match &self.records[place] {
+            Some(kept) => kept.arena(),
             None => unreachable!(),
         }
     }
 
-    /// The arena at a place becomes this one, of the same number.
+    /// The leaf that had the row of the arena at a place last.
     #[inline(always)]
-    pub fn set(&mut self, place: usize, arena: StoredArena)
+    pub fn near(&self, place: usize) -> u8 {
+        match self.records.get(place) {
+            Some(Some(kept)) => kept.near,
+            _ => 0,
+        }
+    }
+
+    /// The arena at a place becomes this one, of the same number, and the leaf that has its row is noted.
+    #[inline(always)]
+    pub fn set(&mut self, place: usize, arena: StoredArena, near: u8)
         requires there { index_in self.old.places place < length self.old.arenas }
         requires same { (d : Arena) → (slice_index_or self.old.arenas (index_in self.old.places place) d).number ≡ arena.number }
         ensures { self.new.arenas ≡ slice_set self.old.arenas (index_in self.old.places place) arena }
     {
-        self.records[place] = Some(arena);
+        self.records[place] = Some(Kept { arena, near });
     }
 
     /// Room for one more arena, where there is none.
@@ -222,7 +257,7 @@ impl Table {
             unreachable!();
         };
         let number = arena.arena();
-        self.records[place as usize] = Some(arena);
+        self.records[place as usize] = Some(Kept { arena, near: 0 });
         self.keys.push_reserved(number.get());
         self.places.push_reserved(place);
         put_hint(&mut self.hints, number, place);
@@ -241,7 +276,7 @@ impl Table {
             unreachable!();
         };
         self.free.push_reserved(place);
-        old
+        old.arena()
     }
 }
 

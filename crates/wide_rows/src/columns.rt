@@ -101,6 +101,13 @@ impl Columns {
         ensures count { self.new.count + 1 ≡ self.old.count }
         ensures rows { (i : ℕ) → i < self.new.count → lane self.new i ≡ lane self.old (if nat_lt i place then i else i + 1) }
     {
+        // The only row goes without the vectors: nothing is behind it.
+        if self.count == 1 {
+            self.requests[0] = 0;
+            self.mandated = 0;
+            self.count = 0;
+            return;
+        }
         self.stamps = without_lane(&self.stamps, place);
         self.requests = without_lane(&self.requests, place);
         self.arenas = without_lane(&self.arenas, place);

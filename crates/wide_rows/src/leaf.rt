@@ -1,5 +1,6 @@
 //! The leaf, and its calls.
-ghost use Rattle.std.specs.Prelude.{◌≡◌, ℕ, ◌+◌, ◌*◌, ◌<◌, ◌≤◌, [], ◌∷◌, ◌++◌, length, slice_get, is_some, All};
+ghost use Rattle.std.specs.Prelude.{◌≡◌, ℕ, ◌+◌, ◌-◌, ◌*◌, ◌<◌, ◌≤◌, [], ◌∷◌, ◌++◌, length, slice_get, is_some, All, IfSome};
+ghost use Rattle.std.specs.Bool.{OnTrue};
 ghost use Rattle.prefix_tree.specs.Rows.{IsNewestFirst, HasLowRequests, requests, requests_above, first_mandated, row_at, without, set_row};
 
 use crate::columns::Columns;
@@ -113,6 +114,23 @@ impl Leaf {
         } else {
             Some(self.columns.row(31 - mandated.leading_zeros()))
         }
+    }
+
+    /// Whether a stamp stands between those of its oldest and its newest row.
+    #[inline(always)]
+    pub(crate) fn spans(&self, stamp: u32) -> bool
+        requires some { 0 < length self.now }
+        ensures oldest { OnTrue result (IfSome (slice_get self.now (length self.now - 1)) (λ row. row.stamp ≤ stamp)) }
+        ensures newest { OnTrue result (IfSome (slice_get self.now 0) (λ row. stamp ≤ row.stamp)) }
+    {
+        let last = self.columns.count - 1;
+        if stamp < self.columns.stamps[0] {
+            return false;
+        }
+        if stamp > self.columns.stamps[last as usize] {
+            return false;
+        }
+        true
     }
 
     /// Whether some row is mandated.

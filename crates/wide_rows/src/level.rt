@@ -138,9 +138,17 @@ impl Level {
         }
     }
 
-    /// Sets the request and the mandate of the row with that stamp.
+    /// Sets the request and the mandate of the row with that stamp. `near` says in which leaf it was seen last, and saves time
+    /// where it is still there.
     #[inline(always)]
-    pub(crate) fn update(&mut self, row: &Row, request: u32, mandated: bool, visits: &mut u32)
+    pub(crate) fn update(
+        &mut self,
+        row: &Row,
+        request: u32,
+        mandated: bool,
+        near: &mut u8,
+        visits: &mut u32,
+    )
         requires request { request ≤ 65535 }
         requires there { row_at row.now.stamp self.old.rows ≡ Some row.now }
         requires few { visits.old < 2 ^ 31 }
@@ -156,7 +164,7 @@ impl Level {
                 enter(leaf.len(), visits);
                 leaf.set(row.stamp, request, mandated);
             }
-            Form::Shelf(shelf) => shelf.update(row, request, mandated, visits),
+            Form::Shelf(shelf) => shelf.update(row, request, mandated, near, visits),
         }
     }
 

@@ -152,8 +152,18 @@ impl Levels {
     }
 
     /// Sets the request and the mandate of a row that a level has, as it stands there, and leaves all others.
+    ///
+    /// `near` names the leaf to look at first, and afterwards the one where the row is: keep it with the row for the next call, which
+    /// then searches one leaf in place of three nodes. It is never trusted, so any number will do at first.
     #[inline]
-    pub fn update(&mut self, level: usize, row: Row, request: u32, mandated: bool) -> u32
+    pub fn update(
+        &mut self,
+        level: usize,
+        row: Row,
+        request: u32,
+        mandated: bool,
+        near: &mut u8,
+    ) -> u32
         requires level { level < 8 }
         requires request { request ≤ 65535 }
         requires there { row_at row.stamp (rows_at level self.old) ≡ Some row }
@@ -163,7 +173,7 @@ impl Levels {
         ensures visits { result ≤ 2 * bits (length (rows_at level self.old)) }
     {
         let mut visits = 0;
-        self.levels[level].update(&row, request, mandated, &mut visits);
+        self.levels[level].update(&row, request, mandated, near, &mut visits);
         visits
     }
 

@@ -65,7 +65,8 @@ pub(crate) fn updated(
     let Some(row) = row_there(levels, level, index) else {
         panic!(rt; "no row there");
     };
-    levels.update(level, row, request, mandated)
+    let mut near = 0;
+    levels.update(level, row, request, mandated, &mut near)
 }
 
 /// Promotes the row at an index of a level, to be the newest of another or of the same.

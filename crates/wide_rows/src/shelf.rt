@@ -189,8 +189,16 @@ impl Shelf {
         leaf.first_mandated()
     }
 
-    /// Sets the request and the mandate of the row with that stamp.
-    pub(crate) fn update(&mut self, row: &Row, request: u32, mandated: bool, visits: &mut u32)
+    /// Sets the request and the mandate of the row with that stamp, which is looked for in the leaf at `near` first; `near` says
+    /// then where it is.
+    pub(crate) fn update(
+        &mut self,
+        row: &Row,
+        request: u32,
+        mandated: bool,
+        near: &mut u8,
+        visits: &mut u32,
+    )
         requires some { 1 < self.old.leaves }
         requires request { request ≤ 65535 }
         requires there { row_at row.now.stamp self.old.rows ≡ Some row.now }
@@ -199,7 +207,10 @@ impl Shelf {
         ensures entered { visits.old + 1 ≤ visits.new }
         ensures visits { visits.new ≤ visits.old + 2 * bits (length self.old.rows) }
     {
-        let place = self.storeys.find(&self.leaves, row.stamp, visits);
+        let place = self
+            .storeys
+            .find_near(&self.leaves, row.stamp, usize::from(*near), visits);
+        *near = place as u8;
         self.leaves[place].set(row.stamp, request, mandated);
         let change = Change {
             less: row.request,
@@ -334,7 +345,7 @@ impl Shelf {
         let Some(leaf) = self.leaves.pop() else {
             unreachable!()
         };
-        self.storeys = Storeys::new();
+        self.storeys.rebuild(&self.leaves, 0);
         leaf
     }
 }

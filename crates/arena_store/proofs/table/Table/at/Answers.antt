@@ -25,6 +25,6 @@ returns c =
     let there = rw (← c.self.view_is) at c.requires in
     let within = place-within c.self.invariant.0 c.args.place there in
     let some = rw c.in-Some.is at c.index.ensures in
-    let read : Some c.in-Some.stored ≡ record_at s.records.items c.args.place = some ∙ get_or_default s.records.items c.args.place (Some c.in-Some.stored) None within in
-    let here = place-arena c.self.invariant.0 c.args.place there c.in-Some.stored in
-    rw (← c.self.view_is) (ap (λ (r : Option Arena). unwrap_or r no_arena) read ∙ sym here)
+    let read : Some c.in-Some.kept ≡ record_at s.records.items c.args.place = some ∙ get_or_default s.records.items c.args.place (Some c.in-Some.kept) None within in
+    let here = place-arena c.self.invariant.0 c.args.place there c.in-Some.kept in
+    rw (c.arena.ensures, ← c.self.view_is) (ap (λ (r : Option Arena). unwrap_or r no_arena) read ∙ sym here)

@@ -44,7 +44,7 @@ returns-clause-value c =
     let taken : c.index_mut.result.now ≡ Some c.in-Some.old = sym c.replace-record.ensures.value ∙ c.in-Some.is in
     let some = rw taken at c.index_mut.ensures.value in
     let read : Some c.in-Some.old ≡ record_at s.records.items c.take_out-place.result = some ∙ get_or_default s.records.items c.take_out-place.result (Some c.in-Some.old) None within in
-    rw (← c.self.view_is) (ap (λ (r : Option Arena). unwrap_or r no_arena) read ∙ sym here)
+    rw (c.arena.ensures, ← c.self.view_is) (ap (λ (r : Option Arena). unwrap_or r no_arena) read ∙ sym here)
 
 pub returns-clause-items : goal.returns-clause-items
 returns-clause-items c =

@@ -15,11 +15,11 @@ note-requires c =
     let xs = c.self.inside.leaves.items in
     let h = c.self.invariant.leaves in
     let d = c.self.invariant.indexed in
-    let i = c.find-place.result in
+    let i = c.find_near-place.result in
     let s = c.args.row.now.stamp in
     let q = c.args.request in
     let w = c.args.mandated in
-    let at = c.find-place.ensures.at in
+    let at = c.find_near-place.ensures.at in
     let b = with_value c.index_mut.result.now c.set.new.self in
     let is = c.set.ensures ∙ ap (set_row s q w) (c.deref_mut.ensures.value ∙ leaf_there xs i c.index_mut.result.now c.index_mut.result.now at.there c.index_mut.ensures.value) in
     let found : row_at s (rows_of xs) ≡ Some c.args.row.now = ap (λ (v : Shelved). row_at s v.rows) c.self.view_is ∙ c.requires.there in
@@ -31,11 +31,11 @@ invariant_of-self c =
     let xs = c.self.inside.leaves.items in
     let h = c.self.invariant.leaves in
     let d = c.self.invariant.indexed in
-    let i = c.find-place.result in
+    let i = c.find_near-place.result in
     let s = c.args.row.now.stamp in
     let q = c.args.request in
     let w = c.args.mandated in
-    let at = c.find-place.ensures.at in
+    let at = c.find_near-place.ensures.at in
     let b = with_value c.index_mut.result.now c.set.new.self in
     let is = c.set.ensures ∙ ap (set_row s q w) (c.deref_mut.ensures.value ∙ leaf_there xs i c.index_mut.result.now c.index_mut.result.now at.there c.index_mut.ensures.value) in
     let found : row_at s (rows_of xs) ≡ Some c.args.row.now = ap (λ (v : Shelved). row_at s v.rows) c.self.view_is ∙ c.requires.there in
@@ -47,11 +47,11 @@ returns-clause-changed c =
     let xs = c.self.inside.leaves.items in
     let h = c.self.invariant.leaves in
     let d = c.self.invariant.indexed in
-    let i = c.find-place.result in
+    let i = c.find_near-place.result in
     let s = c.args.row.now.stamp in
     let q = c.args.request in
     let w = c.args.mandated in
-    let at = c.find-place.ensures.at in
+    let at = c.find_near-place.ensures.at in
     let b = with_value c.index_mut.result.now c.set.new.self in
     let is = c.set.ensures ∙ ap (set_row s q w) (c.deref_mut.ensures.value ∙ leaf_there xs i c.index_mut.result.now c.index_mut.result.now at.there c.index_mut.ensures.value) in
     let found : row_at s (rows_of xs) ≡ Some c.args.row.now = ap (λ (v : Shelved). row_at s v.rows) c.self.view_is ∙ c.requires.there in
@@ -63,7 +63,7 @@ pub returns-clause-visits : goal.returns-clause-visits
 returns-clause-visits c =
     omega (
       arith,
-      c.find-place.ensures.visits,
+      c.find_near-place.ensures.visits,
       way_down c.self.inside.storeys c.self.inside.leaves.items c.self.invariant.leaves c.self.invariant.indexed (omega (arith, c.requires.some, ap (λ (v : Shelved). v.leaves) c.self.view_is)),
       ap (λ (v : Shelved). bits (length v.rows)) c.self.view_is,
     )
