@@ -1,5 +1,5 @@
 -- How many binary digits there are.
-use Rattle.std.proofs.Common.{◌≡◌, ℕ, zero, suc, ◌+◌, ◌*◌, ◌/◌, ◌≤◌, min, arith, inl, inr, length}
+use Rattle.std.proofs.Common.{◌≡◌, ℕ, zero, suc, ◌+◌, ◌/◌, ◌≤◌, arith, inl, inr, length}
 use Rattle.std.proofs.lemmas.Bool.{cases_lt}
 use Rattle.std.proofs.lemmas.Int.Digits.{length-digits_of_step, length-digits_of-le}
 use Rattle.std.specs.Int.Digits.{digits_of}
@@ -23,15 +23,3 @@ bits-more m n h = bits-below n m n (omega arith) h
 
 pub bits-few : (n : ℕ) → n ≤ 1024 → bits n ≤ 11
 bits-few n h = length-digits_of-le 2 11 n (omega arith) (omega arith)
-
--- up to four, and no more than there are, is at most twice the digits of these
-pub few-digits : (n : ℕ) → min 4 n ≤ 2 * bits n
-few-digits n =
-    elim (cases_lt 1 n) [
-      | inl two ↦ let a : 2 ≤ bits n = bits-more 2 n two in omega arith
-      | inr one ↦
-          elim (cases_lt 0 n) [
-            | inl some ↦ let e : n ≡ 1 = omega arith in rw e (omega arith)
-            | inr none ↦ let e : n ≡ 0 = omega arith in rw e (omega arith)
-          ]
-    ]

@@ -1,5 +1,5 @@
 -- What the store keeps, through each change.
-use Rattle.std.proofs.Common.{◌≡◌, ◌≢◌, ℕ, suc, ◌+◌, ◌-◌, ◌*◌, ◌<◌, ◌≤◌, true, false, cond, eqb, ltb, not, List, [], ◌∷◌, ◌++◌, length, get_or, set, take, drop, min, Option, Some, None, refl, sym, ap, ◌∙◌, arith, inl, inr, length-append, Bool}
+use Rattle.std.proofs.Common.{◌≡◌, ◌≢◌, ℕ, suc, ◌+◌, ◌-◌, ◌*◌, ◌<◌, ◌≤◌, true, false, cond, eqb, ltb, not, List, [], ◌∷◌, ◌++◌, length, get_or, set, take, drop, Option, Some, None, refl, sym, ap, ◌∙◌, arith, inl, inr, length-append, Bool}
 use Rattle.std.specs.List.{All, find, remove, sum_by, count_by, list_any}
 use Rattle.std.specs.Option.{option_map}
 use Rattle.std.proofs.lemmas.Bool.{cases_eq, cases_Bool, eq-eqb, ne_eqb, lt-ltb}
@@ -21,7 +21,7 @@ use Rattle.arena_store.proofs.Found.{Found, found-at, found-matches, found-level
 use Rattle.prefix_tree.specs.Bits.{bits}
 use Rattle.prefix_tree.specs.Rows.{row_at, set_row, without as without_row}
 use Rattle.wide_rows.specs.Leveled.{rows_at, total_rows, with_first, without_at}
-use Rattle.arena_store.proofs.Digits.{bits-more, bits-few, few-digits}
+use Rattle.arena_store.proofs.Digits.{bits-more, bits-few}
 use Rattle.arena_store.proofs.ByNumber.{table-found, table-claimed, table-removed, table-promoted, table-pushed, rising-set, apart-by_stamp, newest-with_claim, newest-without, newest-cons}
 
 abbrev IsLevel : Arena → Type 0
@@ -328,9 +328,9 @@ module _ (xs : List Arena) (lists : List (List Row)) (n : ℕ) (h : IsStored xs 
   pub list-visits : (v : ℕ) → v ≤ 2 * bits (length (rows_at index lists)) → v ≤ 2 * bits (length (by_stamp xs))
   list-visits v e = omega (arith, bits-more (length (rows_at index lists)) (length (by_stamp xs)) (omega (arith, list-few, length-by_stamp xs)))
 
-  -- four visits for one that is looked at, or as many as there are
-  pub list-height : min 4 (length (rows_at index lists)) ≤ 2 * bits (length (by_stamp xs))
-  list-height = list-visits (min 4 (length (rows_at index lists))) (few-digits (length (rows_at index lists)))
+  -- so is a way down
+  pub list-height : 2 * bits (length (rows_at index lists)) ≤ 2 * bits (length (by_stamp xs))
+  list-height = list-visits (2 * bits (length (rows_at index lists))) (omega arith)
 
   pub list-visits_one : (v : ℕ) → v ≤ 2 * bits (length (rows_at index lists)) + 1 → v ≤ 2 * bits (length (by_stamp xs)) + 1
   list-visits_one v e = omega (arith, bits-more (length (rows_at index lists)) (length (by_stamp xs)) (omega (arith, list-few, length-by_stamp xs)))

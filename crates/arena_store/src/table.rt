@@ -198,10 +198,12 @@ impl Table {
 
     /// The leaf that had the row of the arena at a place last.
     #[inline(always)]
-    pub fn near(&self, place: usize) -> u8 {
-        match self.records.get(place) {
-            Some(Some(kept)) => kept.near,
-            _ => 0,
+    pub fn near(&self, place: usize) -> u8
+        requires { index_in self.now.places place < length self.now.arenas }
+    {
+        match &self.records[place] {
+            Some(kept) => kept.near,
+            None => unreachable!(),
         }
     }
 

@@ -1,4 +1,5 @@
--- How many visits a command makes: a node of k keys that is entered counts as many as k has binary digits, a row that is looked at one (own).
+-- How many visits a command makes: a node of k keys that is entered counts as many as k has binary digits, a run of k sums in one node that
+-- is passed over the same, a row that is looked at one (own).
 use Rattle.std.specs.Prelude.{ℕ, Bool, true, false, ◌+◌, ◌*◌, ◌==◌, length, min, max, if◌then◌else◌}
 use Rattle.market_types.specs.declared.command.Cmd.{Cmd}
 use Rattle.market_types.specs.declared.command.Cmd.TheVariants.{Join, Lists}

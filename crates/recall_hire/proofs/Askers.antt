@@ -5,7 +5,8 @@ use Rattle.std.proofs.Math.Nat.{mul-le-mul_left}
 use Rattle.std.proofs.lemmas.Bool.{cases_eq, eq-eqb, ne_eqb}
 use Rattle.market_types.specs.declared.row.Row.{Row}
 use Rattle.prefix_tree.specs.Rows.{requests}
-use Rattle.wide_rows.specs.Passed.{IsPassed, IsDue}
+use Rattle.prefix_tree.specs.Bits.{bits}
+use Rattle.wide_rows.specs.Passed.{IsPassed, IsDue, IsCounted}
 use Rattle.recall_hire.proofs.Searches.{IsNext}
 
 -- each is allotted what it asks for
@@ -40,12 +41,13 @@ asks-none d rows rest c e some z p =
     )
 
 -- and those that come next ask for somebody
-pub asks-next : (d : ℕ) (rows next rest : List Row) (h c e : ℕ) → 0 < d → c ≡ 0 → IsDue 1 1 rows next rest c e → length next ≤ h → IsNext d d rows next rest h 0 0
-asks-next d rows next rest h c e some z p few =
+pub asks-next : (d : ℕ) (rows next rest : List Row) (h c e v u : ℕ) → 0 < d → c ≡ 0 → IsDue 1 1 rows next rest c e → IsCounted rows next rest v u → 2 * bits (length rows) ≤ h → IsNext d d rows next rest h 0 0 v u
+asks-next d rows next rest h c e v u some z p counted high =
     let passed = asks-none d rows (next ++ rest) c e some z p.passed in
     record {
       low = some;
       passed = passed.1;
       due = omega (arith, mul-le-mul_left d (let one : 1 ≤ requests next = omega (arith, p.due, passed.0) in one));
-      few = few;
+      counted = counted;
+      high = high;
     }

@@ -275,11 +275,13 @@ module _ (s : Sharing) (seats : List (Option ℕ)) (rows rest : List Row) (c e u
   pub none-past : ListsNothing s seats c rows → ListsNothing s seats e rest
   none-past none = none-after s seats rows o.passed rest c e o.rows_are (over 0 (record { recalls = []; hires = [] })).carried none
 
-  pub fewer-past : length rest ≤ length rows
-  fewer-past = omega (arith, ap length o.rows_are ∙ length-append o.passed rest)
-
-  pub walk-past : (after left v end : ℕ) (b0 b1 : Counts) → IsWalk s seats rest e after u left v end b0 b1 → IsWalk s seats rows c after u left v end b0 b1
-  walk-past after left v end b0 b1 g = walk-append s seats rows o.passed rest c e after u u left v v end b0 b0 b1 o.rows_are (over v b0) g
+  -- with as many visits as rows, at most
+  pub walk-past : (after left v w end : ℕ) (b0 b1 : Counts) → v ≤ w → w + length rest ≤ v + length rows → IsWalk s seats rest e after u left w end b0 b1 → IsWalk s seats rows c after u left v end b0 b1
+  walk-past after left v w end b0 b1 more once g =
+      let none = over v b0 in
+      let passed : IsWalk s seats o.passed c e u u v w b0 b0 =
+      record { listed = none.listed; carried = none.carried; met = none.met; looked = omega (arith, none.looked, more); once = omega (arith, once, ap length o.rows_are ∙ length-append o.passed rest) } in
+      walk-append s seats rows o.passed rest c e after u u left v w end b0 b0 b1 o.rows_are passed g
 
 -- ---- what is passed over, as the code finds it
 

@@ -2,11 +2,13 @@
 use Rattle.std.proofs.Common.{◌≡◌, ℕ, ◌+◌, ◌*◌, ◌<◌, ◌≤◌, List, [], ◌∷◌, ◌++◌, length, Option, Some, None, refl, sym, ap, ◌∙◌, arith, length-append}
 use Rattle.std.specs.List.{count_by}
 use Rattle.std.proofs.Math.Nat.{mul-le-mul_left}
+use Rattle.std.proofs.lemmas.List.{append-nil}
 use Rattle.market_types.specs.declared.row.Row.{Row}
 use Rattle.market_types.specs.Allotment.{is_just}
 use Rattle.prefix_tree.specs.Rows.{requests}
 use Rattle.prefix_tree.proofs.Readings.{requests-append}
-use Rattle.wide_rows.specs.Passed.{IsPassed}
+use Rattle.prefix_tree.specs.Bits.{bits}
+use Rattle.wide_rows.specs.Passed.{IsPassed, IsCounted}
 use Rattle.recall_hire.specs.declared.rows.Staffing.{Staffing}
 use Rattle.recall_hire.specs.declared.sharing.Sharing.TheVariants.{Carried}
 use Rattle.recall_hire.specs.Staffed.{first_in_need, searches}
@@ -75,6 +77,10 @@ passed-over k d seats rows rest c e low p =
       fewer = omega (arith, ap length p.rows_are ∙ length-append p.passed rest);
     }
 
+-- less than a worker is due to all
+pub none-due : (k d : ℕ) (rows : List Row) (c n : ℕ) → n ≡ c + k * requests rows → n < d → IsPassed k d rows [] c n
+none-due k d rows c n e l = record { passed = rows; rows_are = sym (append-nil rows); carried = e; below = λ _. l; none = λ g. absurd (omega (arith, e, g, l)) }
+
 -- nobody is left to whom a worker is due
 pub search-ends : (k d : ℕ) (seats : List (Option ℕ)) (rows : List Row) (h c e v : ℕ) → c < d → IsPassed k d rows [] c e → IsSearch k d seats (rows, h) c v v None
 search-ends k d seats rows h c e v low p =
@@ -97,17 +103,24 @@ next-part k d rows next rest c e p = record {
   less = omega (arith, ap requests p.rows_are ∙ requests-append p.passed (next ++ rest), requests-append next rest);
 }
 
--- the rows that come next in a search of which so many are looked at together, with somebody among them whom a worker is due to
-pub record IsNext (k d : ℕ) (rows next rest : List Row) (h c e : ℕ) : Type 0 where
+-- what is due to all of them stays the same past those that are passed over
+pub due-past : (k d : ℕ) (rows next rest : List Row) (c e : ℕ) → IsPassed k d rows (next ++ rest) c e → e + k * requests next + k * requests rest ≡ c + k * requests rows
+due-past k d rows next rest c e p =
+    omega (arith, p.carried, ap (λ n. k * n) (ap requests p.rows_are ∙ requests-append p.passed (next ++ rest) ∙ ap (λ n. requests p.passed + n) (requests-append next rest)))
+
+-- the rows that come next in a search that makes so many visits at most on its way to them, with somebody among them whom a worker
+-- is due to
+pub record IsNext (k d : ℕ) (rows next rest : List Row) (h c e v u : ℕ) : Type 0 where
   pub low : c < d
   pub passed : IsPassed k d rows (next ++ rest) c e
   pub due : d ≤ e + k * requests next
-  pub few : length next ≤ h
+  pub counted : IsCounted rows next rest v u
+  pub high : 2 * bits (length rows) ≤ h
 
 -- somebody among them was found
-pub search-finds : (k d : ℕ) (seats : List (Option ℕ)) (rows next rest : List Row) (h c e after v w a : ℕ) → IsNext k d rows next rest h c e
-    → IsLook k d seats next e after v w (Some a) → IsSearch k d seats (rows, h) c v w (Some a)
-search-finds k d seats rows next rest h c e after v w a p f =
+pub search-finds : (k d : ℕ) (seats : List (Option ℕ)) (rows next rest : List Row) (h c e after v u w a : ℕ) → IsNext k d rows next rest h c e v u
+    → IsLook k d seats next e after u w (Some a) → IsSearch k d seats (rows, h) c v w (Some a)
+search-finds k d seats rows next rest h c e after v u w a p f =
     let S : List Staffing = staffed (Carried k d) seats c rows in
     let here : List Staffing = staffed (Carried k d) seats e next in
     let later : List Staffing = staffed (Carried k d) seats (carry_after (Carried k d) e next) rest in
@@ -118,15 +131,15 @@ search-finds k d seats rows next rest h c e after v w a p f =
     let ways : h * searches S ≡ h * searches here = ap (λ n. h * n) counted in
     record {
       found_is = sym (same.need ∙ ap first_in_need parts ∙ need-first here later a (sym f.found_is));
-      looked = omega (arith, f.looked, counted);
-      once = omega (arith, f.once, same.fewer, length-append next rest);
-      most = omega (arith, f.once, p.few, ways, mul-le-mul_left h some);
+      looked = omega (arith, f.looked, counted, p.counted.more);
+      once = omega (arith, f.once, p.counted.once);
+      most = omega (arith, f.once, p.counted.most, p.high, ways, mul-le-mul_left h some);
     }
 
 -- nobody was, so the search goes on after them
-pub search-goes-on : (k d : ℕ) (seats : List (Option ℕ)) (rows next rest : List Row) (h c e after v w end : ℕ) (found : Option ℕ) → IsNext k d rows next rest h c e
-    → IsLook k d seats next e after v w None → IsSearch k d seats (rest, h) after w end found → IsSearch k d seats (rows, h) c v end found
-search-goes-on k d seats rows next rest h c e after v w end found p f g =
+pub search-goes-on : (k d : ℕ) (seats : List (Option ℕ)) (rows next rest : List Row) (h c e after v u w end : ℕ) (found : Option ℕ) → IsNext k d rows next rest h c e v u
+    → IsLook k d seats next e after u w None → IsSearch k d seats (rest, h) after w end found → IsSearch k d seats (rows, h) c v end found
+search-goes-on k d seats rows next rest h c e after v u w end found p f g =
     let S : List Staffing = staffed (Carried k d) seats c rows in
     let here : List Staffing = staffed (Carried k d) seats e next in
     let later : List Staffing = staffed (Carried k d) seats after rest in
@@ -138,7 +151,7 @@ search-goes-on k d seats rows next rest h c e after v w end found p f g =
     let ways : h * searches S ≡ h * (searches here + searches later) = ap (λ n. h * n) counted in
     record {
       found_is = g.found_is ∙ sym (same.need ∙ ap first_in_need parts ∙ need-later here later (sym f.found_is));
-      looked = omega (arith, f.looked, g.looked, counted);
-      once = omega (arith, f.once, g.once, same.fewer, length-append next rest);
-      most = omega (arith, f.once, g.most, p.few, ways, mul-le-mul_left h some);
+      looked = omega (arith, f.looked, g.looked, counted, p.counted.more);
+      once = omega (arith, f.once, g.once, p.counted.once);
+      most = omega (arith, f.once, g.most, p.counted.most, p.high, ways, mul-le-mul_left h some);
     }

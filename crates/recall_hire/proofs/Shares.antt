@@ -2,7 +2,7 @@
 use Rattle.std.proofs.Common.{◌≡◌, ℕ, ◌+◌, ◌-◌, ◌*◌, ◌/◌, ◌%◌, ◌<◌, ◌≤◌, eqb, cond, List, [], ◌∷◌, ◌++◌, Option, Some, None, refl, sym, ap, ◌∙◌, arith, inl, inr}
 use Rattle.std.specs.List.{count_by}
 use Rattle.std.proofs.Math.Arith.{digits_div, digits_mod}
-use Rattle.std.proofs.Math.Nat.{div-eq_of_lt, mod-eq_of_lt, lt-div-mul-add, zero-div, zero-mod}
+use Rattle.std.proofs.Math.Nat.{mod-le, div-eq_of_lt, mod-eq_of_lt, lt-div-mul-add, zero-div, zero-mod}
 use Rattle.std.proofs.lemmas.Bool.{cases_eq, cases_lt, lt-ltb, le-ltb, eq-eqb, ne_eqb}
 use Rattle.market_types.specs.declared.row.Row.{Row}
 use Rattle.market_types.specs.Allotment.{is_just}
@@ -240,3 +240,16 @@ nobody-searched k d seats [] z = refl
 nobody-searched k d seats (x ∷ rows) z =
     searches-idle (row_at k d seats 0 x) (staffed (Carried k d) seats (row_carry (Carried k d) 0 x) rows) (idle-share x.request k d z)
     ∙ ap (λ c. searches (staffed (Carried k d) seats c rows)) (idle-carry x.request k d z) ∙ nobody-searched k d seats rows z
+
+-- ---- the carry
+
+-- no more is carried on than was due
+pub after-le : (k d c : ℕ) (rows : List Row) → carry_after (Carried k d) c rows ≤ c + k * requests rows
+after-le k d c [] = omega arith
+after-le k d c (x ∷ rows) = omega (arith, after-le k d (row_carry (Carried k d) c x) rows, row-le, ap (λ n. k * n) (requests-cons x rows))
+  where
+    row-le : row_carry (Carried k d) c x ≤ x.request * k + c
+    row-le = elim (cases_eq x.request 0) [
+      | inl z ↦ rw (eq-eqb x.request 0 z) (omega arith)
+      | inr n ↦ rw (ne_eqb x.request 0 n) (mod-le (x.request * k + c) d)
+    ]

@@ -16,8 +16,8 @@ use wide_rows::{Quad, Span, Walk};
 const FIRST_ROOM: usize = 16;
 
 /// Puts a level's arenas, newest first, at the end of lists, each with how many workers it has too many or too few; and
-/// says how many arenas that looked at: none twice, and one at least for each arena that it lists. Wants memory only for what
-/// it lists.
+/// says how many visits that made: one at least for each arena that it lists, and no more than one for each that it looks at or
+/// passes over. Wants memory only for what it lists.
 ///
 /// `unmet` counts seats that may be placed at these arenas, at least those that are. They are taken off it; once none is
 /// left, arenas are passed over where none of them is allotted a worker.
@@ -44,7 +44,7 @@ pub fn list(
     let listing = Listing { roster, sharing };
     let mut rest = walk;
     let mut carry = 0;
-    while let Some(quad) = listing.next(&mut rest, &mut carry, *unmet) {
+    while let Some(quad) = listing.next(&mut rest, &mut carry, *unmet, &mut visits) {
         carry = listing.list(quad, carry, unmet, &mut visits, lists)?;
     }
     Ok(visits)
@@ -61,20 +61,32 @@ impl Listing<'_> {
     /// The next arenas, at most four, of which one may be listed. The carry goes on past those before them, where nobody is
     /// allotted a worker or has one. All are next while seats are left to be met; then those where a worker is due.
     #[inline(always)]
-    fn next<'b>(&self, rest: &mut Walk<'b>, carry: &mut u64, unmet: u32) -> Option<Quad<'b>>
+    fn next<'b>(
+        &self,
+        rest: &mut Walk<'b>,
+        carry: &mut u64,
+        unmet: u32,
+        visits: &mut u32,
+    ) -> Option<Quad<'b>>
         requires shared { CanShareAll self.now.sharing carry.old (requests rest.old) }
         requires low { IsLow self.now.sharing carry.old }
         requires unmet { actives (staffed self.now.sharing self.now.roster.now carry.old rest.old) ≤ unmet }
+        requires room { visits.old < 2 ^ 30 }
         ensures passed { IfSome result (λ quad. IsOver self.now.sharing self.now.roster.now rest.old (quad ++ rest.new) carry.old carry.new unmet) }
         ensures some { IfSome result (λ quad. 0 < length quad) }
         ensures none { IfNone result (IsOver self.now.sharing self.now.roster.now rest.old [] carry.old carry.new unmet) }
+        ensures counted { visits.old ≤ visits.new }
+        ensures once { IfSome result (λ quad. visits.new + length quad + length rest.new ≤ visits.old + length rest.old) }
+        ensures most { IfNone result (visits.new ≤ visits.old + length rest.old) }
     {
         if unmet > 0 {
             return rest.next();
         }
         match self.sharing {
             // A level that asks for nobody has a demand of 0, and all of it is passed over.
-            Sharing::Carried { workers, demand } => rest.next_due(workers, demand.max(1), carry),
+            Sharing::Carried { workers, demand } => {
+                rest.next_due(workers, demand.max(1), carry, visits)
+            }
             Sharing::Picked { arena, .. } => match arena {
                 None => None,
                 Some(_) => rest.next(),

@@ -16,8 +16,9 @@ use market_types::{ArenaId, Row};
 use wide_rows::{Quad, Span, Walk};
 
 /// The first arena of a level, newest first, that is allotted more workers than it has, where the level is assigned
-/// `workers` of its `demand`; and how many arenas that looked at: one at least for each arena that is allotted a worker, up to and
-/// with the one that was found, and no more than four for each of these. None is looked at twice.
+/// `workers` of its `demand`; and how many visits that made: one at least for each arena that is allotted a worker, up to and
+/// with the one that was found, and no more than a way down for each of these. None is looked at twice, and those that are passed
+/// over count no more than one each.
 pub fn first_in_need(
     roster: &Roster,
     rows: &Span,
@@ -39,9 +40,10 @@ pub fn first_in_need(
     let Some(walk) = rows.walk() else {
         return (None, 0);
     };
+    let asked = rows.requests();
     let mut visits = 0;
     if workers == demand {
-        let found = first_short(roster, walk, &mut visits);
+        let found = first_short(roster, walk, asked, &mut visits);
         return (found, visits);
     }
     let search = Search {
@@ -49,7 +51,7 @@ pub fn first_in_need(
         workers,
         demand,
     };
-    let found = search.first_needing(walk, &mut visits);
+    let found = search.first_needing(walk, workers * asked, &mut visits);
     (found, visits)
 }
 
@@ -63,20 +65,26 @@ struct Search<'a> {
 
 impl Search<'_> {
     /// The first arena of a level that is allotted more workers than it has. Looks at four only where one of them is allotted a
-    /// worker.
+    /// worker, and ends as soon as none of those left is: `due` says what is due to all of them, as many parts of a worker as the
+    /// demand has.
     #[inline(always)]
-    fn first_needing(&self, rows: Walk<'_>, visits: &mut u32) -> Option<ArenaId>
+    fn first_needing(&self, rows: Walk<'_>, due: u64, visits: &mut u32) -> Option<ArenaId>
         requires shared { CanShare self.now.workers self.now.demand 0 }
         requires part { requests rows ≤ self.now.demand }
-        requires few { visits.old + length rows < 2 ^ 31 }
+        requires due { due ≡ self.now.workers * requests rows }
+        requires few { visits.old + length rows < 2 ^ 30 }
         ensures { IsSearch self.now.workers self.now.demand self.now.roster.now (with_height rows.entry) 0 visits.old visits.new result }
     {
         let mut rest = rows;
+        let mut left = due;
         let mut carry = 0;
-        while let Some(quad) = rest.next_due(self.workers, self.demand, &mut carry) {
+        while left >= self.demand {
+            let quad = rest.next_surely_due(self.workers, self.demand, &mut carry, visits);
+            let here = carry + self.workers * quad.requests();
             if let Some(arena) = self.first_among(quad, &mut carry, visits) {
                 return Some(arena);
             }
+            left -= here - carry;
         }
         None
     }

@@ -17,8 +17,10 @@ pub mod OneLevel
 pub mod Passing
 pub mod Rows
 pub mod Seen
+pub mod SmallDigits
 pub mod Sums
 pub mod TwoStoreys
 pub mod Vectors
+pub mod WalkCounted
 pub mod WayDown
 pub mod Whole

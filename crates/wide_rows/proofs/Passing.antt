@@ -1,12 +1,14 @@
 -- Rows that are passed over, part by part.
-use Rattle.std.proofs.Common.{subst, Option, ◌≡◌, ℕ, zero, suc, ◌+◌, ◌-◌, ◌*◌, ◌<◌, ◌≤◌, min, List, [], ◌∷◌, ◌++◌, length, get_or, refl, sym, ap, ◌∙◌, arith}
+use Rattle.std.proofs.Common.{subst, Option, Some, ◌≡◌, ℕ, zero, suc, ◌+◌, ◌-◌, ◌*◌, ◌<◌, ◌≤◌, min, List, [], ◌∷◌, ◌++◌, length, get_or, refl, sym, ap, ◌∙◌, inl, inr, arith, length-append}
+use Rattle.std.proofs.lemmas.Bool.{cases_lt}
 use Rattle.std.proofs.lemmas.List.{append_assoc}
 use Rattle.market_types.specs.declared.row.Row.{Row}
 use Rattle.prefix_tree.specs.Rows.{requests}
 use Rattle.prefix_tree.proofs.Readings.{requests-cons, requests-append}
 use Rattle.wide_rows.specs.declared.columns.Columns.{Columns}
 use Rattle.wide_rows.specs.Leaves.{lane, rows_below, IsTidy}
-use Rattle.wide_rows.specs.Passed.{IsPassed, IsDue, AreQuads, rows_left, quad_len, quad_rows, quad_sum, rows_of_quads}
+use Rattle.prefix_tree.specs.Bits.{bits}
+use Rattle.wide_rows.specs.Passed.{IsPassed, IsDue, AreQuads, AreQuadsPassed, AllQuadsPassed, AreBegun, rows_from, rows_left, quad_len, quad_rows, quad_sum, rows_of_quads}
 use Rattle.wide_rows.proofs.Rows.{length-rows}
 
 -- none
@@ -61,8 +63,8 @@ up_to f (suc (suc (suc (suc n)))) l free =
     ∙ omega (arith, requests-cons (f 3) (rows_below f 3), requests-cons (f 2) (rows_below f 2), requests-cons (f 1) (rows_below f 1), requests-cons (f 0) [])
 
 -- what a quad asks for
-pub quad_asks : (c : Columns) (q : ℕ) → IsTidy c → q < 4 → quad_sum c.requests q ≡ requests (quad_rows c q)
-quad_asks c q t l =
+pub quaquad_sum_asks : (c : Columns) (q : ℕ) → IsTidy c → q < 4 → quad_sum c.requests q ≡ requests (quad_rows c q)
+quaquad_sum_asks c q t l =
     ap (λ k. get_or c.requests k 0 + get_or c.requests (4 * q + 1) 0 + get_or c.requests (4 * q + 2) 0 + get_or c.requests (4 * q + 3) 0) (let e : 4 * q ≡ 4 * q + 0 = omega arith in e)
     ∙ sym (up_to (λ i. lane c (4 * q + i)) (quad_len c q) (omega arith) (λ i g m. t.requests (4 * q + i) (omega arith)))
 
@@ -74,7 +76,7 @@ pub record IsLastQuad (c : Columns) (sums : List ℕ) (left : ℕ) : Type 0 wher
 pub last_of_quads : (c : Columns) (sums : List ℕ) (all left : ℕ) → AreQuads c sums all → 0 < left → left ≤ all → IsLastQuad c sums left
 last_of_quads c sums all left h some within = record {
   rows_are = ap (rows_of_quads c) (let e : left ≡ left - 1 + 1 = omega arith in e) ∙ last_quad c (left - 1) (omega (arith, h.some));
-  asks = h.asked (left - 1) (omega (arith, h.some, h.tidy.room)) ∙ quad_asks c (left - 1) h.tidy (omega (arith, h.some, h.tidy.room));
+  asks = h.asked (left - 1) (omega (arith, some, within)) ∙ quaquad_sum_asks c (left - 1) h.tidy (omega (arith, h.some, h.tidy.room));
 }
 
 -- ---- what comes next
@@ -128,3 +130,50 @@ due_on k d rows middle next rest c e f p q = record {
 pub part_passed : (k d : ℕ) (rows front : List Row) (left now : Option (List Row)) (c e f : ℕ) → IsPassed k d rows (front ++ rows_left left) c e → IsPassed k d front [] e f → left ≡ now → IsPassed k d rows (rows_left now) c f
 part_passed k d rows front left now c e f p q is =
     subst (λ (o : Option (List Row)). IsPassed k d rows (rows_left o) c f) is (pass_on k d rows (front ++ rows_left left) (rows_left left) c e f p (pass_front k d front [] (rows_left left) e f q))
+
+-- the leaf that a walk is in was begun
+pub begun_in : (quads : List Row) (left : Option (List Row)) (leaves : List Row) → left ≡ Some leaves → AreBegun quads left → length quads ≤ 12
+begun_in quads left leaves is begun = let short : AreBegun quads (Some leaves) = subst (λ (o : Option (List Row)). AreBegun quads o) is begun in short
+
+-- and its quads are passed over
+pub first_passed : (k d : ℕ) (rows quads : List Row) (left : Option (List Row)) (leaves : List Row) (c e : ℕ) → quads ++ rows_left left ≡ rows → IsPassed k d quads [] c e → left ≡ Some leaves → IsPassed k d rows leaves c e
+first_passed k d rows quads left leaves c e is p begun =
+    part_passed k d rows quads left (Some leaves) c c e (subst (λ (all : List Row). IsPassed k d all (quads ++ rows_left left) c c) is (pass_none k d (quads ++ rows_left left) c)) p begun
+
+-- ---- what is counted
+
+-- what is passed over is not a part with which the demand is reached
+pub no_pass : (k d : ℕ) (rows part rest : List Row) (c e : ℕ) → IsPassed k d rows rest c e → rows ≡ part ++ rest → 0 < length part → d ≤ k * requests part + c → ⊥
+no_pass k d rows part rest c e p is some due =
+    let both = sym p.rows_are ∙ is in
+    let long : length p.passed ≡ length part = omega (arith, ap (λ (l : List Row). length l) both, length-append p.passed rest, length-append part rest) in
+    let asked : requests p.passed ≡ requests part = omega (arith, ap requests both, requests-append p.passed rest, requests-append part rest) in
+    elim (cases_lt c d) [
+      | inl low ↦ let below = p.below low in absurd (omega (arith, below, p.carried, ap (λ n. k * n) asked, due))
+      | inr high ↦ absurd (omega (arith, some, long, ap (λ (l : List Row). length l) (p.none high)))
+    ]
+
+-- what the last of some rows asks for, and the others
+pub last_asks : (c : Columns) (first count : ℕ) → 0 < count → requests (rows_from c first count) ≡ (lane c (first + (count - 1))).request + requests (rows_from c first (count - 1))
+last_asks c first count some =
+    ap (λ n. requests (rows_from c first n)) (let e : count ≡ suc (count - 1) = omega arith in e) ∙ requests-cons (lane c (first + (count - 1))) (rows_from c first (count - 1))
+
+-- what a quad asks for that comes next
+pub quad_sum_asks : (c : Columns) (sums : List ℕ) (all to : ℕ) → AreQuads c sums all → to < all → get_or sums to 0 ≡ requests (quad_rows c to)
+quad_sum_asks c sums all to h l = h.asked to l ∙ quaquad_sum_asks c to h.tidy (omega (arith, l, h.some, h.tidy.room))
+
+quads_long : (c : Columns) (quads : ℕ) → length (rows_of_quads c quads) ≡ min c.count (4 * quads)
+quads_long c quads = length-rows (lane c) (min c.count (4 * quads))
+
+pub quads_passed : (c : Columns) (sums : List ℕ) (from to before after : ℕ) → AreQuads c sums from → to < from → after ≡ before + bits (from - 1 - to) → AreQuadsPassed (rows_of_quads c from) (quad_rows c to) (rows_of_quads c to) before after
+quads_passed c sums from to before after h l e = record {
+  quads = from - 1 - to;
+  counted = e;
+  few = omega (arith, h.some, h.tidy.room);
+  whole = λ some. omega (arith, some, l, h.some, quads_long c from, quads_long c to);
+  all = omega (arith, l, h.some, quads_long c from, quads_long c to, length-rows (λ i. lane c (4 * to + i)) (quad_len c to));
+  short = omega (arith, l, h.some, h.tidy.room, quads_long c to);
+}
+
+pub all_quads_passed : (c : Columns) (sums : List ℕ) (from before after : ℕ) → AreQuads c sums from → after ≡ before + bits from → AllQuadsPassed (rows_of_quads c from) before after
+all_quads_passed c sums from before after h e = record { quads = from; counted = e; few = omega (arith, h.some, quads_long c from); most = omega (arith, h.some, h.tidy.room) }

@@ -1,10 +1,11 @@
 //! Random calls on the rows in wide nodes and on a tree for each level, side by side: every answer of one is the other's.
-ghost use Rattle.std.specs.Prelude.{◌≡◌, ◌<◌, ◌≤◌, Some, IfSome, IsTrue};
+ghost use Rattle.std.specs.Prelude.{◌≡◌, ◌^◌, ◌<◌, ◌≤◌, Some, IfSome, IsTrue};
 ghost use Rattle.prefix_tree.specs.Rows.{IsAbsent, row_at};
 
 use crate::asserts::{holds, same};
 use crate::levels::Levels;
 use crate::looked::{promoted, pushed, updated};
+use crate::quads::Quad;
 use market_types::{ArenaId, Row};
 use prefix_tree::{Taken, Tree};
 use std::alloc::Global;
@@ -154,6 +155,101 @@ fn ask_both(rt: &impl Abort, wide: &Levels, tree: &Tree, level: usize, stamp: u3
     same(rt, wide.walk(level, index).0, tree.walk(index).0);
 }
 
+/// Walks through all rows of a level four by four: they are those of its tree, in order.
+fn walk_both(rt: &impl Abort, wide: &Levels, tree: &Tree, level: usize)
+    requires level { level < 8 }
+{
+    let span = wide.whole(level);
+    same(rt, span.requests(), tree.total());
+    let mut index = 0usize;
+    if let Some(walk) = span.walk() {
+        let mut rest = walk;
+        for _ in 0..1024 {
+            let Some(quad) = rest.next() else { break };
+            let (next, _asked) = rows_both(rt, quad, tree, index);
+            index = next;
+        }
+    }
+    same(rt, index, tree.len());
+}
+
+/// The rows of a quad are those of a tree from an index on; gives the index behind them and what they ask for.
+fn rows_both(rt: &impl Abort, quad: Quad<'_>, tree: &Tree, index: usize) -> (usize, u64) {
+    let mut rest = quad;
+    let mut index = index;
+    let mut asked = 0u64;
+    for _ in 0..4 {
+        let mut visits = 0;
+        let Some(row) = rest.next(&mut visits) else {
+            break;
+        };
+        same(rt, visits, 1);
+        asked = asked.wrapping_add(u64::from(row.request));
+        same(rt, Some(row), tree.walk(index).0);
+        index = index.wrapping_add(1);
+    }
+    (index, asked)
+}
+
+/// The index of the row with a stamp, from one on, and what the rows before it ask for.
+fn come_to(rt: &impl Abort, tree: &Tree, index: usize, stamp: u32) -> (usize, u64) {
+    let mut index = index;
+    let mut asked = 0u64;
+    for _ in 0..1024 {
+        let Some(row) = tree.walk(index).0 else {
+            panic!(rt; "no row of this stamp");
+        };
+        if row.stamp == stamp {
+            break;
+        }
+        asked = asked.wrapping_add(u64::from(row.request));
+        index = index.wrapping_add(1);
+    }
+    (index, asked)
+}
+
+/// Serves the rows of a level, which share so many workers, by a walk to those to whom one is due: to all that is passed over less
+/// than a worker is, and with the rows that come next there is one.
+fn serve_both(rt: &impl Abort, wide: &Levels, tree: &Tree, level: usize, workers: u64)
+    requires level { level < 8 }
+    requires few { workers < 2 ^ 31 }
+{
+    let demand = tree.total();
+    holds(rt, demand < 1 << 32);
+    let Some(walk) = wide.whole(level).walk() else {
+        return;
+    };
+    let mut rest = walk;
+    let mut index = 0usize;
+    let mut carry = 0u64;
+    for _ in 0..1024 {
+        holds(rt, carry < 1 << 32);
+        let before = carry;
+        let mut visits = 0;
+        let Some(mut quad) = rest.next_due(workers, demand, &mut carry, &mut visits) else {
+            break;
+        };
+        holds(rt, visits <= 18);
+        let Some(row) = quad.next(&mut visits) else {
+            panic!(rt; "no rows come next");
+        };
+        let (first, passed) = come_to(rt, tree, index, row.stamp);
+        same(rt, carry, before.wrapping_add(workers.wrapping_mul(passed)));
+        holds(rt, passed == 0 || carry < demand);
+        let asks = u64::from(row.request);
+        same(rt, tree.walk(first).0, Some(row));
+        let (next, others) = rows_both(rt, quad, tree, first.wrapping_add(1));
+        let due = carry.wrapping_add(workers.wrapping_mul(asks.wrapping_add(others)));
+        holds(rt, due >= demand);
+        index = next;
+        if demand > 0 {
+            carry = due % demand;
+        }
+    }
+    // nobody of those that are left is due a worker
+    holds(rt, index == tree.len() || carry < demand);
+}
+
 /// A stamp to ask about: none so low, none so high, or one that a row may have.
 fn any_stamp(dice: &mut Dice, newest: u32) -> u32
     requires { newest ≤ 1000000 }
@@ -214,7 +310,8 @@ fn new_row(dice: &mut Dice, stamp: u32) -> Row
     }
 }
 
-/// 40,000 turns at so many levels, of up to six calls each that must be answered alike, while the rows grow to their most and fall to an eighth of it, again and again.
+/// 40,000 turns at so many levels, of up to six calls each that must be answered alike, while the rows grow to their most and fall
+/// to an eighth of it, again and again. After each 32nd a level is walked through and served.
 fn compare(rt: &impl Abort, alloc: Global, seed: u64, levels: u32, most: usize)
     requires some { 0 < levels }
     requires levels { levels ≤ 8 }
@@ -254,6 +351,10 @@ fn compare(rt: &impl Abort, alloc: Global, seed: u64, levels: u32, most: usize)
         let asked = any_stamp(&mut dice, stamp);
         let index = dice.below(trees[to].len() as u32 + 2) as usize;
         ask_both(rt, &wide, &trees[to], to, asked, index);
+        if stamp % 32 == 0 {
+            walk_both(rt, &wide, &trees[to], to);
+            serve_both(rt, &wide, &trees[to], to, u64::from(dice.below(300)));
+        }
         // no row has this stamp
         take_both(rt, &mut wide, &mut trees[to], to, 0);
     }

@@ -188,6 +188,22 @@ impl Leaf {
         Quads::new(&self.columns)
     }
 
+    /// The same of a leaf that is all of a level.
+    #[inline(always)]
+    pub(crate) fn quads_alone(&self) -> Quads<'_>
+        ensures { result ≡ self.now }
+    {
+        Quads::alone(&self.columns)
+    }
+
+    /// None of its rows.
+    #[inline(always)]
+    pub(crate) fn no_quads(&self) -> Quads<'_>
+        ensures { result ≡ [] }
+    {
+        Quads::none(&self.columns)
+    }
+
     /// Adds the rows of another leaf, which are newer than all that it has.
     pub fn absorb(&mut self, newer: &Leaf)
         requires room { length newer.now + length self.old ≤ 16 }

@@ -133,7 +133,7 @@ impl Level {
     {
         match &self.form {
             Form::Empty => None,
-            Form::Leaf(leaf) => Some(Walk::of_leaf(leaf.quads())),
+            Form::Leaf(leaf) => Some(Walk::of_leaf(leaf.quads_alone())),
             Form::Shelf(shelf) => Some(shelf.walk()),
         }
     }

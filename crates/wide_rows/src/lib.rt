@@ -15,7 +15,8 @@
 //! quads of four, that passes over blocks, leaves and quads by their sums ([`Walk`], [`Quad`]).
 //!
 //! A call says how much it searched: entering a node of k keys takes the work of as many steps as k has binary digits, and counts
-//! so many visits; a walk counts each row that it looks at.
+//! so many visits; a walk counts each row that it looks at, and a run of sums in one node that it passes over as a node of so many
+//! keys. So from one row to the next that has to be looked at it makes no more visits than a way down.
 #![tactic(auto)]
 
 #[cfg(test)]

@@ -6,13 +6,16 @@
 //!   sums            10     |      0      |     11      |      0          all four at once, by vectors
 //!   left        0 and 1: the rows of quad 2 come next, then those of quad 0
 //! ```
-ghost use Rattle.std.specs.Prelude.{◌≡◌, ℕ, ◌+◌, ◌*◌, ◌^◌, ◌<◌, ◌≤◌, List, [], ◌∷◌, length, IfNone, IfSome};
+ghost use Rattle.std.specs.Prelude.{◌≡◌, ℕ, ◌+◌, ◌-◌, ◌*◌, ◌^◌, ◌<◌, ◌≤◌, List, [], ◌∷◌, length, IfNone, IfSome};
 ghost use Rattle.std.specs.Bool.{OnTrue, OnFalse};
 ghost use Rattle.wide_rows.specs.Leaves.{IsLeaf, rows_in};
-ghost use Rattle.wide_rows.specs.Passed.{IsPassed, IsDue, AreQuads, quad_rows, rows_of_quads};
+ghost use Rattle.wide_rows.specs.Passed.{IsPassed, IsDue, AreQuads, AreQuadsPassed, AllQuadsPassed, quad_rows, rows_of_quads};
+ghost use Rattle.prefix_tree.specs.Bits.{bits};
+ghost use Rattle.prefix_tree.specs.Rows.{requests};
 
 use crate::columns::Columns;
 use crate::search;
+use crate::visits::pass_over;
 use market_types::Row;
 use std::marker::Model;
 
@@ -24,26 +27,29 @@ pub struct Quad<'a> {
     first: u32,
     /// How many are left.
     count: u32,
+    /// What these ask for.
+    asked: u32,
 }
 
 impl<'a> Model for Quad<'a> {
-    ghost use Rattle.std.specs.Prelude.{List, ◌+◌, ◌≤◌};
+    ghost use Rattle.std.specs.Prelude.{List};
     ghost use Rattle.market_types.specs.declared.row.Row.{Row};
-    ghost use Rattle.wide_rows.specs.Passed.{rows_from};
+    ghost use Rattle.wide_rows.specs.Passed.{rows_from, AreAside};
 
     ghost Value = { List Row };
 
     ghost view = { λ a. rows_from a.columns.now a.first a.count };
 
-    ghost invariant = { λ a. a.first + a.count ≤ 16 };
+    ghost invariant = { λ a. AreAside a.columns.now a.first a.count a.asked };
 }
 
 impl<'a> Quad<'a> {
     /// The rows of a quad.
     #[inline(always)]
-    fn new(columns: &'a Columns, quad: u32) -> Quad<'a>
+    fn new(columns: &'a Columns, quad: u32, asked: u32) -> Quad<'a>
         requires room { columns.now.count ≤ 16 }
         requires some { 4 * quad < columns.now.count }
+        requires asked { asked ≡ requests (quad_rows columns.now quad) }
         ensures rows { result ≡ quad_rows columns.now quad }
         ensures some { 0 < length result }
         ensures four { length result ≤ 4 }
@@ -53,7 +59,16 @@ impl<'a> Quad<'a> {
             columns,
             first,
             count: (columns.count - first).min(4),
+            asked,
         }
+    }
+
+    /// The sum of the requests of its rows.
+    #[inline(always)]
+    pub fn requests(&self) -> u64
+        ensures { result ≡ requests self.now }
+    {
+        u64::from(self.asked)
     }
 
     /// The next row, which is a visit. None where none is left.
@@ -70,7 +85,9 @@ impl<'a> Quad<'a> {
         }
         *visits += 1;
         self.count -= 1;
-        Some(self.columns.row(self.first + self.count))
+        let row = self.columns.row(self.first + self.count);
+        self.asked -= row.request;
+        Some(row)
     }
 }
 
@@ -96,7 +113,8 @@ impl<'a> Model for Quads<'a> {
     ghost invariant = { λ a. AreQuads a.columns.now a.sums a.left };
 }
 
-/// Goes on to the next quad where the demand is reached. False where there is none.
+/// Goes on to the next quad where the demand is reached. False where there is none. The sums that it passes over are counted as
+/// a node of so many keys.
 #[inline(always)]
 fn pass(
     columns: &Columns,
@@ -105,26 +123,33 @@ fn pass(
     workers: u64,
     demand: u64,
     carry: &mut u64,
+    visits: &mut u32,
 ) -> bool
     requires quads { AreQuads columns.now sums.now left.old }
     requires few { workers < 2 ^ 31 }
     requires small { demand < 2 ^ 32 }
     requires low { carry.old < 2 ^ 32 }
+    requires room { visits.old < 2 ^ 31 }
     ensures due { OnTrue result (IsDue workers demand (rows_of_quads columns.now left.old) (quad_rows columns.now left.new) (rows_of_quads columns.now left.new) carry.old carry.new) }
     ensures left { OnTrue result (left.new < left.old) }
     ensures none { OnFalse result (IsPassed workers demand (rows_of_quads columns.now left.old) [] carry.old carry.new) }
     ensures empty { OnFalse result (left.new ≡ 0) }
     ensures low { carry.new < 2 ^ 32 }
+    ensures counted { OnTrue result (visits.new ≡ visits.old + bits (left.old - 1 - left.new)) }
+    ensures counted_all { OnFalse result (visits.new ≡ visits.old + bits left.old) }
 {
     let _ = &columns.count;
+    let all = *left;
     while *left > 0 {
         *left -= 1;
         let due = workers * u64::from(sums[*left as usize]) + *carry;
         if due >= demand {
+            pass_over((all - 1 - *left) as usize, visits);
             return true;
         }
         *carry = due;
     }
+    pass_over(all as usize, visits);
     false
 }
 
@@ -142,6 +167,36 @@ impl<'a> Quads<'a> {
         }
     }
 
+    /// All rows of a leaf that is all of a level.
+    #[inline(always)]
+    pub(crate) fn alone(columns: &'a Columns) -> Quads<'a>
+        requires leaf { IsLeaf columns.now }
+        ensures { result ≡ rows_in columns.now }
+    {
+        // The only row is read alone, which saves a market with one arena the vectors.
+        if columns.count == 1 {
+            return Quads {
+                columns,
+                sums: [columns.requests[0], 0, 0, 0],
+                left: 1,
+            };
+        }
+        Quads::new(columns)
+    }
+
+    /// No rows of a leaf.
+    #[inline(always)]
+    pub(crate) fn none(columns: &'a Columns) -> Quads<'a>
+        requires leaf { IsLeaf columns.now }
+        ensures { result ≡ [] }
+    {
+        Quads {
+            columns,
+            sums: [0; 4],
+            left: 0,
+        }
+    }
+
     /// The next quad where what the rows up to its end ask for, times the workers, on top of the carry reaches the demand. The
     /// carry goes on past all rows before it. None where no quad is left.
     #[inline(always)]
@@ -150,23 +205,35 @@ impl<'a> Quads<'a> {
         workers: u64,
         demand: u64,
         carry: &mut u64,
+        visits: &mut u32,
     ) -> Option<Quad<'a>>
         requires few { workers < 2 ^ 31 }
         requires small { demand < 2 ^ 32 }
         requires low { carry.old < 2 ^ 32 }
+        requires room { visits.old < 2 ^ 31 }
         ensures due { IfSome result (λ quad. IsDue workers demand self.old quad self.new carry.old carry.new) }
         ensures some { IfSome result (λ quad. 0 < length quad) }
         ensures four { IfSome result (λ quad. length quad ≤ 4) }
         ensures none { IfNone result (IsPassed workers demand self.old [] carry.old carry.new) }
         ensures empty { IfNone result (self.new ≡ []) }
         ensures low { carry.new < 2 ^ 32 }
+        ensures counted { IfSome result (λ quad. AreQuadsPassed self.old quad self.new visits.old visits.new) }
+        ensures counted_all { IfNone result (AllQuadsPassed self.old visits.old visits.new) }
     {
         let mut left = self.left;
-        let found = pass(self.columns, &self.sums, &mut left, workers, demand, carry);
+        let found = pass(
+            self.columns,
+            &self.sums,
+            &mut left,
+            workers,
+            demand,
+            carry,
+            visits,
+        );
         self.left = left;
         if !found {
             return None;
         }
-        Some(Quad::new(self.columns, left))
+        Some(Quad::new(self.columns, left, self.sums[left as usize]))
     }
 }

@@ -307,10 +307,9 @@ impl Shelf {
         requires some { 0 < self.now.leaves }
         ensures { result ≡ self.now.rows }
     {
-        let last = self.leaves.len() - 1;
         Walk::of_leaves(
-            self.leaves[last].quads(),
-            Leaves::new(&self.leaves, &self.storeys, last),
+            self.leaves[0].no_quads(),
+            Leaves::new(&self.leaves, &self.storeys, self.leaves.len()),
         )
     }
 

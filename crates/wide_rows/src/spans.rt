@@ -9,19 +9,44 @@
 //!
 //! It goes on from where it stands: the quads of the leaf that it is in, then the leaves before it, a block at a time where it
 //! comes to one's end. So it has a branch for each sum that it reads, and none for how deep it is.
-ghost use Rattle.std.specs.Prelude.{◌≡◌, ℕ, ◌+◌, ◌^◌, ◌<◌, ◌≤◌, List, [], ◌++◌, length, min, IfNone, IfSome};
+//!
+//! What it passes over is counted: a run of k sums in one node as many visits as k has binary digits, as many as a search in a node
+//! of k keys. From one row that is looked at to the next it passes over quads, leaves, blocks, leaves and quads, at most, and goes
+//! on only where something more is due: so it counts no more than a way down from the top, twice the binary digits of the number of
+//! rows (`IsCounted`).
+ghost use Rattle.std.specs.Prelude.{◌≡◌, ℕ, ◌+◌, ◌*◌, ◌^◌, ◌<◌, ◌≤◌, List, [], ◌++◌, length, IfNone, IfSome};
 ghost use Rattle.std.specs.Bool.{OnTrue, OnFalse};
 ghost use Rattle.prefix_tree.specs.Rows.{requests};
+ghost use Rattle.prefix_tree.specs.Bits.{bits};
 ghost use Rattle.wide_rows.specs.Joined.{joined_below};
 ghost use Rattle.wide_rows.specs.Shelves.{leaf_at};
 ghost use Rattle.wide_rows.specs.Storeys.{IsIndexed};
-ghost use Rattle.wide_rows.specs.Passed.{IsPassed, IsDue, AreFirst, with_height};
+ghost use Rattle.wide_rows.specs.Passed.{IsPassed, IsDue, IsCounted, AreFirst, AreLeavesPassed, AreRowsPassed, with_height};
 
 use crate::leaf::Leaf;
 use crate::level::Level;
 use crate::quads::{Quad, Quads};
 use crate::storeys::Storeys;
+use crate::visits::pass_over;
 use std::marker::Model;
+
+/// Counts what was passed over from so many leaves down to one: leaves of the block where it began, whole blocks, and leaves of the
+/// block where it ended, each run as a node of so many keys.
+#[inline(always)]
+fn count_leaves(left: usize, at: usize, visits: &mut u32)
+    requires before { at < left }
+    requires few { left ≤ 160 }
+    requires room { visits.old < 2 ^ 31 }
+    ensures { AreLeavesPassed left at visits.old visits.new }
+{
+    if at / 16 == (left - 1) / 16 {
+        pass_over(left - 1 - at, visits);
+    } else {
+        pass_over(left % 16, visits);
+        pass_over(left / 16 - at / 16 - 1, visits);
+        pass_over(15 - at % 16, visits);
+    }
+}
 
 /// Goes on to the next leaf where the demand is reached. False where there is none.
 #[inline(always)]
@@ -32,19 +57,25 @@ fn pass(
     workers: u64,
     demand: u64,
     carry: &mut u64,
+    visits: &mut u32,
 ) -> bool
     requires indexed { IsIndexed storeys.now (leaf_at leaves.now.items) (length leaves.now.items) }
     requires within { left.old ≤ length leaves.now.items }
     requires few { workers < 2 ^ 31 }
     requires small { demand < 2 ^ 32 }
     requires low { carry.old < 2 ^ 32 }
+    requires room { visits.old < 2 ^ 31 }
     ensures due { OnTrue result (IsDue workers demand (joined_below (leaf_at leaves.now.items) left.old) (leaf_at leaves.now.items left.new) (joined_below (leaf_at leaves.now.items) left.new) carry.old carry.new) }
     ensures left { OnTrue result (left.new < left.old) }
     ensures none { OnFalse result (IsPassed workers demand (joined_below (leaf_at leaves.now.items) left.old) [] carry.old carry.new) }
     ensures empty { OnFalse result (left.new ≡ 0) }
     ensures low { carry.new < 2 ^ 32 }
+    ensures counted { OnTrue result (AreLeavesPassed left.old left.new visits.old visits.new) }
+    ensures counted_all { OnFalse result (visits.old ≤ visits.new) }
+    ensures most { OnFalse result (visits.new ≤ visits.old + left.old) }
 {
     let _ = leaves;
+    let all = *left;
     while *left > 0 {
         if *left % 16 == 0 {
             let sum = storeys.top.sum(*left / 16 - 1);
@@ -59,10 +90,13 @@ fn pass(
         let sum = storeys.blocks[*left / 16].sum(*left % 16);
         let due = workers * u64::from(sum) + *carry;
         if due >= demand {
+            count_leaves(all, *left, visits);
             return true;
         }
         *carry = due;
     }
+    pass_over(all % 16, visits);
+    pass_over(all / 16, visits);
     false
 }
 
@@ -106,18 +140,35 @@ impl<'a> Leaves<'a> {
     /// The next leaf where what the rows up to its end ask for, times the workers, on top of the carry reaches the demand. The
     /// carry goes on past all rows before it. None where no leaf is left.
     #[inline(always)]
-    fn next_due(&mut self, workers: u64, demand: u64, carry: &mut u64) -> Option<Quads<'a>>
+    fn next_due(
+        &mut self,
+        workers: u64,
+        demand: u64,
+        carry: &mut u64,
+        visits: &mut u32,
+    ) -> Option<Quads<'a>>
         requires few { workers < 2 ^ 31 }
         requires small { demand < 2 ^ 32 }
         requires low { carry.old < 2 ^ 32 }
+        requires room { visits.old < 2 ^ 31 }
         ensures due { IfSome result (λ leaf. IsDue workers demand self.old leaf self.new carry.old carry.new) }
         ensures some { IfSome result (λ leaf. 0 < length leaf) }
         ensures none { IfNone result (IsPassed workers demand self.old [] carry.old carry.new) }
-        ensures empty { IfNone result (self.new ≡ []) }
         ensures low { carry.new < 2 ^ 32 }
+        ensures counted { IfSome result (λ leaf. AreRowsPassed self.old leaf self.new visits.old visits.new) }
+        ensures counted_all { IfNone result (visits.old ≤ visits.new) }
+        ensures most { IfNone result (visits.new ≤ visits.old + length self.old) }
     {
         let mut left = self.left;
-        let found = pass(self.leaves, self.storeys, &mut left, workers, demand, carry);
+        let found = pass(
+            self.leaves,
+            self.storeys,
+            &mut left,
+            workers,
+            demand,
+            carry,
+            visits,
+        );
         self.left = left;
         if !found {
             return None;
@@ -138,11 +189,13 @@ pub struct Walk<'a> {
 impl<'a> Model for Walk<'a> {
     ghost use Rattle.std.specs.Prelude.{List, ◌++◌};
     ghost use Rattle.market_types.specs.declared.row.Row.{Row};
-    ghost use Rattle.wide_rows.specs.Passed.{rows_left};
+    ghost use Rattle.wide_rows.specs.Passed.{rows_left, AreBegun};
 
     ghost Value = { List Row };
 
     ghost view = { λ a. a.quads ++ rows_left a.leaves };
+
+    ghost invariant = { λ a. AreBegun a.quads a.leaves };
 }
 
 impl<'a> Walk<'a> {
@@ -157,42 +210,80 @@ impl<'a> Walk<'a> {
         }
     }
 
-    /// A walk through a leaf, and then through others.
+    /// A walk through leaves, of which none has been entered.
     #[inline(always)]
-    pub(crate) fn of_leaves(leaf: Quads<'a>, others: Leaves<'a>) -> Walk<'a>
-        ensures { result ≡ leaf.entry ++ others.entry }
+    pub(crate) fn of_leaves(none: Quads<'a>, all: Leaves<'a>) -> Walk<'a>
+        requires { none ≡ [] }
+        ensures { result ≡ all.entry }
     {
         Walk {
-            quads: leaf,
-            leaves: Some(others),
+            quads: none,
+            leaves: Some(all),
         }
     }
 
     /// The next rows, at most four, where what the rows up to their end ask for, times the workers, on top of the carry reaches
-    /// the demand. The carry goes on past all rows before them. None where there are none.
+    /// the demand. The carry goes on past all rows before them. None where there are none. A run of sums in one node that it passes
+    /// over is counted as a node of so many keys.
     #[inline(always)]
-    pub fn next_due(&mut self, workers: u64, demand: u64, carry: &mut u64) -> Option<Quad<'a>>
+    pub fn next_due(
+        &mut self,
+        workers: u64,
+        demand: u64,
+        carry: &mut u64,
+        visits: &mut u32,
+    ) -> Option<Quad<'a>>
         requires few { workers < 2 ^ 31 }
         requires small { demand < 2 ^ 32 }
         requires low { carry.old < 2 ^ 32 }
+        requires room { visits.old < 2 ^ 30 }
         ensures due { IfSome result (λ quad. IsDue workers demand self.old quad self.new carry.old carry.new) }
         ensures some { IfSome result (λ quad. 0 < length quad) }
         ensures four { IfSome result (λ quad. length quad ≤ 4) }
         ensures none { IfNone result (IsPassed workers demand self.old [] carry.old carry.new) }
         ensures low { carry.new < 2 ^ 32 }
+        ensures counted { IfSome result (λ quad. IsCounted self.old quad self.new visits.old visits.new) }
+        ensures counted_all { IfNone result (visits.old ≤ visits.new) }
+        ensures most { IfNone result (visits.new ≤ visits.old + length self.old) }
     {
         loop {
-            if let Some(quad) = self.quads.next_due(workers, demand, carry) {
+            if let Some(quad) = self.quads.next_due(workers, demand, carry, visits) {
                 return Some(quad);
             }
             let Some(leaves) = &mut self.leaves else {
                 return None;
             };
-            let Some(leaf) = leaves.next_due(workers, demand, carry) else {
+            let Some(leaf) = leaves.next_due(workers, demand, carry, visits) else {
                 return None;
             };
             self.quads = leaf;
         }
+    }
+
+    /// The same where enough is due to all rows that are left, so that there are such rows.
+    #[inline(always)]
+    pub fn next_surely_due(
+        &mut self,
+        workers: u64,
+        demand: u64,
+        carry: &mut u64,
+        visits: &mut u32,
+    ) -> Quad<'a>
+        requires few { workers < 2 ^ 31 }
+        requires small { demand < 2 ^ 32 }
+        requires low { carry.old < demand }
+        requires due { demand ≤ carry.old + workers * requests self.old }
+        requires room { visits.old < 2 ^ 30 }
+        ensures due { IsDue workers demand self.old result self.new carry.old carry.new }
+        ensures some { 0 < length result }
+        ensures four { length result ≤ 4 }
+        ensures low { carry.new < demand }
+        ensures counted { IsCounted self.old result self.new visits.old visits.new }
+    {
+        let Some(quad) = self.next_due(workers, demand, carry, visits) else {
+            unreachable!()
+        };
+        quad
     }
 
     /// The next rows, at most four. None where there are none.
@@ -204,7 +295,8 @@ impl<'a> Walk<'a> {
         ensures four { IfSome result (λ quad. length quad ≤ 4) }
     {
         let mut carry = 0;
-        self.next_due(0, 0, &mut carry)
+        let mut visits = 0;
+        self.next_due(0, 0, &mut carry, &mut visits)
     }
 }
 
@@ -247,7 +339,7 @@ impl<'a> Span<'a> {
     pub fn walk(&self) -> Option<Walk<'a>>
         ensures none { IfNone result (self.now.0 ≡ []) }
         ensures all { IfSome result (λ rows. rows ≡ self.now.0) }
-        ensures height { self.now.1 ≡ min 4 (length self.now.0) }
+        ensures height { self.now.1 ≡ 2 * bits (length self.now.0) }
     {
         self.level.walk()
     }

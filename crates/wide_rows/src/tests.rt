@@ -140,10 +140,13 @@ fn walks_through_a_level_in_order(rt: HostRuntime) {
         panic!(&rt; "no rows");
     };
     let mut carry = 0;
-    let Some(mut quad) = walk.next_due(1, 100, &mut carry) else {
+    let mut passed = 0;
+    let Some(mut quad) = walk.next_due(1, 100, &mut carry, &mut passed) else {
         panic!(&rt; "nobody is due");
     };
     holds(&rt, 96 <= carry && carry < 100);
+    // three leaves of the newest block, three of the one before it, and a quad: 2, 2 and 1 binary digits
+    same(&rt, passed, 5);
     let mut visits = 0;
     let next = quad.next(&mut visits);
     same(

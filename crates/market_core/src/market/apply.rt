@@ -41,8 +41,8 @@ impl Market {
     }
 
     /// Does what `apply` does, but never from what the market keeps of an earlier Join, and says how many visits it made: a
-    /// node of k keys that is entered counts as many as k has binary digits, a row that a walk looks at one; the sums by
-    /// which a walk passes over rows count none. For every command but Join and Lists they are no more than four times as
+    /// node of k keys that is entered counts as many as k has binary digits, a run of k sums in one node that a walk passes
+    /// over the same, a row that it looks at one. For every command but Join and Lists they are no more than four times as
     /// many as the number of living arenas has binary digits, and one; for Lists no more than there are arenas; for Join no
     /// more than there are arenas, nor than 22 for each arena that is allotted a worker until one has too few, and for each
     /// level; where no worker may be active, twice as many as these digits more for each level. They are no fewer than one

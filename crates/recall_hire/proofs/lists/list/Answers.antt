@@ -1,6 +1,6 @@
 use Rattle.std.proofs.Common.{[], ◌++◌, refl, length-append, arith}
 use Rattle.std.proofs.lemmas.Bool.{false≢true}
-use Rattle.recall_hire.proofs.Listings.{IsReady, ListsNothing, ready-front, ready-after, none-front, none-after, walk-ends, walk-append, ready-past, none-past, fewer-past, walk-past}
+use Rattle.recall_hire.proofs.Listings.{IsReady, ListsNothing, ready-front, ready-after, none-front, none-after, walk-ends, walk-append, ready-past, none-past, walk-past}
 use Rattle.recall_hire.proofs.lists.list.Goals as goal
 
 pub list-requires-clause-shared : goal.list-requires-clause-shared
@@ -49,11 +49,12 @@ loop-quad-preserved c =
     let ready : IsReady s seats left c.next.new.carry c.loop-quad.unmet = ready-past s seats c.loop-quad.rest left c.loop-quad.carry c.next.new.carry c.loop-quad.unmet over i.ready in
     record {
       ready = ready-after s seats left quad rest c.next.new.carry c.in_ok-carry.carry c.loop-quad.unmet c.list.new.unmet refl walked.carried walked.met ready;
-      few = omega (arith, i.few, walked.once, length-append quad rest, fewer-past s seats c.loop-quad.rest left c.loop-quad.carry c.next.new.carry c.loop-quad.unmet over);
+      few = omega (arith, i.few, walked.once, c.in-Some-next.ensures.once);
       goes = λ after unmet more lists g.
           i.goes after unmet more lists
-          (walk-past s seats c.loop-quad.rest left c.loop-quad.carry c.next.new.carry c.loop-quad.unmet over after unmet c.loop-quad.visits more c.loop-quad.lists lists
-          (walk-append s seats left quad rest c.next.new.carry c.in_ok-carry.carry after c.loop-quad.unmet c.list.new.unmet unmet c.loop-quad.visits c.list.new.visits more c.loop-quad.lists c.list.new.lists lists refl walked g));
+          (walk-past s seats c.loop-quad.rest left c.loop-quad.carry c.next.new.carry c.loop-quad.unmet over after unmet c.loop-quad.visits c.next.new.visits more c.loop-quad.lists lists c.in-Some-next.ensures.counted
+          (omega (arith, c.in-Some-next.ensures.once, length-append quad rest))
+          (walk-append s seats left quad rest c.next.new.carry c.in_ok-carry.carry after c.loop-quad.unmet c.list.new.unmet unmet c.next.new.visits c.list.new.visits more c.loop-quad.lists c.list.new.lists lists refl walked g));
       nothing = λ none.
           none-after s seats left quad rest c.next.new.carry c.in_ok-carry.carry refl walked.carried
           (none-past s seats c.loop-quad.rest left c.loop-quad.carry c.next.new.carry c.loop-quad.unmet over (i.nothing none));
@@ -63,7 +64,11 @@ pub returns : goal.returns
 returns c =
     let s = c.args.sharing in
     let seats = c.args.roster.now in
-    let walked = c.loop-quad.invariant.goes c.next.new.carry c.loop-quad.unmet c.loop-quad.visits c.loop-quad.lists
-    (walk-past s seats c.loop-quad.rest [] c.loop-quad.carry c.next.new.carry c.loop-quad.unmet c.in_default-next.ensures.none c.next.new.carry c.loop-quad.unmet c.loop-quad.visits c.loop-quad.visits c.loop-quad.lists c.loop-quad.lists
-    (walk-ends s seats c.next.new.carry c.loop-quad.unmet c.loop-quad.visits c.loop-quad.visits c.loop-quad.lists [] refl refl)) in
+    let v = c.loop-quad.visits in
+    let w = c.next.new.visits in
+    let lists = c.loop-quad.lists in
+    let e = c.in_default-next.ensures in
+    let walked = c.loop-quad.invariant.goes c.next.new.carry c.loop-quad.unmet w lists
+    (walk-past s seats c.loop-quad.rest [] c.loop-quad.carry c.next.new.carry c.loop-quad.unmet e.none c.next.new.carry c.loop-quad.unmet v w w lists lists e.counted (omega (arith, e.most))
+    (walk-ends s seats c.next.new.carry c.loop-quad.unmet w w lists [] refl refl)) in
     record { listed = walked.listed; met = walked.met; looked = omega (arith, walked.looked); once = omega (arith, walked.once); succeeds = λ _. refl }

@@ -21,4 +21,17 @@ loop-left-preserved c =
       low = omega arith;
       passed = past_here c.args.workers c.args.demand (rows_of_quads a c.args.left.now) (rows_of_quads a q) (quad_rows a (q - 1)) (rows_of_quads a (q - 1)) c.args.carry.now c.loop-left.carry c.from.result _
           c.loop-left.invariant.passed last.rows_are (omega (arith, c.from.ensures, last.asks)) refl (omega arith);
+      none = c.loop-left.invariant.none;
     }
+
+pub pass_over-requires : goal.pass_over-requires
+pass_over-requires c = record { few = omega (arith, c.requires.quads.some, c.requires.quads.tidy.room); room = omega (arith, c.loop-left.invariant.none, c.requires.room) }
+
+pub returns-then-due-demand-clause-counted : goal.returns-then-due-demand-clause-counted
+returns-then-due-demand-clause-counted c = omega (arith, c.pass_over.ensures.counted, c.loop-left.invariant.none)
+
+pub pass_over-requires-2 : goal.pass_over-requires-2
+pass_over-requires-2 c = record { few = omega (arith, c.requires.quads.some, c.requires.quads.tidy.room); room = omega (arith, c.loop-left.invariant.none, c.requires.room) }
+
+pub returns-clause-counted_all : goal.returns-clause-counted_all
+returns-clause-counted_all c = omega (arith, c.pass_over-2.ensures.counted, c.loop-left.invariant.none)

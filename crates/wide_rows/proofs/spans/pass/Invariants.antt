@@ -1,4 +1,4 @@
-use Rattle.std.proofs.Common.{◌^◌, ◌<◌, ◌≤◌}
+use Rattle.std.proofs.Common.{◌≡◌, ◌^◌, ◌<◌, ◌≤◌}
 use Rattle.wide_rows.specs.Joined.{joined_below}
 use Rattle.wide_rows.specs.Shelves.{leaf_at}
 use Rattle.wide_rows.specs.Passed.{IsPassed}
@@ -9,6 +9,7 @@ invariant-loop-left l = record {
   within : l.left ≤ l.fn.left;
   low : l.carry < 2 ^ 32;
   passed : IsPassed l.workers l.demand (joined_below (leaf_at l.leaves.items) l.fn.left) (joined_below (leaf_at l.leaves.items) l.left) l.fn.carry l.carry;
+  none : l.visits ≡ l.fn.visits;
 }
 
 abbrev pub decreases-loop-left : goal.decreases-loop-left
