@@ -23,7 +23,7 @@ own = numerals_by_value _ tells_all_ascii_digits
 digit_no_space : (c : ℕ) (l : 48 ≤ c) → is_space c ≡ false
 digit_no_space c l = grind (arith, nat_tests)
 
-digits_no_space : (ds : List ℕ) → AllDigits 10 ds → All (λ x. is_space x ≡ false) ds
+pub digits_no_space : (ds : List ℕ) → AllDigits 10 ds → All (λ x. is_space x ≡ false) ds
 digits_no_space [] h = All-nil (λ x. is_space x ≡ false)
 digits_no_space (c ∷ cs) h = All-cons (λ x. is_space x ≡ false) c cs (digit_no_space c (digit_from_value c h.0).0) (digits_no_space cs h.1)
 

@@ -1,61 +1,93 @@
--- A number, read digit by digit.
-use Rattle.std.proofs.Common.{drop, add-one, drop-cons, ◌≡◌, ℕ, ◌+◌, ◌*◌, ◌<◌, ◌≤◌, ◌^◌, inl, inr, Bool, true, false, cond, ltb, List, [], ◌∷◌, length, slice_index, Option, Some, None, option_and_then, sym, ap, ◌∙◌, refl, arith, ◌&&◌}
+-- The digits with which a text begins, and the number that they write.
+use Rattle.std.proofs.Common.{drop, take, add-one, drop-cons, get_or, ◌≡◌, ℕ, ◌+◌, ◌*◌, ◌<◌, ◌≤◌, Bool, true, false, cond, eqb, List, [], ◌∷◌, length, Option, Some, None, sym, ap, ◌∙◌, refl, arith, ◌&&◌}
+use Rattle.std.specs.Prelude.{nat_lt}
 use Rattle.std.specs.Char.{is_ascii_digit, digit_value}
 use Rattle.std.specs.Str.{all_ascii_digits}
 use Rattle.std.specs.Str.Parse.{digits_value, digits_value_after}
-use Rattle.std.proofs.lemmas.Bool.{lt-ltb, le-ltb, cases_lt, and_right}
-use Rattle.std.proofs.Math.Bool.{and-true}
+use Rattle.std.proofs.lemmas.Bool.{lt-ltb, le-ltb, eqb-true, and_right}
 use Rattle.std.proofs.Math.ListN.{drop_of_length-le}
-use Rattle.market_types.specs.Fields.{digit_after}
-use Rattle.market_types.specs.Reading.{is_plain, number}
+use Rattle.market_types.specs.Fields.{behind_digits, front_digits}
+use Rattle.market_types.specs.Reading.{is_plain, number_below}
 
--- the number whose digits are those of `n` and then these
-abbrev pub digits_after : ℕ → List ℕ → Option ℕ
-digits_after n [] = Some n
-digits_after n (c ∷ cs) = option_and_then (λ m. digits_after m cs) (digit_after n c)
+-- ---- digit by digit
 
-abbrev small : Bool → ℕ → Option ℕ
-small digits n = cond (digits && ltb n (2 ^ 32)) (Some n) None
+pub digit_at : (i : ℕ) (text : List ℕ) → i < length text → is_ascii_digit (get_or text i 0) ≡ true → front_digits (drop i text) ≡ get_or text i 0 ∷ front_digits (drop (i + 1) text)
+digit_at i text l digit = rw (add-one, drop-cons text i 0, digit) refl
 
-value-grows : (n : ℕ) (cs : List ℕ) → n ≤ digits_value_after 10 n cs
+pub no_digit_at : (i : ℕ) (text : List ℕ) → i < length text → is_ascii_digit (get_or text i 0) ≡ false → front_digits (drop i text) ≡ []
+no_digit_at i text l digit = rw (drop-cons text i 0, digit) refl
+
+pub no_more : (i : ℕ) (text : List ℕ) → length text ≤ i → front_digits (drop i text) ≡ []
+no_more i text l = ap front_digits (drop_of_length-le text l)
+
+pub value-grows : (n : ℕ) (cs : List ℕ) → n ≤ digits_value_after 10 n cs
 value-grows n [] = omega arith
 value-grows n (c ∷ cs) = omega (arith, value-grows (n * 10 + digit_value c) cs)
 
-too_large : (b : Bool) (n : ℕ) → 2 ^ 32 ≤ n → None ≡ small b n
-too_large true n h = rw (le-ltb n (2 ^ 32) h) refl
-too_large false n h = refl
+pub step : (i n next : ℕ) (text : List ℕ) → front_digits (drop i text) ≡ get_or text i 0 ∷ front_digits (drop (i + 1) text) → next ≡ n * 10 + digit_value (get_or text i 0)
+    → digits_value_after 10 n (front_digits (drop i text)) ≡ digits_value_after 10 next (front_digits (drop (i + 1) text))
+step i n next text first is = ap (digits_value_after 10 n) first ∙ ap (λ m. digits_value_after 10 m (front_digits (drop (i + 1) text))) (sym is)
 
-more_digits : (next : ℕ) (cs : List ℕ) (b : Bool) → (next < 2 ^ 32 → digits_after next cs ≡ small (all_ascii_digits cs) (digits_value_after 10 next cs)) → option_and_then (λ m. digits_after m cs) (cond (b && ltb next (2 ^ 32)) (Some next) None) ≡ small (b && all_ascii_digits cs) (digits_value_after 10 next cs)
-more_digits next cs false h = refl
-more_digits next cs true h = elim (cases_lt next (2 ^ 32)) [
-  | inl l ↦ rw (lt-ltb next (2 ^ 32) l) (h l)
-  | inr l ↦ rw (le-ltb next (2 ^ 32) l) (too_large (all_ascii_digits cs) (digits_value_after 10 next cs) (omega (arith, value-grows next cs)))
-]
+pub all_read : (i n : ℕ) (text : List ℕ) → front_digits (drop i text) ≡ [] → digits_value_after 10 n (front_digits (drop i text)) ≡ digits_value 10 (front_digits text) → n ≡ digits_value 10 (front_digits text)
+all_read i n text end value = ap (digits_value_after 10 n) (sym end) ∙ value
 
--- what a number and digits give together
-pub digits_after-value : (n : ℕ) (cs : List ℕ) → n < 2 ^ 32 → digits_after n cs ≡ small (all_ascii_digits cs) (digits_value_after 10 n cs)
-digits_after-value n [] h = rw (lt-ltb n (2 ^ 32) h) refl
-digits_after-value n (c ∷ cs) h = more_digits (n * 10 + digit_value c) cs (is_ascii_digit c) (digits_after-value (n * 10 + digit_value c) cs)
+-- ---- the digits, and what follows them
 
-plain_only : (digits plain : Bool) (n : ℕ) → plain ≡ true → cond ((digits && plain) && ltb n (2 ^ 32)) (Some n) None ≡ small digits n
-plain_only digits true n h = rw (and-true digits) refl
-plain_only digits false n h = absurd (cc)
+-- what is so of the digits with which a text begins, and of what follows them
+pub record AreFront (text front behind : List ℕ) : Type 0 where
+  pub digits : all_ascii_digits front ≡ true
+  pub within : length front ≤ length text
+  pub taken : take (length front) text ≡ front
+  pub left : drop (length front) text ≡ behind
+  pub whole : [] ≡ behind → front ≡ text
+  pub part : (x : ℕ) (xs : List ℕ) → x ∷ xs ≡ behind → all_ascii_digits text ≡ false
 
--- digits with no needless 0 before them are a number
-pub number-plain : (field : List ℕ) → is_plain field ≡ true → digits_after 0 field ≡ number field
-unfolding number
-number-plain field h = digits_after-value 0 field (omega arith) ∙ sym (plain_only (all_ascii_digits field) (is_plain field) (digits_value 10 field) h)
+front-by : (digit : Bool) (b : ℕ) (text front behind : List ℕ) → is_ascii_digit b ≡ digit → AreFront text front behind → AreFront (b ∷ text) (cond digit (b ∷ front) []) (cond digit behind (b ∷ text))
+front-by true b text front behind is h = record {
+  digits = rw (is, h.digits) refl;
+  within = omega (arith, h.within);
+  taken = ap (λ xs. b ∷ xs) h.taken;
+  left = h.left;
+  whole = λ e. ap (λ xs. b ∷ xs) (h.whole e);
+  part = λ x xs e. rw (is, h.part x xs e) refl;
+}
+front-by false b text front behind is h = record { digits = refl; within = omega arith; taken = refl; left = refl; whole = λ e. absurd (cc); part = λ x xs e. rw is refl }
 
-pub number-not_plain : (field : List ℕ) → is_plain field ≡ false → None ≡ number field
-unfolding number
-number-not_plain field h = rw (and_right (all_ascii_digits field) _ h) refl
+pub are_front : (text : List ℕ) → AreFront text (front_digits text) (behind_digits text)
+are_front [] = record { digits = refl; within = omega arith; taken = refl; left = refl; whole = λ e. refl; part = λ x xs e. absurd (cc) }
+are_front (b ∷ text) = front-by (is_ascii_digit b) b text (front_digits text) (behind_digits text) refl (are_front text)
 
--- all digits are read
-pub ended : (n i : ℕ) (field : List ℕ) → length field ≤ i → digits_after n (drop i field) ≡ digits_after 0 field → Some n ≡ digits_after 0 field
-ended n i field l h = ap (digits_after n) (sym (drop_of_length-le field l)) ∙ h
+-- ---- the number that they write
 
--- the digit at `i` ends it
-pub stopped : (n i : ℕ) (field : List ℕ) → i < length field → digit_after n (slice_index field i) ≡ None → digits_after n (drop i field) ≡ digits_after 0 field → None ≡ digits_after 0 field
-stopped n i field l none h =
-    let first : digits_after n (drop i field) ≡ option_and_then (λ m. digits_after m (drop (i + 1) field)) (digit_after n (slice_index field i)) = rw (add-one, drop-cons field i 0) refl in
-    ap (option_and_then (λ m. digits_after m (drop (i + 1) field))) (sym none) ∙ sym first ∙ h
+pub no_digits : (bound : ℕ) (field : List ℕ) → all_ascii_digits field ≡ false → None ≡ number_below bound field
+no_digits bound field h = rw h refl
+
+pub not_plain : (bound : ℕ) (field : List ℕ) → is_plain field ≡ false → None ≡ number_below bound field
+not_plain bound field h = rw (and_right (all_ascii_digits field) (is_plain field) h) refl
+
+too_large-by : (is : Bool) (n bound : ℕ) → bound ≤ n → None ≡ cond {A = Option ℕ} (is && nat_lt n bound) (Some n) None
+too_large-by true n bound h = rw (le-ltb n bound h) refl
+too_large-by false n bound h = refl
+
+pub too_large : (bound : ℕ) (field : List ℕ) → bound ≤ digits_value 10 field → None ≡ number_below bound field
+too_large bound field h = too_large-by (all_ascii_digits field && is_plain field) (digits_value 10 field) bound h
+
+pub is_read : (bound : ℕ) (text : List ℕ) → is_plain (front_digits text) ≡ true → digits_value 10 (front_digits text) < bound → Some (digits_value 10 (front_digits text)) ≡ number_below bound (front_digits text)
+is_read bound text plain small = rw ((are_front text).digits, plain, lt-ltb (digits_value 10 (front_digits text)) bound small) refl
+
+-- ---- a whole field
+
+none-by : (bound : ℕ) (field rest : List ℕ) → rest ≡ behind_digits field → None ≡ number_below bound (front_digits field) → None ≡ number_below bound field
+none-by bound field [] is h = h ∙ ap (number_below bound) ((are_front field).whole is)
+none-by bound field (x ∷ xs) is h = no_digits bound field ((are_front field).part x xs is)
+
+pub of_none : (bound : ℕ) (field : List ℕ) → None ≡ number_below bound (front_digits field) → None ≡ number_below bound field
+of_none bound field h = none-by bound field (behind_digits field) refl h
+
+pub of_whole : (bound : ℕ) (field rest : List ℕ) → rest ≡ behind_digits field → eqb (length rest) 0 ≡ true → number_below bound (front_digits field) ≡ number_below bound field
+of_whole bound field [] is h = ap (number_below bound) ((are_front field).whole is)
+of_whole bound field (x ∷ xs) is h = absurd (omega (arith, eqb-true (length (x ∷ xs)) 0 h))
+
+pub of_part : (bound : ℕ) (field rest : List ℕ) → rest ≡ behind_digits field → eqb (length rest) 0 ≡ false → None ≡ number_below bound field
+of_part bound field [] is h = absurd (cc)
+of_part bound field (x ∷ xs) is h = no_digits bound field ((are_front field).part x xs is)

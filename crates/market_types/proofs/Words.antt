@@ -1,7 +1,7 @@
 -- A text that begins with a word.
 use Rattle.std.proofs.Common.{◌≡◌, ℕ, ◌+◌, ◌<◌, ◌≤◌, Bool, true, false, cond, eqb, ◌||◌, List, [], ◌∷◌, length, get_or, drop, add-one, drop-cons, Option, Some, None, option_map, sym, ap, ◌∙◌, refl, arith}
 use Rattle.std.specs.Borrow.{Bor}
-use Rattle.std.specs.List.{list_any, slice_split, onto_first}
+use Rattle.std.specs.List.{list_any, slice_split}
 use Rattle.std.specs.Prelude.{IfNone, IfSome}
 use Rattle.std.specs.Str.{bytes_eq}
 use Rattle.std.proofs.lemmas.Bool.{eqb-true}
@@ -9,6 +9,7 @@ use Rattle.std.proofs.Math.ListN.{drop_of_length-le}
 use Rattle.market_types.specs.Fields.{fields_left}
 use Rattle.market_types.specs.Reading.{is_space}
 use Rattle.market_types.specs.Cuts.{first_field, follows}
+use Rattle.market_types.proofs.Cuts.{at_end}
 
 -- ---- byte by byte
 
@@ -58,10 +59,6 @@ not_word [] [] h = absurd (cc)
 not_word [] (b ∷ text) h = no_end (is_space b) b text h
 not_word (w ∷ word) [] h = refl
 not_word (w ∷ word) (b ∷ text) h = no_word (is_space b) (eqb b w) b w word text (not_word word text) h refl
-
-at_end : (space : Bool) (b : ℕ) (text : List ℕ) (more : List (List ℕ)) → Some more ≡ cond space (Some (slice_split is_space text)) None → cond space ([] ∷ slice_split is_space text) (onto_first b (slice_split is_space text)) ≡ [] ∷ more
-at_end true b text more h = cc
-at_end false b text more h = absurd (cc)
 
 onto_word : (same : Bool) (b w : ℕ) (word text : List ℕ) (more : List (List ℕ)) → (Some more ≡ follows_word word text → slice_split is_space text ≡ word ∷ more) → Some more ≡ cond same (follows_word word text) None → eqb b w ≡ same → is_space w ≡ false → slice_split is_space (b ∷ text) ≡ (w ∷ word) ∷ more
 onto_word true b w word text more rest h e free =

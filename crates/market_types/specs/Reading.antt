@@ -75,9 +75,14 @@ is_plain field = nat_lt 0 (length field) && ((length field == 1) || not (slice_i
 abbrev pub is_number : List ℕ → Bool
 is_number field = all_ascii_digits field && is_plain field
 
+-- a number below `bound`
+abbrev pub number_below : ℕ → List ℕ → Option ℕ
+number_below bound field =
+    if is_number field && nat_lt (digits_value 10 field) bound then Some (digits_value 10 field) else None
+
 -- a number of 32 bits
 unfoldable pub number : List ℕ → Option ℕ
-number field = if is_number field && nat_lt (digits_value 10 field) (2 ^ 32) then Some (digits_value 10 field) else None
+number field = number_below (2 ^ 32) field
 
 -- the same number as a signed one of 32 bits
 abbrev pub positive : ℕ → Option ℤ

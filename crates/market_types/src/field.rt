@@ -1,12 +1,16 @@
 //! The fields of a text, and what each reads as.
-ghost use Rattle.std.specs.Prelude.{◌≡◌, ◌<◌, ◌∷◌, ◌++◌, IfNone, IfSome, None, Some, false, option_and_then, option_map};
+ghost use Rattle.std.specs.Prelude.{◌≡◌, ◌≢◌, ◌+◌, ◌*◌, ◌<◌, ◌≤◌, ◌∷◌, ◌++◌, IfNone, IfSome, None, Some, SomeIff, false, length, option_and_then, option_map, slice_index};
 ghost use Rattle.std.specs.List.{All, list_any, slice_split};
 ghost use Rattle.std.specs.Str.{bytes_eq};
-ghost use Rattle.market_types.specs.Fields.{digit_after, fields_left};
-ghost use Rattle.market_types.specs.Cuts.{cut_after, cut_of, ended, first_field, follows, later_fields};
-ghost use Rattle.market_types.specs.Reading.{in_levels, in_seats, is_plain, is_space, level, middle_level, negative, number, positive, signed};
+ghost use Rattle.std.specs.Str.Parse.{digits_value};
+ghost use Rattle.market_types.specs.Fields.{behind_digits, fields_left, front_digits};
+ghost use Rattle.market_types.specs.Cuts.{IsCut, first_field, follows};
+ghost use Rattle.market_types.specs.Reading.{in_levels, in_seats, is_plain, is_space, level, middle_level, negative, number, number_below, positive, signed};
 
 use crate::level::Level;
+
+/// The greatest number of 32 bits.
+const MOST_NUMBER: u64 = 4_294_967_295;
 
 /// The text before the first space, and the text after it.
 fn cut_space(text: &[u8]) -> Option<(&[u8], &[u8])>
@@ -33,15 +37,32 @@ pub fn cut_field(text: &[u8]) -> (&[u8], Option<&[u8]>)
     }
 }
 
-/// The number whose digits are those of `number` and then this one, where it fits.
-fn with_digit(number: u32, digit: u8) -> Option<u32>
-    ensures { result ≡ digit_after number digit }
+/// The number whose digits are those of `number` and then this one, where it is at most `most`.
+#[inline(always)]
+fn with_digit(number: u64, digit: u64, most: u64) -> Option<u64>
+    ensures { SomeIff result (number * 10 + digit ≤ most) (number * 10 + digit) }
 {
-    if !digit.is_ascii_digit() {
+    let longer = number.checked_mul(10)?.checked_add(digit)?;
+    if longer > most {
         return None;
     }
-    let longer = u64::from(number) * 10 + u64::from(digit - b'0');
-    u32::try_from(longer).ok()
+    Some(longer)
+}
+
+/// The number of at most `most` that the digits write with which a text begins, and how many they are.
+#[inline(always)]
+fn read_digits(text: &[u8], most: u64) -> Option<(u64, usize)>
+    ensures number { SomeIff (option_map (λ read. read.0) result) (digits_value 10 (front_digits text.now) ≤ most) (digits_value 10 (front_digits text.now)) }
+    ensures count { IfSome result (λ read. read.1 ≡ length (front_digits text.now)) }
+{
+    let mut number = 0;
+    for (at, byte) in text.iter().enumerate() {
+        if !byte.is_ascii_digit() {
+            return Some((number, at));
+        }
+        number = with_digit(number, u64::from(*byte - b'0'), most)?;
+    }
+    Some((number, text.len()))
 }
 
 /// The field is not empty, and begins with 0 only where that is all of it.
@@ -54,18 +75,42 @@ fn is_plain(field: &[u8]) -> bool
     field.len() == 1 || field[0] != b'0'
 }
 
+/// The number of at most `most` that the digits write with which a text begins, and what follows them. None where it begins
+/// with no digit, or with a needless 0. One pass over the digits cuts and reads them. Takes no memory.
+#[inline(always)]
+pub fn cut_digits(text: &[u8], most: u64) -> Option<(u64, &[u8])>
+    ensures number { option_map (λ cut. cut.0) result ≡ number_below (most + 1) (front_digits text.now) }
+    ensures rest { IfSome result (λ cut. cut.1.now ≡ behind_digits text.now) }
+    ensures within { IfSome result (λ cut. cut.0 ≤ most) }
+{
+    let (number, count) = read_digits(text, most)?;
+    let (digits, rest) = text.split_at(count);
+    if !is_plain(digits) {
+        return None;
+    }
+    Some((number, rest))
+}
+
+/// A number of at most `most` in decimal digits, with no needless 0 before them. None for every other field. Takes no memory.
+#[inline(always)]
+pub fn read_number_to(field: &[u8], most: u64) -> Option<u64>
+    ensures exact { result ≡ number_below (most + 1) field.now }
+    ensures within { IfSome result (λ n. n ≤ most) }
+{
+    let (number, rest) = cut_digits(field, most)?;
+    if !rest.is_empty() {
+        return None;
+    }
+    Some(number)
+}
+
 /// A number of 32 bits in decimal digits, with no needless 0 before them. None for every other field. Takes no memory.
+#[tactic(auto, unfolding(crate::specs::Reading::number))]
 pub fn read_number(field: &[u8]) -> Option<u32>
     ensures { result ≡ number field.now }
 {
-    if !is_plain(field) {
-        return None;
-    }
-    let mut number = 0;
-    for digit in field {
-        number = with_digit(number, *digit)?;
-    }
-    Some(number)
+    let number = read_number_to(field, MOST_NUMBER)?;
+    Some(number as u32)
 }
 
 /// What follows the space that the text begins with, or nothing where the text is empty. None where it goes on in other ways.
@@ -83,28 +128,10 @@ fn follows(text: &[u8]) -> Option<Option<&[u8]>>
     }
 }
 
-/// The number, where the field ends, and what follows the space that ends it.
-#[inline]
-fn ended(number: u32, text: &[u8]) -> Option<(u32, Option<&[u8]>)>
-    ensures { cut_of result ≡ ended number text.now }
-{
-    let more = follows(text)?;
-    Some((number, more))
-}
-
-/// What follows the first field's space, where that field is this word.
+/// What follows the first field's space, where that field is this word. Words are short and known where this is inlined: it
+/// compares with no call and no loop.
 #[inline(always)]
-pub(crate) fn after_word<'a>(text: &'a [u8], word: &str) -> Option<Option<&'a [u8]>>
-    requires { list_any is_space word.now ≡ false }
-    ensures none { IfNone result (bytes_eq (first_field text.now) word.now ≡ false) }
-    ensures some { IfSome result (λ more. slice_split is_space text.now ≡ word.now ∷ fields_left more) }
-{
-    after_bytes(text, word.as_bytes())
-}
-
-/// The same with the word's bytes. Words are short and known where this is inlined: it compares with no call and no loop.
-#[inline(always)]
-fn after_bytes<'a>(text: &'a [u8], word: &[u8]) -> Option<Option<&'a [u8]>>
+pub(crate) fn after_word<'a>(text: &'a [u8], word: &[u8]) -> Option<Option<&'a [u8]>>
     requires { list_any is_space word.now ≡ false }
     ensures none { IfNone result (bytes_eq (first_field text.now) word.now ≡ false) }
     ensures some { IfSome result (λ more. slice_split is_space text.now ≡ word.now ∷ fields_left more) }
@@ -120,35 +147,13 @@ fn after_bytes<'a>(text: &'a [u8], word: &[u8]) -> Option<Option<&'a [u8]>>
     follows(&text[word.len()..])
 }
 
-/// The number whose digits are those of `first` and then those up to the first space, and what follows that space.
-#[inline]
-fn cut_digits(first: u32, text: &[u8]) -> Option<(u32, Option<&[u8]>)>
-    ensures { cut_of result ≡ cut_after first text.now }
-{
-    let mut number = first;
-    for (at, digit) in text.iter().enumerate() {
-        match with_digit(number, *digit) {
-            Some(longer) => number = longer,
-            None => return ended(number, &text[at..]),
-        }
-    }
-    Some((number, None))
-}
-
-/// The number that the first field of a text is, and what follows the space that ends that field. One pass over its digits
-/// cuts the field and reads it.
+/// The number that the first field of a text is, and what follows the space that ends that field.
 pub(crate) fn cut_number(text: &[u8]) -> Option<(u32, Option<&[u8]>)>
-    ensures none { IfNone result ((slice_split is_space text.now ≡ first_field text.now ∷ later_fields text.now) × (number (first_field text.now) ≡ None)) }
-    ensures some { IfSome result (λ p. (slice_split is_space text.now ≡ first_field text.now ∷ fields_left p.1) × (number (first_field text.now) ≡ Some p.0)) }
+    ensures { IsCut number text.now result }
 {
-    let (first, more) = text.split_first()?;
-    let digit = with_digit(0, *first)?;
-    // A first 0 stands alone.
-    if digit == 0 {
-        ended(0, more)
-    } else {
-        cut_digits(digit, more)
-    }
+    let (number, rest) = cut_digits(text, MOST_NUMBER)?;
+    let more = follows(rest)?;
+    Some((number as u32, more))
 }
 
 /// A number without a sign as a signed one.
@@ -168,14 +173,24 @@ fn negative(number: u32) -> Option<i32>
     i32::try_from(-i64::from(number)).ok()
 }
 
-/// The signed number that the first field of a text is, and what follows the space that ends that field.
-#[tactic(auto, using(crate::proofs::Cuts::text_fields), unfolding(crate::specs::Reading::signed))]
-pub(crate) fn cut_signed(text: &[u8]) -> Option<(i32, Option<&[u8]>)>
-    ensures none { IfNone result ((slice_split is_space text.now ≡ first_field text.now ∷ later_fields text.now) × (signed (first_field text.now) ≡ None)) }
-    ensures some { IfSome result (λ p. (slice_split is_space text.now ≡ first_field text.now ∷ fields_left p.1) × (signed (first_field text.now) ≡ Some p.0)) }
+/// What follows the minus that a text begins with.
+#[inline]
+fn after_minus(text: &[u8]) -> Option<&[u8]>
+    ensures none { IfNone result (slice_index text.now 0 ≢ 45) }
+    ensures some { IfSome result (λ rest. text.now ≡ 45 ∷ rest.now) }
 {
-    if !text.is_empty() && text[0] == b'-' {
-        let (number, more) = cut_number(&text[1..])?;
+    match text {
+        [b'-', rest @ ..] => Some(rest),
+        _ => None,
+    }
+}
+
+/// The signed number that the first field of a text is, and what follows the space that ends that field.
+pub(crate) fn cut_signed(text: &[u8]) -> Option<(i32, Option<&[u8]>)>
+    ensures { IsCut signed text.now result }
+{
+    if let Some(digits) = after_minus(text) {
+        let (number, more) = cut_number(digits)?;
         Some((negative(number)?, more))
     } else {
         let (number, more) = cut_number(text)?;
@@ -209,10 +224,8 @@ pub fn read_level(field: &[u8], levels: u32) -> Option<Level>
 }
 
 /// The seat below the number of seats that the first field of a text is, and what follows the space that ends that field.
-#[tactic(auto, using(crate::proofs::Cuts::text_fields))]
 pub(crate) fn cut_seat(text: &[u8], seats: u8) -> Option<(u8, Option<&[u8]>)>
-    ensures none { IfNone result ((slice_split is_space text.now ≡ first_field text.now ∷ later_fields text.now) × (option_and_then (in_seats seats) (number (first_field text.now)) ≡ None)) }
-    ensures some { IfSome result (λ p. (slice_split is_space text.now ≡ first_field text.now ∷ fields_left p.1) × (option_and_then (in_seats seats) (number (first_field text.now)) ≡ Some p.0)) }
+    ensures cut { IsCut (λ field. option_and_then (in_seats seats) (number field)) text.now result }
     ensures seated { IfSome result (λ p. p.0 < seats) }
 {
     let (number, more) = cut_number(text)?;

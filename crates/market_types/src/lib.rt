@@ -18,7 +18,7 @@ mod spelling;
 mod writing;
 
 pub use command::{Call, Cmd};
-pub use field::{cut_field, read_level, read_number};
+pub use field::{cut_digits, cut_field, read_level, read_number, read_number_to};
 pub use level::Level;
 pub use lists::{Correction, Imbalance, Lists};
 pub use number::{ArenaId, ControlId, LastNumber, SeatNo};
@@ -26,4 +26,6 @@ pub use reading::{read_cmd, read_line};
 pub use reply::{ArenaView, Entry, Fault, LimitView, OpenFault, Reply};
 pub use row::Row;
 pub use spelling::{lines_spell_calls, texts_spell_commands};
-pub use writing::{cmd_text, level_text, open_fault_text, push_cmd, push_reply, reply_text};
+pub use writing::{
+    cmd_text, level_text, open_fault_text, push_cmd, push_number, push_reply, reply_text,
+};

@@ -41,10 +41,10 @@ fn read_command(text: Option<&[u8]>, levels: u32) -> Option<Cmd>
         return None;
     }
     match text[0] {
-        b'o' => read_open(after_word(text, "open")?, levels),
-        b'p' => read_priority(after_word(text, "priority")?, levels),
-        b'u' => read_uncontrol(after_word(text, "uncontrol")?),
-        b'j' => alone(Cmd::Join, after_word(text, "join")?),
+        b'o' => read_open(after_word(text, b"open")?, levels),
+        b'p' => read_priority(after_word(text, b"priority")?, levels),
+        b'u' => read_uncontrol(after_word(text, b"uncontrol")?),
+        b'j' => alone(Cmd::Join, after_word(text, b"join")?),
         b'c' => read_close_or_control(text),
         b'r' => read_request_or_resize(text),
         b's' => read_stay_or_show(text),
@@ -59,10 +59,10 @@ fn read_close_or_control(text: &[u8]) -> Option<Cmd>
     requires { slice_index text.now 0 ≡ 99 }
     ensures { (levels : ℕ) → result ≡ command_of levels (slice_split is_space text.now) }
 {
-    if let Some(more) = after_word(text, "close") {
+    if let Some(more) = after_word(text, b"close") {
         return read_close(more);
     }
-    read_control(after_word(text, "control")?)
+    read_control(after_word(text, b"control")?)
 }
 
 /// The command that a text spells whose first letter is r.
@@ -71,10 +71,10 @@ fn read_request_or_resize(text: &[u8]) -> Option<Cmd>
     requires { slice_index text.now 0 ≡ 114 }
     ensures { (levels : ℕ) → result ≡ command_of levels (slice_split is_space text.now) }
 {
-    if let Some(more) = after_word(text, "request") {
+    if let Some(more) = after_word(text, b"request") {
         return read_request(more);
     }
-    read_resize(after_word(text, "resize")?)
+    read_resize(after_word(text, b"resize")?)
 }
 
 /// The command that a text spells whose first letter is s.
@@ -83,10 +83,10 @@ fn read_stay_or_show(text: &[u8]) -> Option<Cmd>
     requires { slice_index text.now 0 ≡ 115 }
     ensures { (levels : ℕ) → result ≡ command_of levels (slice_split is_space text.now) }
 {
-    if let Some(more) = after_word(text, "stay") {
+    if let Some(more) = after_word(text, b"stay") {
         return alone(Cmd::Stay, more);
     }
-    read_show(after_word(text, "show")?)
+    read_show(after_word(text, b"show")?)
 }
 
 /// The command that a text spells whose first letter is l.
@@ -95,13 +95,13 @@ fn read_leave_lists_or_limit(text: &[u8]) -> Option<Cmd>
     requires { slice_index text.now 0 ≡ 108 }
     ensures { (levels : ℕ) → result ≡ command_of levels (slice_split is_space text.now) }
 {
-    if let Some(more) = after_word(text, "leave") {
+    if let Some(more) = after_word(text, b"leave") {
         return alone(Cmd::Leave, more);
     }
-    if let Some(more) = after_word(text, "lists") {
+    if let Some(more) = after_word(text, b"lists") {
         return alone(Cmd::Lists, more);
     }
-    alone(Cmd::Limit, after_word(text, "limit")?)
+    alone(Cmd::Limit, after_word(text, b"limit")?)
 }
 
 /// The command, where no field follows.

@@ -294,7 +294,7 @@ fn push_count(out: &mut Vec<u8>, arena: Imbalance) -> Result<(), AllocError>
     ensures ok { OnOk result (out.new.items ≡ out.old.items ++ count_text (arena.arena, arena.count)) }
     ensures grows { Extends out.old.items out.new.items }
 {
-    push_number(out, arena.arena.get())?;
+    push_decimal(out, arena.arena.get())?;
     push_part(out, ":", arena.count)
 }
 
@@ -327,7 +327,7 @@ fn push_part(out: &mut Vec<u8>, label: &str, number: u32) -> Result<(), AllocErr
     ensures grows { Extends out.old.items out.new.items }
 {
     push_text(out, label)?;
-    push_number(out, number)
+    push_decimal(out, number)
 }
 
 /// A space and a word.
@@ -352,10 +352,21 @@ fn push_signed(out: &mut Vec<u8>, number: i32) -> Result<(), AllocError>
     }
 }
 
+/// Writes a number in decimal behind what `out` holds. `Err` says that memory ran out, and leaves `out` as it was.
+#[inline(always)]
+pub fn push_number(out: &mut Vec<u8>, number: u32) -> Result<(), AllocError>
+    ensures ok { OnOk result (out.new.items ≡ out.old.items ++ decimal number) }
+    ensures err { OnErr result (out.new.items ≡ out.old.items) }
+    ensures utf8 { IsUtf8 out.old.items → IsUtf8 out.new.items }
+{
+    push_decimal(out, number)
+}
+
 /// A number in decimal. Nearly all numbers are short, and these need no buffer and no call.
 #[inline(always)]
-fn push_number(out: &mut Vec<u8>, number: u32) -> Result<(), AllocError>
+fn push_decimal(out: &mut Vec<u8>, number: u32) -> Result<(), AllocError>
     ensures ok { OnOk result (out.new.items ≡ out.old.items ++ decimal number) }
+    ensures err { OnErr result (out.new.items ≡ out.old.items) }
     ensures grows { Extends out.old.items out.new.items }
 {
     if number < 10 {
@@ -372,6 +383,7 @@ fn push_number(out: &mut Vec<u8>, number: u32) -> Result<(), AllocError>
 fn push_long(out: &mut Vec<u8>, number: u32) -> Result<(), AllocError>
     requires { 100 ≤ number }
     ensures ok { OnOk result (out.new.items ≡ out.old.items ++ decimal number) }
+    ensures err { OnErr result (out.new.items ≡ out.old.items) }
     ensures grows { Extends out.old.items out.new.items }
 {
     if number < 1000 {
@@ -388,6 +400,7 @@ fn push_long(out: &mut Vec<u8>, number: u32) -> Result<(), AllocError>
 #[inline(never)]
 fn push_buffered(out: &mut Vec<u8>, number: u32) -> Result<(), AllocError>
     ensures ok { OnOk result (out.new.items ≡ out.old.items ++ decimal number) }
+    ensures err { OnErr result (out.new.items ≡ out.old.items) }
     ensures grows { Extends out.old.items out.new.items }
 {
     let mut digits = Buffer::new();
@@ -407,6 +420,7 @@ fn digit(number: u32) -> u8
 fn push_digits(out: &mut Vec<u8>, digits: &[u8]) -> Result<(), AllocError>
     requires { IsUtf8 digits.now }
     ensures ok { OnOk result (out.new.items ≡ out.old.items ++ digits.now) }
+    ensures err { OnErr result (out.new.items ≡ out.old.items) }
     ensures grows { Extends out.old.items out.new.items }
 {
     out.extend_from_slice(digits)
@@ -416,6 +430,7 @@ fn push_digits(out: &mut Vec<u8>, digits: &[u8]) -> Result<(), AllocError>
 #[inline(always)]
 fn push_text(out: &mut Vec<u8>, text: &str) -> Result<(), AllocError>
     ensures ok { OnOk result (out.new.items ≡ out.old.items ++ text.now) }
+    ensures err { OnErr result (out.new.items ≡ out.old.items) }
     ensures grows { Extends out.old.items out.new.items }
 {
     out.extend_from_slice(text.as_bytes())

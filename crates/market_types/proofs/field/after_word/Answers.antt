@@ -3,7 +3,7 @@ use Rattle.std.proofs.lemmas.Bool.{ne_eqb}
 use Rattle.std.proofs.lemmas.List.{take_rest}
 use Rattle.market_types.specs.Cuts.{follows}
 use Rattle.market_types.proofs.Words.{Follows, shorter, other_byte, whole_word, not_word, follows-none, follows-some}
-use Rattle.market_types.proofs.field.after_bytes.Goals as goal
+use Rattle.market_types.proofs.field.after_word.Goals as goal
 
 pub returns-then-text-word-clause-none : goal.returns-then-text-word-clause-none
 returns-then-text-word-clause-none c = not_word c.args.word.now c.args.text.now (shorter c.args.word.now c.args.text.now c.if-text-word.true)
