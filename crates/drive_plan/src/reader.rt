@@ -90,35 +90,23 @@ impl Progress {
         }
     }
 
-    /// After one line more, which has this number.
-    fn after_line(
-        self,
-        alloc: Global,
-        line: &[u8],
-        form: LineForm,
-        number: u64,
-    ) -> Result<Progress, AllocError>
-        ensures { IfOk result (λ progress. progress ≡ after_line self (record { bytes = line.now; form = form }) number) }
+    /// After one line more that is not too long, which has this number.
+    fn after_line(self, alloc: Global, line: &[u8], number: u64) -> Result<Progress, AllocError>
+        ensures { IfOk result (λ progress. progress ≡ after_line self (record { bytes = line.now; form = LineForm.Whole }) number) }
     {
         if is_passed_over(line) {
             return Ok(self);
         }
-        if form == LineForm::TooLong {
-            return Ok(self.stop(number));
-        }
         self.after_text(alloc, line, number)
     }
 
-    /// After one line more, where it is a job that the plan of the lines before may have: whether it is. The plan stays where it
-    /// is. Else nothing is changed.
-    fn take_job(&mut self, line: &[u8], form: LineForm) -> Result<bool, AllocError>
-        ensures taken { IfOk result (λ taken. taken ≡ true → (number : ℕ) → self.new ≡ after_line self.old (record { bytes = line.now; form = form }) number) }
+    /// After one line more that is not too long, where it is a job that the plan of the lines before may have: whether it is. The
+    /// plan stays where it is. Else nothing is changed.
+    fn take_job(&mut self, line: &[u8]) -> Result<bool, AllocError>
+        ensures taken { IfOk result (λ taken. taken ≡ true → (number : ℕ) → self.new ≡ after_line self.old (record { bytes = line.now; form = LineForm.Whole }) number) }
         ensures left { IfOk result (λ taken. taken ≡ false → self.new ≡ self.old) }
         ensures unchanged { OnErr result (self.new ≡ self.old) }
     {
-        if matches!(form, LineForm::TooLong) {
-            return Ok(false);
-        }
         let Progress::Planned(plan) = self else {
             return Ok(false);
         };
@@ -129,13 +117,21 @@ impl Progress {
         plan.push_job(job)
     }
 
-    /// After a line that does not fit, which has this number.
-    fn stop(self, number: u64) -> Progress
-        ensures { result ≡ stopped self number }
+    /// Takes a line that is too long, which has this number: it fits only where it is passed over.
+    fn take_long(&mut self, line: &[u8], number: u64)
+        ensures { self.new ≡ after_line self.old (record { bytes = line.now; form = LineForm.TooLong }) number }
     {
-        match self {
-            Progress::Bad(first) => Progress::Bad(first),
-            _ => Progress::Bad(number),
+        if !is_passed_over(line) {
+            self.stop(number);
+        }
+    }
+
+    /// Takes a line that does not fit, which has this number.
+    fn stop(&mut self, number: u64)
+        ensures { self.new ≡ stopped self.old number }
+    {
+        if !matches!(self, Progress::Bad(_)) {
+            *self = Progress::Bad(number);
         }
     }
 
@@ -181,12 +177,12 @@ impl Reader {
     // Apart, since each line would else make room for all that is needed here.
     #[cold]
     #[inline(never)]
-    fn take_other(&mut self, line: &[u8], form: LineForm) -> Result<(), AllocError>
-        ensures progress { OnOk result (self.new.progress ≡ after_line self.old.progress (record { bytes = line.now; form = form }) self.old.lines) }
+    fn take_other(&mut self, line: &[u8]) -> Result<(), AllocError>
+        ensures progress { OnOk result (self.new.progress ≡ after_line self.old.progress (record { bytes = line.now; form = LineForm.Whole }) self.old.lines) }
         ensures lines { OnOk result (self.new.lines ≡ self.old.lines) }
     {
         let progress = mem::replace(&mut self.progress, Progress::Unopened);
-        self.progress = progress.after_line(self.alloc, line, form, self.lines)?;
+        self.progress = progress.after_line(self.alloc, line, self.lines)?;
         Ok(())
     }
 }
@@ -228,10 +224,14 @@ impl LineTaker for Reader {
         _replies: &mut Vec<u8>,
     ) -> Result<(), AllocError> {
         self.lines += 1;
-        if self.progress.take_job(line, form)? {
+        if form == LineForm::TooLong {
+            self.progress.take_long(line, self.lines);
             return Ok(());
         }
-        self.take_other(line, form)
+        if self.progress.take_job(line)? {
+            return Ok(());
+        }
+        self.take_other(line)
     }
 }
 
