@@ -1,29 +1,16 @@
 -- A task whose argument is all that is left of its line.
-use Rattle.std.proofs.Common.{◌≡◌, ◌≢◌, ◌≤◌, ℕ, Bool, true, false, List, [], ◌∷◌, ◌++◌, None, option_map, sym, ap, ◌∙◌, refl, subst, arith, codes}
-use Rattle.std.specs.List.{All, slice_split, join_with_byte}
+use Rattle.std.proofs.Common.{◌≡◌, ◌≢◌, ℕ, Bool, true, false, List, [], ◌∷◌, ◌++◌, None, option_map, sym, ap, ◌∙◌, refl, subst, codes}
+use Rattle.std.specs.List.{slice_split, join_with_byte}
 use Rattle.std.specs.Str.{all_ascii_digits, bytes_eq}
-use Rattle.std.specs.Str.Parse.{AllDigits, digits_value}
-use Rattle.std.proofs.lemmas.Bool.Decides.{nat_tests}
-use Rattle.std.proofs.lemmas.List.Elements.{All-nil, All-cons}
 use Rattle.std.proofs.lemmas.List.Splits.{slice_split_none, join_with_byte-slice_split}
 use Rattle.std.proofs.lemmas.Slice.Eq.{bytes_eq-Decides}
-use Rattle.std.proofs.lemmas.Str.Parse.{IsNumeralModel, numerals_by_value, tells_all_ascii_digits, digit_from_value}
 use Rattle.market_types.specs.Reading.{is_space, number}
+use Rattle.market_types.proofs.Decimals.{digits_no_space, own}
 use Rattle.drive_plan.specs.declared.task.Task.TheVariants.{Sum, Digits}
 use Rattle.drive_plan.specs.Reading.{number_in, long_number, task_of}
 use Rattle.drive_plan.specs.Tasks.{task_left}
 
 -- ---- digits are one field
-
-own : IsNumeralModel (λ ds. all_ascii_digits ds ≡ true) (digits_value 10)
-own = numerals_by_value _ tells_all_ascii_digits
-
-no_space : (c : ℕ) (l : 48 ≤ c) → is_space c ≡ false
-no_space c l = grind (arith, nat_tests)
-
-digits_no_space : (ds : List ℕ) → AllDigits 10 ds → All (λ x. is_space x ≡ false) ds
-digits_no_space [] h = All-nil (λ x. is_space x ≡ false)
-digits_no_space (c ∷ cs) h = All-cons (λ x. is_space x ≡ false) c cs (no_space c (digit_from_value c h.0).0) (digits_no_space cs h.1)
 
 one_field : (field : List ℕ) → all_ascii_digits field ≡ true → slice_split is_space field ≡ field ∷ []
 one_field field h = slice_split_none is_space field (digits_no_space field (own.to field h))

@@ -2,7 +2,6 @@ pub mod Values
 pub mod Outcome
 pub mod Gathering
 pub mod Reading
-pub mod Digits
 pub mod Tasks
 pub mod Plans
 pub mod Format

@@ -1,9 +1,8 @@
 -- What the lines of a plan say (own). Fields are separated by exactly one space; numbers and levels are those of scripts.
-use Rattle.std.specs.Prelude.{ℕ, ◌^◌, ◌&&◌, List, [], ◌∷◌, nat_lt, nat_le, if◌then◌else◌, Option, Some, None, option_map, option_and_then, codes}
+use Rattle.std.specs.Prelude.{ℕ, ◌^◌, ◌&&◌, List, [], ◌∷◌, nat_le, if◌then◌else◌, Option, Some, None, option_map, option_and_then, codes}
 use Rattle.std.specs.Str.{bytes_eq}
-use Rattle.std.specs.Str.Parse.{digits_value}
 use Rattle.std.specs.List.{slice_split}
-use Rattle.market_types.specs.Reading.{is_number, is_space, level, number}
+use Rattle.market_types.specs.Reading.{is_space, level, number, number_below}
 use Rattle.drive_plan.specs.declared.task.Task.{Task}
 use Rattle.drive_plan.specs.declared.task.Task.TheVariants.{Sum, Digits}
 use Rattle.drive_plan.specs.declared.line.PlanLine.{PlanLine}
@@ -20,7 +19,7 @@ number_in least most field = option_and_then (within least most) (number field)
 
 -- a number of 64 bits
 unfoldable pub long_number : List ℕ → Option ℕ
-long_number field = if is_number field && nat_lt (digits_value 10 field) (2 ^ 64) then Some (digits_value 10 field) else None
+long_number field = number_below (2 ^ 64) field
 
 -- a level of a market that has so many
 abbrev pub level_in : ℕ → List ℕ → Option ℕ

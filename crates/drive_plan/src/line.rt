@@ -2,16 +2,15 @@
 ghost use Rattle.std.specs.Prelude.{◌≡◌, ◌≢◌, ◌≤◌, ◌++◌, ℕ, List, Some, false, IfNone, IfSome, codes, option_map};
 ghost use Rattle.std.specs.List.{slice_split};
 ghost use Rattle.market_types.specs.Fields.{fields_left};
-ghost use Rattle.market_types.specs.Reading.{is_plain, is_space};
+ghost use Rattle.market_types.specs.Reading.{is_space};
 ghost use Rattle.drive_plan.specs.Format.{is_passed_over};
-ghost use Rattle.drive_plan.specs.Digits.{digit_after};
 ghost use Rattle.drive_plan.specs.Plans.{FitsJob, FitsLine};
-ghost use Rattle.drive_plan.specs.Reading.{alone, arena_line, arena_wanted, control_line, job_line, level_in, line_of, long_number, market_line, number_in};
+ghost use Rattle.drive_plan.specs.Reading.{alone, arena_line, arena_wanted, control_line, job_line, level_in, line_of, market_line, number_in};
 ghost use Rattle.drive_plan.specs.Tasks.{task_left};
 
 use crate::plan::PlannedArena;
 use crate::task::{PlannedJob, Task};
-use market_types::{ArenaId, Level, cut_field, read_level, read_number};
+use market_types::{ArenaId, Level, cut_field, read_level, read_number, read_number_to};
 
 /// The most of a number of workers: a hard limit, slots, and what an arena asks for.
 const MOST_WORKERS: u32 = 65_535;
@@ -40,40 +39,6 @@ fn read_in(field: &[u8], least: u32, most: u32) -> Option<u32>
     let number = read_number(field)?;
     if number < least || number > most {
         return None;
-    }
-    Some(number)
-}
-
-/// The number of 64 bits whose digits are those of `number` and then this one, where it fits.
-fn with_digit(number: u64, digit: u8) -> Option<u64>
-    ensures { result ≡ digit_after number digit }
-{
-    if !digit.is_ascii_digit() {
-        return None;
-    }
-    number.checked_mul(10)?.checked_add(u64::from(digit - b'0'))
-}
-
-/// The field is not empty, and begins with 0 only where that is all of it.
-fn is_plain(field: &[u8]) -> bool
-    ensures { result ≡ is_plain field.now }
-{
-    if field.is_empty() {
-        return false;
-    }
-    field.len() == 1 || field[0] != b'0'
-}
-
-/// A number of 64 bits, in one pass over its digits.
-fn read_long_number(field: &[u8]) -> Option<u64>
-    ensures { result ≡ long_number field.now }
-{
-    if !is_plain(field) {
-        return None;
-    }
-    let mut number = 0;
-    for digit in field {
-        number = with_digit(number, *digit)?;
     }
     Some(number)
 }
@@ -198,7 +163,7 @@ fn read_task(text: &[u8]) -> Option<Task>
         return Some(Task::Sum(read_in(argument, 0, MOST_ADDED)?));
     }
     let argument = after_digits(text)?;
-    Some(Task::Digits(read_long_number(argument)?))
+    Some(Task::Digits(read_number_to(argument, u64::MAX)?))
 }
 
 /// The job of a line, after its word.

@@ -1,5 +1,6 @@
 use Rattle.std.proofs.Common.{◌∙◌, ap, option_map}
 use Rattle.drive_plan.specs.declared.task.Task.TheVariants.{Sum, Digits}
+use Rattle.drive_plan.specs.Reading.{long_number}
 use Rattle.drive_plan.proofs.Tasks.{sum_left, digits_left, other_word}
 use Rattle.drive_plan.proofs.line.read_task.Goals as goal
 
@@ -15,11 +16,13 @@ pub returns-in_err-argument : goal.returns-in_err-argument
 returns-in_err-argument c =
     c.from_residual-in_err-argument.ensures ∙ other_word c.args.text.now c.in_default.ensures.none c.in_err-argument.ensures.none
 
-pub returns-in_err-read_long_number : goal.returns-in_err-read_long_number
-returns-in_err-read_long_number c =
-    c.from_residual-in_err-read_long_number.ensures
-    ∙ ap (option_map (λ n. Digits n)) c.in_err-read_long_number.ensures ∙ digits_left c.args.text.now c.in_ok-argument.argument.now c.in_ok-argument.ensures.some
+pub returns-in_err-read_number_to : goal.returns-in_err-read_number_to
+unfolding long_number
+returns-in_err-read_number_to c =
+    c.from_residual-in_err-read_number_to.ensures
+    ∙ ap (option_map (λ n. Digits n)) c.in_err-read_number_to.ensures.exact ∙ digits_left c.args.text.now c.in_ok-argument.argument.now c.in_ok-argument.ensures.some
 
 pub returns : goal.returns
+unfolding long_number
 returns c =
-    ap (option_map (λ n. Digits n)) c.in_ok-read_long_number.ensures ∙ digits_left c.args.text.now c.in_ok-argument.argument.now c.in_ok-argument.ensures.some
+    ap (option_map (λ n. Digits n)) c.in_ok-read_number_to.ensures.exact ∙ digits_left c.args.text.now c.in_ok-argument.argument.now c.in_ok-argument.ensures.some
