@@ -13,7 +13,7 @@ ghost use Rattle.journal_replay.specs.Plain.{are_plain, is_plain};
 ghost use Rattle.journal_replay.specs.Reading.{json_of};
 
 use crate::fields::{Fields, Member};
-use market_types::read_number;
+use market_types::cut_digits;
 use memchr::memchr;
 
 /// The byte stands in a text as it is.
@@ -120,18 +120,6 @@ fn cut_text(text: &[u8]) -> Option<(&[u8], &[u8])>
     cut_plain(rest)
 }
 
-/// How many digits a text begins with.
-fn count_digits(text: &[u8]) -> usize
-    ensures { result ≤ length text.now }
-{
-    for (at, byte) in text.iter().enumerate() {
-        if !byte.is_ascii_digit() {
-            return at;
-        }
-    }
-    text.len()
-}
-
 /// Whether a number may end before this text: at white space, a comma or a brace.
 fn ends_number(text: &[u8]) -> bool
     ensures { OnTrue result (ends_word text.now ≡ true) }
@@ -147,13 +135,11 @@ fn cut_whole(text: &[u8]) -> Option<(u32, &[u8])>
     ensures cut { IfSome result (λ cut. IsCut text.now cut.1.now (token (number (decimal cut.0)) ∷ [])) }
     ensures counted { IfSome result (λ cut. cut.0 < 2 ^ 64) }
 {
-    let text = skip_space(text);
-    let (digits, rest) = text.split_at(count_digits(text));
-    let number = read_number(digits)?;
+    let (number, rest) = cut_digits(skip_space(text), u64::from(u32::MAX))?;
     if !ends_number(rest) {
         return None;
     }
-    Some((number, rest))
+    Some((number as u32, rest))
 }
 
 /// The member with which the text begins, and what follows it.

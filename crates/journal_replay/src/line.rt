@@ -1,11 +1,10 @@
 //! The lines of a journal: the header's without its LF, an entry's with it, written where it is to stand.
-ghost use Rattle.std.specs.Prelude.{◌≡◌, ◌++◌, codes, decimal, IfOk, OnOk};
+ghost use Rattle.std.specs.Prelude.{◌≡◌, ◌++◌, codes, IfOk, OnOk};
 ghost use Rattle.serde_json.specs.View.{view};
 ghost use Rattle.journal_replay.specs.Journal.{entry_line, header_line, second_data, second_line, third_data, third_line};
 
 use crate::header::Header;
-use itoa::Buffer;
-use market_types::{Entry, SeatNo, push_cmd, push_reply};
+use market_types::{Entry, push_cmd, push_number, push_reply};
 use serde_json::{Value, json};
 use std::alloc::{AllocError, Global};
 
@@ -53,21 +52,6 @@ fn third_value(alloc: Global, header: &Header) -> Result<Value, AllocError>
     json!(in alloc; {"base": base, "hard": hard, "journal": 3u64, "last": last, "levels": levels, "seats": seats})
 }
 
-/// A seat's number in decimal.
-#[tactic(auto, using(std::proofs::lemmas::Fmt::decimal_digit))]
-fn push_seat(waiting: &mut Vec<u8>, seat: SeatNo) -> Result<(), AllocError>
-    ensures { OnOk result (waiting.new.items ≡ waiting.old.items ++ decimal seat) }
-{
-    let number = seat.get();
-    if number < 10 {
-        // Most seats have one digit, which needs no buffer.
-        waiting.push(b'0' + number)?;
-        return Ok(());
-    }
-    let mut digits = Buffer::new();
-    waiting.extend_from_slice(digits.format(number).as_bytes())
-}
-
 /// Puts an entry's line and its LF at the end of what waits, in a market of so many levels. What is written of commands and
 /// replies stands in a JSON string as it is: so it is written where it is to stand, and not looked over for escapes.
 pub(crate) fn push_entry(
@@ -82,6 +66,6 @@ pub(crate) fn push_entry(
     waiting.extend_from_slice(b"\",\"reply\":\"")?;
     push_reply(waiting, &entry.reply)?;
     waiting.extend_from_slice(b"\",\"seat\":")?;
-    push_seat(waiting, entry.call.seat)?;
+    push_number(waiting, u32::from(entry.call.seat.get()))?;
     waiting.extend_from_slice(b"}\n")
 }
