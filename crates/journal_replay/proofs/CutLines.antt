@@ -5,11 +5,9 @@ use Rattle.std.proofs.lemmas.List.{take-append-drop}
 use Rattle.std.proofs.lemmas.Bool.{false≢true}
 use Rattle.std.proofs.lemmas.Bool.Decides.{nat_tests}
 use Rattle.std.proofs.lemmas.Str.{IsUtf8-append, IsUtf8-nil}
-use Rattle.json.specs.Text.{content, plain}
 use Rattle.json.specs.Token.{Token, begin_object, end_object, string, number}
 use Rattle.json.specs.Word.{ends_word, is_operator}
-use Rattle.json.specs.Lex.{Lexeme, token, comma, colon, Place, fresh, after_value, after_comma, after_key, begins_colon, may_begin, quote, backslash, operator, space, other, class, operator_lexeme, string_token, between, in_string, lex, lex_byte, punctuate, tokens}
-use Rattle.json.proofs.Printed.Strings.{content-escape, lex-escape}
+use Rattle.json.specs.Lex.{Lexeme, token, comma, colon, Place, fresh, after_value, after_comma, after_key, begins_colon, may_begin, quote, backslash, operator, space, other, class, operator_lexeme, between, lex, lex_byte, punctuate, tokens}
 use Rattle.json.proofs.Printed.Numbers.{lex-number}
 use Rattle.json.proofs.Printed.Decimals.{IsNumber-decimal}
 use Rattle.json.proofs.Printed.Utf8.{are_ascii, IsUtf8-are_ascii}
@@ -22,8 +20,9 @@ use Rattle.journal_replay.specs.Members.{CutsMember, member_lexemes, member_toke
 use Rattle.journal_replay.specs.Journal.{entry_data, fields_line}
 use Rattle.journal_replay.specs.Plain.{are_plain}
 use Rattle.journal_replay.specs.Reading.{json_of}
+use Rattle.journal_replay.proofs.Inside.{cut-string, inside-plain}
 use Rattle.journal_replay.proofs.Json.{json-read}
-use Rattle.journal_replay.proofs.PlainTexts.{ascii-append, ascii-plain, escape-plain, fields-plain}
+use Rattle.journal_replay.proofs.PlainTexts.{ascii-plain, fields-plain}
 use Rattle.journal_replay.proofs.PlainWritten.{plain-decimal}
 use Rattle.journal_replay.proofs.ReadMembers.{Goes, goes-first, goes-last, goes-more}
 use Rattle.market_types.specs.Reading.{number as number_of}
@@ -86,17 +85,8 @@ cut-operator x rest is =
     cut-front (x ∷ []) rest (operator_lexeme x ∷ []) (rw (operator-ascii x (operator-by _ _ _ _ is)) refl) (ap (λ c. lex_byte between c x rest (λ next. lex next rest)) is)
 
 -- a plain text in quotes is a string
-lex-plain : (text rest : List ℕ) → are_plain text ≡ true → lex between (34 ∷ (text ++ 34 ∷ rest)) ≡ token (string text) ∷ lex between rest
-unfolding lex
-lex-plain text rest is =
-    ap (λ xs. token (string_token (content plain xs)) ∷ lex in_string xs) (ap (λ xs. xs ++ 34 ∷ rest) (sym (escape-plain text is)))
-    ∙ rw (content-escape text rest, lex-escape text rest) refl
-
 pub cut-text : (text rest : List ℕ) → are_plain text ≡ true → IsCut (34 ∷ (text ++ 34 ∷ rest)) rest (token (string text) ∷ [])
-cut-text text rest is =
-    let whole : 34 ∷ (text ++ 34 ∷ rest) ≡ (34 ∷ (text ++ 34 ∷ [])) ++ rest = ap (λ xs. 34 ∷ xs) (sym (append_assoc text (34 ∷ []) rest)) in
-    cut-same (34 ∷ (text ++ 34 ∷ rest)) ((34 ∷ (text ++ 34 ∷ [])) ++ rest) rest (token (string text) ∷ []) whole
-    (cut-front (34 ∷ (text ++ 34 ∷ [])) rest (token (string text) ∷ []) (ascii-append text (34 ∷ []) (ascii-plain text is) refl) (ap (lex between) (sym whole) ∙ lex-plain text rest is))
+cut-text text rest is = cut-string (text ++ 34 ∷ rest) rest text (inside-plain text (34 ∷ rest) is)
 
 -- a number before what ends it
 cut-decimal : (n : ℕ) (rest : List ℕ) → n < 2 ^ 64 → ends_word rest ≡ true → IsCut (decimal n ++ rest) rest (token (number (decimal n)) ∷ [])

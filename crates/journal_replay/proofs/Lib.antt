@@ -10,4 +10,5 @@ mod PlainTexts
 mod PlainWritten
 mod PushedEntries
 mod ReadMembers
+mod Inside
 mod CutLines

@@ -1,5 +1,5 @@
 -- What an object is whose members are an entry's, by its tokens.
-use Rattle.std.proofs.Common.{◌≡◌, ◌<◌, ◌≤◌, List, [], ◌∷◌, ◌++◌, length, codes, decimal, Some, option_and_then, option_map, append-nil, refl, sym, ap, ◌∙◌, arith}
+use Rattle.std.proofs.Common.{◌≡◌, ◌≤◌, List, [], ◌∷◌, ◌++◌, codes, decimal, Some, option_and_then, option_map, append-nil, refl, sym, ap, ◌∙◌, arith}
 use Rattle.std.specs.Prelude.{⊤}
 use Rattle.json.specs.Token.{Token, begin_object, end_object}
 use Rattle.json.specs.Json as json
@@ -84,9 +84,3 @@ goes-more m all left more found found' goes cut counted made = record {
 
 pub goes-last : (all left : List Token) (found : Members) → Goes all left found → left ≡ end_object ∷ [] → data_of all ≡ Some (object found)
 goes-last all left found goes is = goes.on [] tt is
-
--- a member has tokens
-pub shorter : (m : Member) (before after : List Token) → before ≡ member_tokens m ++ after → length after < length before
-shorter (Cmd text) before after is = omega (arith, ap length is)
-shorter (Reply text) before after is = omega (arith, ap length is)
-shorter (Seat seat) before after is = omega (arith, ap length is)

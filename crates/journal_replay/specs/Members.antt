@@ -56,13 +56,6 @@ if_cmd (Some text) ms = member (codes "cmd") (string text.now) ms
 abbrev pub members_of : Fields → Members
 members_of f = if_cmd f.cmd (if_reply f.reply (if_seat f.seat))
 
--- the tokens begin with a member, which the object has besides
-pub record TakesMember (before after : List Token) (found found' : Members) : Type 0 where
-  pub next : Member
-  pub tokens : before ≡ member_tokens next ++ after
-  pub counted : IsCounted next
-  pub made : found' ≡ with_member next found
-
 -- a member is cut from the front of a text, behind these lexemes, and the object has it besides
 pub record CutsMember (before : List Lexeme) (text rest : List ℕ) (found found' : Members) : Type 0 where
   pub next : Member

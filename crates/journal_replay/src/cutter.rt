@@ -1,7 +1,7 @@
-//! Lines whose texts stand in them as they are, cut member by member. At each place what is written here is tried first, and only
-//! where it is missing white space is passed over: so a line that is spelled as ours is told by its places, and one that another
-//! tool wrote as soon as the two differ. What is cut is proved to be what the lexer of JSON finds there.
-ghost use Rattle.std.specs.Prelude.{◌≡◌, ◌<◌, ◌≤◌, ◌^◌, ◌++◌, ◌∷◌, [], true, length, Some, IfSome, decimal};
+//! Lines cut member by member. At each place what is written here is tried first, and only where it is missing white space is passed
+//! over: so a line that is spelled as ours is told by its places, and one that another tool wrote as soon as the two differ. What is
+//! cut is proved to be what the lexer of JSON finds there.
+ghost use Rattle.std.specs.Prelude.{◌≡◌, ◌<◌, ◌^◌, ◌++◌, ◌∷◌, [], true, length, Some, IfSome, decimal};
 ghost use Rattle.std.specs.Bool.{OnTrue};
 ghost use Rattle.json.specs.Lex.{class, comma, operator, operator_lexeme, space, token};
 ghost use Rattle.json.specs.Token.{begin_object, number, string};
@@ -9,52 +9,11 @@ ghost use Rattle.json.specs.Word.{ends_word};
 ghost use Rattle.serde_json.specs.Data.{object};
 ghost use Rattle.journal_replay.specs.Cuts.{IsCut};
 ghost use Rattle.journal_replay.specs.Members.{CutsMember, IsCounted, member_lexemes, members_of};
-ghost use Rattle.journal_replay.specs.Plain.{are_plain, is_plain};
 ghost use Rattle.journal_replay.specs.Reading.{json_of};
 
 use crate::fields::{Fields, Member};
+use crate::texts::{Texts, behind, cut_quoted};
 use market_types::cut_digits;
-use memchr::memchr;
-
-/// The byte stands in a text as it is.
-#[inline(always)]
-fn is_plain(byte: u8) -> bool
-    ensures { result ≡ is_plain byte }
-{
-    (byte >= 32) & (byte < 127) & (byte != b'"') & (byte != b'\\')
-}
-
-/// Each byte does. It looks at all of them, so that several are looked at at a time.
-fn are_plain(text: &[u8]) -> bool
-    ensures { result ≡ are_plain text.now }
-{
-    let mut plain = true;
-    for byte in text {
-        plain &= is_plain(*byte);
-    }
-    plain
-}
-
-/// The plain text before the first quote, and what follows the quote.
-#[inline(always)]
-fn cut_plain(text: &[u8]) -> Option<(&[u8], &[u8])>
-    ensures cut { IfSome result (λ cut. text.now ≡ cut.0.now ++ 34 ∷ cut.1.now) }
-    ensures plain { IfSome result (λ cut. are_plain cut.0.now ≡ true) }
-{
-    let at = memchr(b'"', text)?;
-    if !are_plain(&text[..at]) {
-        return None;
-    }
-    Some((&text[..at], &text[at + 1..]))
-}
-
-/// What follows a label.
-#[inline(always)]
-fn behind<'a>(text: &'a [u8], label: &[u8]) -> Option<&'a [u8]>
-    ensures { IfSome result (λ rest. text.entry.now ≡ label.now ++ rest.now) }
-{
-    text.strip_prefix(label)
-}
 
 /// The byte is white space. No line has an LF.
 #[inline(always)]
@@ -112,12 +71,12 @@ fn after_operator(text: &[u8], byte: u8) -> Option<&[u8]>
     if *first == byte { Some(rest) } else { None }
 }
 
-/// The plain text in quotes with which the text begins behind white space, and what follows it.
-fn cut_text(text: &[u8]) -> Option<(&[u8], &[u8])>
-    ensures { IfSome result (λ cut. IsCut text.now cut.1.now (token (string cut.0.now) ∷ [])) }
+/// The text in quotes with which the text begins behind white space, and what follows it. Escapes are undone in the room, if any.
+fn cut_text<'a>(text: &'a [u8], room: Option<&'a mut Vec<u8>>) -> Option<(&'a [u8], &'a [u8])>
+    ensures { IfSome result (λ cut. IsCut text.entry.now cut.1.now (token (string cut.0.now) ∷ [])) }
 {
     let rest = behind(skip_space(text), b"\"")?;
-    cut_plain(rest)
+    cut_quoted(rest, room)
 }
 
 /// Whether a number may end before this text: at white space, a comma or a brace.
@@ -144,17 +103,17 @@ fn cut_whole(text: &[u8]) -> Option<(u32, &[u8])>
 
 /// The member with which the text begins, and what follows it.
 #[inline(always)]
-fn cut_member(text: &[u8]) -> Option<(Member<'_>, &[u8])>
-    ensures cut { IfSome result (λ cut. IsCut text.now cut.1.now (member_lexemes cut.0)) }
+fn cut_member<'a>(text: &'a [u8], room: Option<&'a mut Vec<u8>>) -> Option<(Member<'a>, &'a [u8])>
+    ensures cut { IfSome result (λ cut. IsCut text.entry.now cut.1.now (member_lexemes cut.0)) }
     ensures counted { IfSome result (λ cut. IsCounted cut.0) }
 {
     let text = skip_space(text);
     if let Some(rest) = behind(text, b"\"cmd\"") {
-        let (cmd, rest) = cut_text(after_operator(rest, b':')?)?;
+        let (cmd, rest) = cut_text(after_operator(rest, b':')?, room)?;
         return Some((Member::Cmd(cmd), rest));
     }
     if let Some(rest) = behind(text, b"\"reply\"") {
-        let (reply, rest) = cut_text(after_operator(rest, b':')?)?;
+        let (reply, rest) = cut_text(after_operator(rest, b':')?, room)?;
         return Some((Member::Reply(reply), rest));
     }
     let rest = behind(text, b"\"seat\"")?;
@@ -165,67 +124,92 @@ fn cut_member(text: &[u8]) -> Option<(Member<'_>, &[u8])>
 /// Takes the member with which a text begins: white space may stand before its key, its colon and its value. It gives what follows.
 // Apart, since a member that is spelled as ours would else make room for what is cut here.
 #[inline(never)]
-fn take_member<'a>(text: &'a [u8], fields: &mut Fields<'a>) -> Option<&'a [u8]>
+fn take_member<'a>(
+    text: &'a [u8],
+    room: Option<&'a mut Vec<u8>>,
+    fields: &mut Fields<'a>,
+) -> Option<&'a [u8]>
     ensures { IfSome result (λ rest. CutsMember [] text.entry.now rest.now (members_of fields.old) (members_of fields.new)) }
 {
-    let (member, rest) = cut_member(text)?;
+    let (member, rest) = cut_member(text, room)?;
     fields.put(member);
     Some(rest)
 }
 
 /// The same of the first member, behind the brace that begins the object. Ours is a command.
 #[inline(always)]
-fn take_first<'a>(line: &'a [u8], fields: &mut Fields<'a>) -> Option<&'a [u8]>
+fn take_first<'a>(
+    line: &'a [u8],
+    room: &'a mut Vec<u8>,
+    fields: &mut Fields<'a>,
+) -> Option<&'a [u8]>
     ensures { IfSome result (λ rest. CutsMember (token begin_object ∷ []) line.entry.now rest.now (members_of fields.old) (members_of fields.new)) }
 {
     let Some(rest) = behind(line, b"{\"cmd\":\"") else {
-        return take_member(after_operator(line, b'{')?, fields);
+        return take_member(after_operator(line, b'{')?, Some(room), fields);
     };
-    let (cmd, rest) = cut_plain(rest)?;
+    let (cmd, rest) = cut_quoted(rest, Some(room))?;
     fields.put(Member::Cmd(cmd));
     Some(rest)
 }
 
 /// The same of the second member, behind a comma. Ours is a reply, whose label is compared by eight bytes and two.
 #[inline(always)]
-fn take_second<'a>(text: &'a [u8], fields: &mut Fields<'a>) -> Option<&'a [u8]>
+fn take_second<'a>(
+    text: &'a [u8],
+    room: &'a mut Vec<u8>,
+    fields: &mut Fields<'a>,
+) -> Option<&'a [u8]>
     ensures { IfSome result (λ rest. CutsMember (comma ∷ []) text.entry.now rest.now (members_of fields.old) (members_of fields.new)) }
 {
     let Some(rest) = behind(text, b",\"reply\"") else {
-        return take_member(after_operator(text, b',')?, fields);
+        return take_member(after_operator(text, b',')?, Some(room), fields);
     };
-    let (reply, rest) = cut_text(after_operator(rest, b':')?)?;
+    let (reply, rest) = cut_text(after_operator(rest, b':')?, Some(room))?;
     fields.put(Member::Reply(reply));
     Some(rest)
 }
 
 /// The same of the third member, behind a comma. Ours is a seat.
 #[inline(always)]
-fn take_third<'a>(text: &'a [u8], fields: &mut Fields<'a>) -> Option<&'a [u8]>
+fn take_third<'a>(
+    text: &'a [u8],
+    room: &'a mut Vec<u8>,
+    fields: &mut Fields<'a>,
+) -> Option<&'a [u8]>
     ensures { IfSome result (λ rest. CutsMember (comma ∷ []) text.entry.now rest.now (members_of fields.old) (members_of fields.new)) }
 {
     let Some(rest) = behind(text, b",\"seat\":") else {
-        return take_member(after_operator(text, b',')?, fields);
+        return take_member(after_operator(text, b',')?, Some(room), fields);
     };
     let (seat, rest) = cut_whole(rest)?;
     fields.put(Member::Seat(seat));
     Some(rest)
 }
 
-/// Takes the members of a line that is an object of an entry's members, three or more, whose texts are plain. None of a line that is
-/// spelled otherwise, and of one that is no such object.
+/// Takes the members of a line that is an object of an entry's members, three or more, of whose texts those of the first three may have
+/// escapes. None of a line that is spelled otherwise, and of one that is no such object.
 // Apart, since what is cut and what is replayed would else contend for registers.
 #[inline(never)]
-pub(crate) fn cut_line<'a>(line: &'a [u8], fields: &mut Fields<'a>) -> Option<()>
+pub(crate) fn cut_line<'a>(
+    line: &'a [u8],
+    texts: &'a mut Texts,
+    fields: &mut Fields<'a>,
+) -> Option<()>
     ensures { IfSome result (λ _. json_of line.entry.now ≡ Some (object (members_of fields.new))) }
 {
+    let Texts {
+        first,
+        second,
+        third,
+    } = texts;
     *fields = Fields::none();
-    let rest = take_first(line, fields)?;
-    let rest = take_second(rest, fields)?;
-    let mut rest = take_third(rest, fields)?;
+    let rest = take_first(line, first, fields)?;
+    let rest = take_second(rest, second, fields)?;
+    let mut rest = take_third(rest, third, fields)?;
     // A key comes twice.
     while let Some(next) = after_operator(rest, b',') {
-        rest = take_member(next, fields)?;
+        rest = take_member(next, None, fields)?;
     }
     let rest = skip_space(after_operator(rest, b'}')?);
     if !rest.is_empty() {

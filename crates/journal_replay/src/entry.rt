@@ -1,7 +1,6 @@
-//! A line of a journal, read as an entry. Nearly every line is cut at the places of its members (`cutter`). One whose texts have
-//! escapes is read by its tokens (`tokens`), and every other as a tree of values, by `serde_json`: what is none of these is no
-//! entry as a rule, so that it ends the journal.
-ghost use Rattle.std.specs.Prelude.{◌≡◌, true, Some, IfOk, option_map};
+//! A line of a journal, read as an entry. Nearly every line is cut at the places of its members (`cutter`), and every other is read as
+//! a tree of values, by `serde_json`: what is not cut is no entry as a rule, so that it ends the journal.
+ghost use Rattle.std.specs.Prelude.{◌≡◌, Some, IfOk, option_map};
 ghost use Rattle.serde_json.specs.Data.{object};
 ghost use Rattle.journal_replay.specs.EntryLines.{IsSeated, Tells, reading_of};
 ghost use Rattle.journal_replay.specs.Members.{members_of};
@@ -10,9 +9,7 @@ ghost use Rattle.journal_replay.specs.Reading.{entry_in, json_of};
 use crate::cutter::cut_line;
 use crate::fields::Fields;
 use crate::reading::{Recorded, fields_in, read_json};
-use crate::tokens::read_tokens;
-use json::Scratch;
-use memchr::memchr;
+use crate::texts::Texts;
 use serde_json::Value;
 use std::alloc::{AllocError, Global};
 
@@ -41,20 +38,20 @@ impl<'a> Reading<'a> {
     }
 }
 
-/// Memory that is used again for each line that is not cut.
+/// Memory that is used again for each line.
 #[derive(Drop)]
 pub(crate) struct Room {
-    /// For the tokens of a line, and for its texts once their escapes are undone: from the first line on that is to be read so.
-    scratch: Option<Box<Scratch>>,
+    /// For the texts of a line that is cut, once their escapes are undone.
+    texts: Texts,
     /// The tree of values that a line was read as, from which its texts are lent.
     tree: Option<Value>,
 }
 
 impl Room {
     /// Before the first line.
-    pub(crate) fn new() -> Self {
+    pub(crate) fn new(alloc: Global) -> Self {
         Room {
-            scratch: None,
+            texts: Texts::new(alloc),
             tree: None,
         }
     }
@@ -68,33 +65,9 @@ impl Room {
     }
 }
 
-/// Room for the tokens of lines.
-// Apart, since each line would else make room for it on the stack.
-#[cold]
+/// Takes the fields of a line that was not cut by the tree of its values: whether it is JSON.
+// Apart, since each line would else make room for all that is needed here.
 #[inline(never)]
-fn new_scratch(alloc: Global) -> Result<Box<Scratch>, AllocError> {
-    Ok(Box::new(alloc, Scratch::new(alloc))?)
-}
-
-/// Takes the fields of a line by its tokens: whether they are an entry's.
-fn read_escaped<'a>(
-    alloc: Global,
-    line: &'a [u8],
-    scratch: &'a mut Option<Box<Scratch>>,
-    fields: &mut Fields<'a>,
-) -> Result<bool, AllocError>
-    ensures { IfOk result (λ taken. taken ≡ true → json_of line.entry.now ≡ Some (object (members_of fields.new))) }
-{
-    if scratch.is_none() {
-        *scratch = Some(new_scratch(alloc)?);
-    }
-    match scratch {
-        Some(scratch) => read_tokens(line, scratch, fields),
-        None => Ok(false),
-    }
-}
-
-/// Takes the fields of a line by the tree of its values: whether it is JSON.
 fn read_tree<'a>(
     alloc: Global,
     line: &[u8],
@@ -111,25 +84,6 @@ fn read_tree<'a>(
     Ok(true)
 }
 
-/// Takes the fields of a line that was not cut: whether it is JSON.
-// Apart, since each line would else make room for all that is needed here.
-#[inline(never)]
-fn read_uncut<'a>(
-    alloc: Global,
-    line: &'a [u8],
-    room: &'a mut Room,
-    fields: &mut Fields<'a>,
-) -> Result<bool, AllocError>
-    ensures { IfOk result (λ json. Tells json (members_of fields.new) (json_of line.entry.now)) }
-{
-    let Room { scratch, tree } = room;
-    // An entry without an escape was cut, but for odd ones: so no room for tokens is made for a line without an escape that ends the journal.
-    if memchr(b'\\', line).is_some() && read_escaped(alloc, line, scratch, fields)? {
-        return Ok(true);
-    }
-    read_tree(alloc, line, tree, fields)
-}
-
 /// What a line is as JSON, and which entry that is in a market of so many seats and levels.
 #[inline(always)]
 pub(crate) fn read<'a>(
@@ -142,10 +96,11 @@ pub(crate) fn read<'a>(
     ensures exact { IfOk result (λ reading. reading_of reading ≡ option_map (entry_in seats levels) (json_of line.entry.now)) }
     ensures seat { IfOk result (λ reading. IsSeated seats reading) }
 {
+    let Room { texts, tree } = room;
     let mut fields = Fields::none();
-    let json = match cut_line(line, &mut fields) {
+    let json = match cut_line(line, texts, &mut fields) {
         Some(()) => true,
-        None => read_uncut(alloc, line, room, &mut fields)?,
+        None => read_tree(alloc, line, tree, &mut fields)?,
     };
     if json {
         Ok(Reading::of(fields, seats, levels))

@@ -15,7 +15,7 @@ mod journal;
 mod law;
 mod line;
 mod reading;
-mod tokens;
+mod texts;
 mod verdict;
 
 pub use byte_devices::OutFault;

@@ -1,8 +1,8 @@
-use Rattle.std.proofs.Common.{codes, ◌++◌, ◌∷◌, refl, ap, ◌∙◌}
+use Rattle.std.proofs.Common.{codes, ◌∷◌, refl}
 use Rattle.json.specs.Token.{string}
 use Rattle.journal_replay.specs.Members.{members_of}
 use Rattle.journal_replay.specs.declared.fields.Member.TheVariants.{Cmd}
-use Rattle.journal_replay.proofs.CutLines.{cut-operator, cut-placed, cut-text, cuts-behind}
+use Rattle.journal_replay.proofs.CutLines.{cut-operator, cut-placed, cuts-behind}
 use Rattle.journal_replay.proofs.cutter.take_first.Goals as goal
 
 pub returns-in_default : goal.returns-in_default
@@ -11,12 +11,11 @@ returns-in_default c =
 
 pub returns : goal.returns
 returns c =
-    let text = c.in_ok-cmd.cmd.now in
-    let more = c.in_ok-cmd.rest.now in
+    let inside = c.in-Some.rest.now in
     record {
       next = Cmd c.in_ok-cmd.cmd;
-      cut = cut-placed 123 (codes "cmd") c.args.line.now (58 ∷ 34 ∷ (text ++ 34 ∷ more)) (34 ∷ (text ++ 34 ∷ more)) more (string text) refl refl
-          (c.in-Some.ensures ∙ ap (λ xs. codes "{\"cmd\":\"" ++ xs) c.in_ok-cmd.ensures.cut) (cut-operator 58 (34 ∷ (text ++ 34 ∷ more)) refl) (cut-text text more c.in_ok-cmd.ensures.plain);
+      cut = cut-placed 123 (codes "cmd") c.args.line.now (58 ∷ 34 ∷ inside) (34 ∷ inside) c.in_ok-cmd.rest.now (string c.in_ok-cmd.cmd.now) refl refl
+          c.in-Some.ensures (cut-operator 58 (34 ∷ inside) refl) c.in_ok-cmd.ensures;
       counted = tt;
       made = c.put.ensures;
     }

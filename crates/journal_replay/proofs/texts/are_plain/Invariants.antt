@@ -1,6 +1,6 @@
 use Rattle.std.proofs.Common.{◌≡◌, take}
 use Rattle.journal_replay.specs.Plain.{are_plain}
-use Rattle.journal_replay.proofs.cutter.are_plain.Given as goal
+use Rattle.journal_replay.proofs.texts.are_plain.Given as goal
 
 -- what was found of the bytes so far
 abbrev pub invariant-loop-byte : goal.invariant-loop-byte

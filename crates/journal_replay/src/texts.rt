@@ -1,0 +1,123 @@
+//! The texts of a line's strings: as they stand there, or with their escapes undone in room that is kept.
+ghost use Rattle.std.specs.Prelude.{◌≡◌, ◌<◌, ◌++◌, ◌∷◌, [], ℕ, List, true, length, IfSome};
+ghost use Rattle.json.specs.Lex.{token};
+ghost use Rattle.json.specs.Token.{string};
+ghost use Rattle.journal_replay.specs.Cuts.{IsCut, IsInside};
+ghost use Rattle.journal_replay.specs.Plain.{are_plain, is_plain};
+
+use memchr::memchr;
+use std::alloc::Global;
+
+/// Room for the texts of a line's first three members, which is used again for each line.
+#[derive(Drop)]
+pub(crate) struct Texts {
+    pub(crate) first: Vec<u8>,
+    pub(crate) second: Vec<u8>,
+    pub(crate) third: Vec<u8>,
+}
+
+impl Texts {
+    /// Before the first line. It takes no memory.
+    pub(crate) fn new(alloc: Global) -> Self {
+        Texts {
+            first: Vec::new(alloc),
+            second: Vec::new(alloc),
+            third: Vec::new(alloc),
+        }
+    }
+}
+
+/// The byte stands in a text as it is.
+#[inline(always)]
+fn is_plain(byte: u8) -> bool
+    ensures { result ≡ is_plain byte }
+{
+    (byte >= 32) & (byte < 127) & (byte != b'"') & (byte != b'\\')
+}
+
+/// Each byte does. It looks at all of them, so that several are looked at at a time.
+fn are_plain(text: &[u8]) -> bool
+    ensures { result ≡ are_plain text.now }
+{
+    let mut plain = true;
+    for byte in text {
+        plain &= is_plain(*byte);
+    }
+    plain
+}
+
+/// What follows a label.
+#[inline(always)]
+pub(crate) fn behind<'a>(text: &'a [u8], label: &[u8]) -> Option<&'a [u8]>
+    ensures { IfSome result (λ rest. text.entry.now ≡ label.now ++ rest.now) }
+{
+    text.strip_prefix(label)
+}
+
+/// The byte of ASCII for which the escape stands with which a text begins, as `\u0020`, and what follows it.
+fn cut_escape(text: &[u8]) -> Option<(u8, &[u8])>
+    ensures inside { IfSome result (λ cut. (tail : List ℕ) → IsInside (text.now ++ tail) (cut.1.now ++ tail) (cut.0 ∷ [])) }
+    ensures shorter { IfSome result (λ cut. length cut.1.now < length text.now) }
+{
+    let (first, more) = behind(text, b"\\u00")?.split_first()?;
+    let (second, rest) = more.split_first()?;
+    let high = (*first as char).to_digit(16)?;
+    let low = (*second as char).to_digit(16)?;
+    if high >= 8 {
+        return None;
+    }
+    Some(((high * 16 + low) as u8, rest))
+}
+
+/// Puts a text that is plain behind what the room holds.
+fn push_plain(room: &mut Vec<u8>, text: &[u8]) -> Option<()>
+    ensures plain { IfSome result (λ _. are_plain text.now ≡ true) }
+    ensures pushed { IfSome result (λ _. room.new.items ≡ room.old.items ++ text.now) }
+{
+    if !are_plain(text) {
+        return None;
+    }
+    room.extend_from_slice(text).ok()
+}
+
+/// The text that stands inside of a string, its escapes undone in the room. None of one with other escapes than those of bytes of
+/// ASCII as `\u0020`, of one that is no text, and where the room gets no memory.
+#[inline(never)]
+fn undo<'a>(inside: &[u8], room: &'a mut Vec<u8>) -> Option<&'a [u8]>
+    ensures { IfSome result (λ text. (tail : List ℕ) → IsInside (inside.now ++ tail) tail text.now) }
+{
+    room.clear();
+    let mut rest = inside;
+    while let Some(at) = memchr(b'\\', rest) {
+        push_plain(room, &rest[..at])?;
+        let (byte, more) = cut_escape(&rest[at..])?;
+        room.push(byte).ok()?;
+        rest = more;
+    }
+    push_plain(room, rest)?;
+    Some(room.as_slice())
+}
+
+/// What stands before the first quote of a text, and what follows the quote.
+#[inline(always)]
+fn cut_quote(text: &[u8]) -> Option<(&[u8], &[u8])>
+    ensures { IfSome result (λ cut. text.now ≡ cut.0.now ++ 34 ∷ cut.1.now) }
+{
+    let at = memchr(b'"', text)?;
+    Some((&text[..at], &text[at + 1..]))
+}
+
+/// The text before the first quote, and what follows the quote. Escapes are undone in the room, if any.
+#[inline(always)]
+pub(crate) fn cut_quoted<'a>(
+    text: &'a [u8],
+    room: Option<&'a mut Vec<u8>>,
+) -> Option<(&'a [u8], &'a [u8])>
+    ensures { IfSome result (λ cut. IsCut (34 ∷ text.entry.now) cut.1.now (token (string cut.0.now) ∷ [])) }
+{
+    let (inside, rest) = cut_quote(text)?;
+    if are_plain(inside) {
+        return Some((inside, rest));
+    }
+    Some((undo(inside, room?)?, rest))
+}
