@@ -32,7 +32,7 @@ digit_no_space : (b : ℕ) → is_ascii_digit b ≡ true → is_space b ≡ fals
 digit_no_space b h = grind (arith, nat_tests)
 
 -- a field ends here
-pub at_end : (space : Bool) (b : ℕ) (text : List ℕ) (more : List (List ℕ)) → Some more ≡ cond space (Some (slice_split is_space text)) None → cond space ([] ∷ slice_split is_space text) (onto_first b (slice_split is_space text)) ≡ [] ∷ more
+at_end : (space : Bool) (b : ℕ) (text : List ℕ) (more : List (List ℕ)) → Some more ≡ cond space (Some (slice_split is_space text)) None → cond space ([] ∷ slice_split is_space text) (onto_first b (slice_split is_space text)) ≡ [] ∷ more
 at_end true b text more h = cc
 at_end false b text more h = absurd (cc)
 

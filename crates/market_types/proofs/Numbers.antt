@@ -5,6 +5,7 @@ use Rattle.std.specs.Char.{is_ascii_digit, digit_value}
 use Rattle.std.specs.Str.{all_ascii_digits}
 use Rattle.std.specs.Str.Parse.{digits_value, digits_value_after}
 use Rattle.std.proofs.lemmas.Bool.{lt-ltb, le-ltb, eqb-true, and_right}
+use Rattle.std.proofs.lemmas.Bool.Decides.{nat_tests}
 use Rattle.std.proofs.Math.ListN.{drop_of_length-le}
 use Rattle.market_types.specs.Fields.{behind_digits, front_digits}
 use Rattle.market_types.specs.Reading.{is_plain, number_below}
@@ -28,8 +29,8 @@ pub step : (i n next : ℕ) (text : List ℕ) → front_digits (drop i text) ≡
     → digits_value_after 10 n (front_digits (drop i text)) ≡ digits_value_after 10 next (front_digits (drop (i + 1) text))
 step i n next text first is = ap (digits_value_after 10 n) first ∙ ap (λ m. digits_value_after 10 m (front_digits (drop (i + 1) text))) (sym is)
 
-pub all_read : (i n : ℕ) (text : List ℕ) → front_digits (drop i text) ≡ [] → digits_value_after 10 n (front_digits (drop i text)) ≡ digits_value 10 (front_digits text) → n ≡ digits_value 10 (front_digits text)
-all_read i n text end value = ap (digits_value_after 10 n) (sym end) ∙ value
+pub all_read : (first i n : ℕ) (text : List ℕ) → front_digits (drop i text) ≡ [] → digits_value_after 10 n (front_digits (drop i text)) ≡ digits_value_after 10 first (front_digits text) → n ≡ digits_value_after 10 first (front_digits text)
+all_read first i n text end value = ap (digits_value_after 10 n) (sym end) ∙ value
 
 -- ---- the digits, and what follows them
 
@@ -72,8 +73,27 @@ too_large-by false n bound h = refl
 pub too_large : (bound : ℕ) (field : List ℕ) → bound ≤ digits_value 10 field → None ≡ number_below bound field
 too_large bound field h = too_large-by (all_ascii_digits field && is_plain field) (digits_value 10 field) bound h
 
-pub is_read : (bound : ℕ) (text : List ℕ) → is_plain (front_digits text) ≡ true → digits_value 10 (front_digits text) < bound → Some (digits_value 10 (front_digits text)) ≡ number_below bound (front_digits text)
-is_read bound text plain small = rw ((are_front text).digits, plain, lt-ltb (digits_value 10 (front_digits text)) bound small) refl
+-- behind a first digit
+pub behind_first : (b : ℕ) (text : List ℕ) → is_ascii_digit b ≡ true → (front_digits (b ∷ text) ≡ b ∷ front_digits text) × (behind_digits (b ∷ text) ≡ behind_digits text)
+behind_first b text is = (rw is refl, rw is refl)
+
+pub value_first : (b first : ℕ) (text : List ℕ) → is_ascii_digit b ≡ true → first ≡ digit_value b → digits_value 10 (front_digits (b ∷ text)) ≡ digits_value_after 10 first (front_digits text)
+value_first b first text is e =
+    ap (digits_value 10) (behind_first b text is).0 ∙ ap (λ n. digits_value_after 10 n (front_digits text)) (omega (arith, e))
+
+plain_first : (b : ℕ) (cs : List ℕ) → (b ≡ 48 → length cs ≡ 0) → is_plain (b ∷ cs) ≡ true
+plain_first b cs h = grind (arith, nat_tests)
+
+needless_zero : (b : ℕ) (cs : List ℕ) → b ≡ 48 → 0 < length cs → is_plain (b ∷ cs) ≡ false
+needless_zero b cs e h = grind (arith, nat_tests)
+
+pub zero_first : (bound b : ℕ) (text : List ℕ) → is_ascii_digit b ≡ true → b ≡ 48 → 0 < length (front_digits text) → None ≡ number_below bound (front_digits (b ∷ text))
+zero_first bound b text is e h = rw (behind_first b text is).0 (not_plain bound (b ∷ front_digits text) (needless_zero b (front_digits text) e h))
+
+pub is_read : (bound b : ℕ) (text : List ℕ) → is_ascii_digit b ≡ true → (b ≡ 48 → length (front_digits text) ≡ 0) → digits_value 10 (front_digits (b ∷ text)) < bound → Some (digits_value 10 (front_digits (b ∷ text))) ≡ number_below bound (front_digits (b ∷ text))
+is_read bound b text is zero small =
+    let plain : is_plain (front_digits (b ∷ text)) ≡ true = rw (behind_first b text is).0 (plain_first b (front_digits text) zero) in
+    rw ((are_front (b ∷ text)).digits, plain, lt-ltb (digits_value 10 (front_digits (b ∷ text))) bound small) refl
 
 -- ---- a whole field
 

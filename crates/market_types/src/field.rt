@@ -2,10 +2,10 @@
 ghost use Rattle.std.specs.Prelude.{◌≡◌, ◌≢◌, ◌+◌, ◌*◌, ◌<◌, ◌≤◌, ◌∷◌, ◌++◌, IfNone, IfSome, None, Some, SomeIff, false, length, option_and_then, option_map, slice_index};
 ghost use Rattle.std.specs.List.{All, list_any, slice_split};
 ghost use Rattle.std.specs.Str.{bytes_eq};
-ghost use Rattle.std.specs.Str.Parse.{digits_value};
+ghost use Rattle.std.specs.Str.Parse.{digits_value_after};
 ghost use Rattle.market_types.specs.Fields.{behind_digits, fields_left, front_digits};
 ghost use Rattle.market_types.specs.Cuts.{IsCut, first_field, follows};
-ghost use Rattle.market_types.specs.Reading.{in_levels, in_seats, is_plain, is_space, level, middle_level, negative, number, number_below, positive, signed};
+ghost use Rattle.market_types.specs.Reading.{in_levels, in_seats, is_space, level, middle_level, negative, number, number_below, positive, signed};
 
 use crate::level::Level;
 
@@ -49,13 +49,14 @@ fn with_digit(number: u64, digit: u64, most: u64) -> Option<u64>
     Some(longer)
 }
 
-/// The number of at most `most` that the digits write with which a text begins, and how many they are.
+/// The number of at most `most` whose digits are those of `first` and then those with which a text begins, and how many these are.
 #[inline(always)]
-fn read_digits(text: &[u8], most: u64) -> Option<(u64, usize)>
-    ensures number { SomeIff (option_map (λ read. read.0) result) (digits_value 10 (front_digits text.now) ≤ most) (digits_value 10 (front_digits text.now)) }
+fn read_digits(first: u64, text: &[u8], most: u64) -> Option<(u64, usize)>
+    requires { first ≤ most }
+    ensures number { SomeIff (option_map (λ read. read.0) result) (digits_value_after 10 first (front_digits text.now) ≤ most) (digits_value_after 10 first (front_digits text.now)) }
     ensures count { IfSome result (λ read. read.1 ≡ length (front_digits text.now)) }
 {
-    let mut number = 0;
+    let mut number = first;
     for (at, byte) in text.iter().enumerate() {
         if !byte.is_ascii_digit() {
             return Some((number, at));
@@ -63,16 +64,6 @@ fn read_digits(text: &[u8], most: u64) -> Option<(u64, usize)>
         number = with_digit(number, u64::from(*byte - b'0'), most)?;
     }
     Some((number, text.len()))
-}
-
-/// The field is not empty, and begins with 0 only where that is all of it.
-fn is_plain(field: &[u8]) -> bool
-    ensures { result ≡ is_plain field.now }
-{
-    if field.is_empty() {
-        return false;
-    }
-    field.len() == 1 || field[0] != b'0'
 }
 
 /// The number of at most `most` that the digits write with which a text begins, and what follows them. None where it begins
@@ -83,11 +74,17 @@ pub fn cut_digits(text: &[u8], most: u64) -> Option<(u64, &[u8])>
     ensures rest { IfSome result (λ cut. cut.1.now ≡ behind_digits text.now) }
     ensures within { IfSome result (λ cut. cut.0 ≤ most) }
 {
-    let (number, count) = read_digits(text, most)?;
-    let (digits, rest) = text.split_at(count);
-    if !is_plain(digits) {
+    let (byte, more) = text.split_first()?;
+    if !byte.is_ascii_digit() {
         return None;
     }
+    // The first digit is read apart, since most numbers have one alone.
+    let first = with_digit(0, u64::from(*byte - b'0'), most)?;
+    let (number, count) = read_digits(first, more, most)?;
+    if first == 0 && count > 0 {
+        return None;
+    }
+    let (_, rest) = more.split_at(count);
     Some((number, rest))
 }
 
@@ -136,15 +133,7 @@ pub(crate) fn after_word<'a>(text: &'a [u8], word: &[u8]) -> Option<Option<&'a [
     ensures none { IfNone result (bytes_eq (first_field text.now) word.now ≡ false) }
     ensures some { IfSome result (λ more. slice_split is_space text.now ≡ word.now ∷ fields_left more) }
 {
-    if text.len() < word.len() {
-        return None;
-    }
-    for (at, byte) in word.iter().enumerate() {
-        if text[at] != *byte {
-            return None;
-        }
-    }
-    follows(&text[word.len()..])
+    follows(text.strip_prefix(word)?)
 }
 
 /// The number that the first field of a text is, and what follows the space that ends that field.

@@ -1,30 +1,19 @@
-use Rattle.std.proofs.Common.{◌∙◌, ap, get_or, length, arith}
-use Rattle.std.proofs.lemmas.Bool.{ne_eqb}
-use Rattle.std.proofs.lemmas.List.{take_rest}
-use Rattle.market_types.specs.Cuts.{follows}
-use Rattle.market_types.proofs.Words.{Follows, shorter, other_byte, whole_word, not_word, follows-none, follows-some}
+use Rattle.std.proofs.Common.{◌≡◌, ◌++◌, None, Some}
+use Rattle.std.proofs.lemmas.Bool.Decides.{Decides-eqb}
+use Rattle.std.proofs.lemmas.Slice.Eq.{strip_prefix_is}
+use Rattle.market_types.proofs.Words.{follows-none, follows-some, other_word}
 use Rattle.market_types.proofs.field.after_word.Goals as goal
 
-pub returns-then-text-word-clause-none : goal.returns-then-text-word-clause-none
-returns-then-text-word-clause-none c = not_word c.args.word.now c.args.text.now (shorter c.args.word.now c.args.text.now c.if-text-word.true)
-
-pub returns-then-text-at-clause-none : goal.returns-then-text-at-clause-none
-returns-then-text-at-clause-none c =
-    let word = c.args.word.now in
+pub returns-in_err-strip_prefix-clause-none : goal.returns-in_err-strip_prefix-clause-none
+returns-in_err-strip_prefix-clause-none c =
     let text = c.args.text.now in
-    let at = c.loop-at.at in
-    not_word word text (
-    other_byte at word text c.loop-at-test.true (omega (arith, c.loop-at-test.true, c.if-text-word.false))
-    (ne_eqb (get_or text at 0) (get_or word at 0) c.if-text-at.true)
-    ∙ c.loop-at.invariant)
+    let word = c.args.word.now in
+    rw c.from_residual.ensures (other_word word text (strip_prefix_is Decides-eqb text word None c.in_err-strip_prefix.ensures.cases))
 
-whole : (c : goal.After-follows) → Follows c.args.word.now c.args.text.now c.follows.result
-whole c =
-    c.follows.ensures ∙ ap follows (take_rest c.args.text.now (length c.args.word.now))
-    ∙ whole_word c.loop-at.at c.args.word.now c.args.text.now c.loop-at-test.false c.loop-at.auto.at-end c.loop-at.invariant
-
-pub returns-clause-none : goal.returns-clause-none
-returns-clause-none c = follows-none c.args.word.now c.args.text.now c.follows.result (whole c)
-
-pub returns-clause-some : goal.returns-clause-some
-returns-clause-some c = follows-some c.args.word.now c.args.text.now c.follows.result c.requires (whole c)
+pub returns : goal.returns
+returns c =
+    let text = c.args.text.now in
+    let word = c.args.word.now in
+    let rest = c.in_ok-strip_prefix.field-0.now in
+    let begins : text ≡ word ++ rest = strip_prefix_is Decides-eqb text word (Some c.in_ok-strip_prefix.field-0) c.in_ok-strip_prefix.ensures.cases in
+    record { none = follows-none word text rest c.follows.result begins c.requires c.follows.ensures; some = follows-some word text rest c.follows.result begins c.requires c.follows.ensures }

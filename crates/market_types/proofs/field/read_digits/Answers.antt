@@ -32,12 +32,12 @@ pub returns-then-not-is_ascii_digit : goal.returns-then-not-is_ascii_digit
 returns-then-not-is_ascii_digit c =
     let i = c.loop-at.invariant in
     let end = no_digit_at c.loop-at.at c.args.text.now c.loop-at-test.true (sym c.if-not-is_ascii_digit.ensures.value) in
-    let value = all_read c.loop-at.at c.loop-at.number c.args.text.now end i.value in
+    let value = all_read c.args.first c.loop-at.at c.loop-at.number c.args.text.now end i.value in
     record { number = (omega (arith, value, i.within), value); count = omega (arith, ap length end, i.count) }
 
 pub returns : goal.returns
 returns c =
     let i = c.loop-at.invariant in
     let end = no_more c.loop-at.at c.args.text.now c.loop-at-test.false in
-    let value = all_read c.loop-at.at c.loop-at.number c.args.text.now end i.value in
+    let value = all_read c.args.first c.loop-at.at c.loop-at.number c.args.text.now end i.value in
     record { number = (omega (arith, value, i.within), value); count = omega (arith, ap length end, i.count, c.loop-at-test.false, c.loop-at.auto.at-end) }
