@@ -1,6 +1,5 @@
 pub mod Sums
 pub mod Order
 pub mod Tasks
-pub mod Fields
-mod Sectioned
+pub mod Sectioned
 mod Examples
