@@ -1,16 +1,16 @@
 -- What stands inside of a string, byte by byte and escape by escape.
-use Rattle.std.specs.Prelude.{IsUtf8, nat_lt}
-use Rattle.std.specs.Char.{IsDigitOf, digit_value, encode_utf8, is_digit}
-use Rattle.std.proofs.Common.{◌≡◌, ◌≢◌, ◌<◌, ◌≤◌, ◌+◌, ◌*◌, ◌-◌, ℕ, inl, inr, Bool, true, false, cond, eqb, leb, ltb, List, [], ◌∷◌, ◌++◌, length, append-nil, append_assoc, take, drop, subst, Option, Some, None, option_and_then, refl, sym, ap, ◌∙◌, arith}
-use Rattle.std.proofs.lemmas.Bool.{and_parts, lt-ltb, le-ltb, lt-leb, ne_eqb}
+use Rattle.std.specs.Prelude.{nat_lt}
+use Rattle.std.specs.Char.{IsDigitOf, digit_value, encode_utf8}
+use Rattle.std.proofs.Common.{◌≡◌, ◌<◌, ◌+◌, ◌*◌, ◌-◌, ℕ, inl, inr, Bool, true, false, cond, eqb, ltb, List, [], ◌∷◌, ◌++◌, length, append-nil, append_assoc, take, drop, subst, Option, Some, None, option_and_then, refl, sym, ap, ◌∙◌, arith}
+use Rattle.std.proofs.lemmas.Bool.{and_parts, lt-ltb, lt-leb, ne_eqb}
 use Rattle.std.proofs.lemmas.Bool.Decides.{nat_tests}
 use Rattle.std.proofs.lemmas.List.{take-append-drop, take_rest}
 use Rattle.std.proofs.lemmas.Str.{IsUtf8-append}
 use Rattle.json.specs.Text.{content, plain, after_high, prepend, code_unit, is_high_surrogate, is_low_surrogate}
 use Rattle.json.specs.Word.{is_operator, is_space}
-use Rattle.json.specs.Lex.{Lexeme, Mode, token, operator, space, other, between, in_string, lex, lex_byte, string_token}
+use Rattle.json.specs.Lex.{Lexeme, Mode, token, operator, space, other, in_string, lex, lex_byte, string_token}
 use Rattle.json.specs.Token.{string}
-use Rattle.json.proofs.Printed.Utf8.{are_ascii, IsUtf8-are_ascii}
+use Rattle.json.proofs.Printed.Utf8.{IsUtf8-are_ascii}
 use Rattle.journal_replay.specs.Cuts.{IsCut, IsInside}
 use Rattle.journal_replay.specs.Plain.{are_plain, is_plain}
 
@@ -80,14 +80,11 @@ inside-more inside rest behind tail held at n p clean q =
 
 -- ---- an escape of a byte of ASCII
 
--- a hex digit is of ASCII, and no quote and no backslash
-hex-tests : (x : ℕ) → digit_value x < 16 → (eqb x 34 ≡ false) × (eqb x 92 ≡ false)
-hex-tests x h = (ne_eqb x 34 (λ e. absurd (omega (arith, ap digit_value e))), ne_eqb x 92 (λ e. absurd (omega (arith, ap digit_value e))))
-
-pub hex-ascii : (x d : ℕ) → IsDigitOf x d → x < 128
-hex-ascii x d (inl h) = omega arith
-hex-ascii x d (inr (inl h)) = omega arith
-hex-ascii x d (inr (inr h)) = omega arith
+-- a hex digit is no quote and no backslash, and of ASCII
+hex : (x d : ℕ) → IsDigitOf x d → d < 16 → (eqb x 34 ≡ false) × (eqb x 92 ≡ false) × (ltb x 128 ≡ true)
+hex x d (inl h) l = (ne_eqb x 34 (λ e. absurd (omega arith)), ne_eqb x 92 (λ e. absurd (omega arith)), lt-ltb x 128 (omega arith))
+hex x d (inr (inl h)) l = (ne_eqb x 34 (λ e. absurd (omega arith)), ne_eqb x 92 (λ e. absurd (omega arith)), lt-ltb x 128 (omega arith))
+hex x d (inr (inr h)) l = (ne_eqb x 34 (λ e. absurd (omega arith)), ne_eqb x 92 (λ e. absurd (omega arith)), lt-ltb x 128 (omega arith))
 
 unit : (high low n : ℕ) → digit_value high < 16 → digit_value low < 16 → n ≡ digit_value high * 16 + digit_value low → code_unit 48 48 high low ≡ Some n
 unfolding code_unit
@@ -97,16 +94,18 @@ alone : (n : ℕ) (rest : List ℕ) → n < 128 → cond (is_high_surrogate n) (
 unfolding encode_utf8
 alone n rest h = rw (lt-leb 0xd800 n (omega arith), lt-leb 0xdc00 n (omega arith), lt-ltb n 128 h) refl
 
-pub inside-escape : (high low n : ℕ) (rest : List ℕ) → digit_value high < 16 → digit_value low < 16 → high < 128 → low < 128 → n ≡ digit_value high * 16 + digit_value low → n < 128
-    → IsInside (92 ∷ 117 ∷ 48 ∷ 48 ∷ high ∷ low ∷ rest) rest (n ∷ [])
+pub inside-escape : (high low h l : ℕ) (rest : List ℕ) → (digit_value high < 16) × (h ≡ digit_value high) → (digit_value low < 16) × (l ≡ digit_value low) → IsDigitOf high h → IsDigitOf low l → h < 8
+    → IsInside (92 ∷ 117 ∷ 48 ∷ 48 ∷ high ∷ low ∷ rest) rest ((h * 16 + l) ∷ [])
 unfolding content lex
-inside-escape high low n rest h l high_ascii low_ascii is small =
-    let p = hex-tests high h in
-    let q = hex-tests low l in
+inside-escape high low h l rest hs ls his lis small =
+    let n : ℕ = h * 16 + l in
+    let p = hex high h his (omega arith) in
+    let q = hex low l lis (omega (arith, ls.0, ls.1)) in
     record {
-      reads = ap (λ u. option_and_then (λ m. cond (is_high_surrogate m) (content (after_high m) rest) (cond (is_low_surrogate m) None (prepend (encode_utf8 m) (content plain rest)))) u) (unit high low n h l is) ∙ alone n rest small;
+      reads = ap (λ u. option_and_then (λ m. cond (is_high_surrogate m) (content (after_high m) rest) (cond (is_low_surrogate m) None (prepend (encode_utf8 m) (content plain rest)))) u) (unit high low n hs.0 ls.0 (omega (arith, hs.1, ls.1)))
+          ∙ alone n rest (omega (arith, ls.0, ls.1));
       lexed = passed high (low ∷ rest) p.0 p.1 ∙ passed low rest q.0 q.1;
-      utf8 = λ u. IsUtf8-append (92 ∷ 117 ∷ 48 ∷ 48 ∷ high ∷ low ∷ []) rest (IsUtf8-are_ascii (92 ∷ 117 ∷ 48 ∷ 48 ∷ high ∷ low ∷ []) (rw (lt-ltb high 128 high_ascii, lt-ltb low 128 low_ascii) refl)) u;
+      utf8 = λ u. IsUtf8-append (92 ∷ 117 ∷ 48 ∷ 48 ∷ high ∷ low ∷ []) rest (IsUtf8-are_ascii (92 ∷ 117 ∷ 48 ∷ 48 ∷ high ∷ low ∷ []) (rw (p.2, q.2) refl)) u;
       within = omega arith;
     }
 

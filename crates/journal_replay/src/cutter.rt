@@ -24,6 +24,16 @@ fn is_space(byte: u8) -> bool
     matches!(byte, b' ' | b'\t' | b'\r')
 }
 
+/// What follows the white space, one byte, that a text begins with.
+#[inline(always)]
+fn after_space(text: &[u8]) -> Option<&[u8]>
+    ensures cut { IfSome result (λ rest. IsCut text.now rest.now []) }
+    ensures shorter { IfSome result (λ rest. length rest.now < length text.now) }
+{
+    let (first, rest) = text.split_first()?;
+    if is_space(*first) { Some(rest) } else { None }
+}
+
 /// What follows the white space that a text begins with, of which eight spaces are passed at once.
 // Apart, since where a tool writes a space it mostly writes one.
 #[inline(never)]
@@ -34,10 +44,7 @@ fn skip_spaces(text: &[u8]) -> &[u8]
     while let Some(more) = behind(rest, b"        ") {
         rest = more;
     }
-    while let Some((first, more)) = rest.split_first() {
-        if !is_space(*first) {
-            return rest;
-        }
+    while let Some(more) = after_space(rest) {
         rest = more;
     }
     rest
@@ -48,16 +55,13 @@ fn skip_spaces(text: &[u8]) -> &[u8]
 fn skip_space(text: &[u8]) -> &[u8]
     ensures { IsCut text.now result.now [] }
 {
-    let Some((first, rest)) = text.split_first() else {
+    let Some(rest) = after_space(text) else {
         return text;
     };
-    if !is_space(*first) {
-        return text;
+    if after_space(rest).is_none() {
+        return rest;
     }
-    match rest.first() {
-        Some(second) if is_space(*second) => skip_spaces(rest),
-        _ => rest,
-    }
+    skip_spaces(rest)
 }
 
 /// What follows this byte, with which the text begins behind white space.
@@ -72,11 +76,13 @@ fn after_operator(text: &[u8], byte: u8) -> Option<&[u8]>
 }
 
 /// The text in quotes with which the text begins behind white space, and what follows it. Escapes are undone in the room, if any.
+#[inline(always)]
 fn cut_text<'a>(text: &'a [u8], room: Option<&'a mut Vec<u8>>) -> Option<(&'a [u8], &'a [u8])>
     ensures { IfSome result (λ cut. IsCut text.entry.now cut.1.now (token (string cut.0.now) ∷ [])) }
 {
-    let rest = behind(skip_space(text), b"\"")?;
-    cut_quoted(rest, room)
+    let inside = behind(skip_space(text), b"\"")?;
+    let (found, rest) = cut_quoted(inside, room)?;
+    Some((found, rest))
 }
 
 /// Whether a number may end before this text: at white space, a comma or a brace.

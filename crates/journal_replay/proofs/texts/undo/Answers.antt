@@ -1,6 +1,5 @@
-use Rattle.std.proofs.Common.{rules, ◌≡◌, ◌++◌, ◌∷◌, [], take, ◌∙◌, ap}
-use Rattle.journal_replay.specs.Cuts.{IsInside}
-use Rattle.journal_replay.proofs.Inside.{inside-more, inside-none, inside-plain, inside-then}
+use Rattle.std.proofs.Common.{rules, ◌≡◌, ◌++◌, ◌∷◌, [], ◌∙◌, ap}
+use Rattle.journal_replay.proofs.Inside.{inside-more, inside-plain, inside-then}
 use Rattle.journal_replay.proofs.texts.undo.Goals as goal
 
 pub loop-at-preserved : goal.loop-at-preserved
