@@ -6,6 +6,8 @@
 //! these cut what they give and take into pieces of a chosen size, and fail where a test says.
 #![tactic(auto)]
 
+#[cfg(test)]
+mod asked_once;
 mod device;
 mod out_fault;
 mod std_device;

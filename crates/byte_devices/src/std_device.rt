@@ -4,7 +4,8 @@ ghost use Rattle.std.specs.Prelude.{◌≡◌, false};
 use crate::device::{DeviceFault, Sink, Source};
 use std::io::{Read, Write};
 
-/// A reader of std as a source. Any error of a read, an interruption too, is a failure.
+/// A reader of std as a source. A read asks the reader once and hands on its answer. Any error, an interruption too, is a failure,
+/// and isn't tried again.
 #[derive(Drop)]
 pub struct ReadSource<R> {
     reader: R,
@@ -54,7 +55,8 @@ impl<R: Read> Source for ReadSource<R> {
     }
 }
 
-/// A writer of std as a sink. Any error of a write, an interruption too, is a failure.
+/// A writer of std as a sink. A write asks the writer once and hands on its answer. Any error, an interruption too, is a failure,
+/// and isn't tried again.
 #[derive(Drop)]
 pub struct WriteSink<W> {
     writer: W,

@@ -17,7 +17,8 @@ pub fn own_entries_place_a_seat()
         → place_of (state_after (opening_to base hard seats levels last) (calls_of history)) seat ≡ place_in seat history }
 {}
 
-/// A chronicle that has forgotten all its entries, and has two places more than it has seats, has places for every call.
+/// A chronicle that has forgotten all its entries, and has two places more than it has seats, has places for every call. It can
+/// forget the first 18,446,744,073,708,503,039 entries of a history, and no later one.
 pub fn a_forgetful_chronicle_is_never_full()
     ensures { (c : Chronicled) (seat : ℕ) (cmd : Cmd)
         → c.from ≡ length c.log → length c.start.seats + 2 ≤ c.places → LacksPlaces c seat cmd → ⊥ }

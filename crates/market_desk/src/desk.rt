@@ -56,7 +56,8 @@ impl<C: Ledger, W: Ledger> Desk<C, W> {
     /// a worker that comes where the seat is placed, and goes where it is recalled or leaves. `HistoryFull`, where free places
     /// lack, and then `Memory` are as there: nothing is then changed, recorded or counted. A Leave by a placed seat takes no
     /// memory and always succeeds. The seat is one that the market has, and the share is its caller's: it has a worker
-    /// exactly where the seat's own entries place it. An unrecorded chronicle never stores the entry.
+    /// exactly where the seat's own entries place it. An unrecorded chronicle stores none of its first 18,446,744,073,708,503,039
+    /// entries.
     pub fn serve(
         &mut self,
         alloc: Global,

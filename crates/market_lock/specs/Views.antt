@@ -31,7 +31,7 @@ chronicle_cut t log cut = chronicle_from t log (forgotten t.keeping (length log)
 abbrev pub chronicle_of : Terms → List Entry → Chronicled
 chronicle_of t log = chronicle_cut t log 0
 
--- it has places for each call, whatever was called before: it is never full
+-- it has places for each call, whatever was called before, up to `most_forgotten` calls: it isn't full before
 abbrev pub IsEndless : Terms → Type 0
 IsEndless t = (log : List Entry) (seat : ℕ) (cmd : Cmd) → length log ≤ most_forgotten → LacksPlaces (chronicle_of t log) seat cmd → ⊥
 

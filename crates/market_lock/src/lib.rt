@@ -7,8 +7,9 @@
 //! [`Office::close`] takes all of them back, and leaves the one history that each of them saw a beginning of.
 //!
 //! An office keeps its history, and has places for so many calls; or it is taken out in parts while it works
-//! ([`Office::open_in_parts`], [`Office::cut`]), so that its places are free again; or it keeps none of it and is never full
-//! ([`Office::open_unrecorded`]): its history exists in proofs alone then. All that is proved of one holds of the others.
+//! ([`Office::open_in_parts`], [`Office::cut`]), so that its places are free again; or it keeps none of it, and has places for the
+//! first 18,446,744,073,708,503,039 calls ([`Office::open_unrecorded`]): its history exists in proofs alone then. All that is proved
+//! of one holds of the others.
 //!
 //! Behind it lies one lock. The market with its history and the book of its counts lie on a desk (`market_desk`), in the one
 //! slot of a table (`atomic_table`) whose one word tells whether the desk is at home. A call takes the desk, has it served, and

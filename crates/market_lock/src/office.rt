@@ -317,9 +317,10 @@ impl<C: Ledger, W: Ledger> Office<C, W> {
     /// Takes out the entries that the office keeps, as the next part of its history: they take no place any more. The caller has
     /// then seen the whole history, which the part ends; the part begins where the last cut was, by whichever caller. `spare` comes
     /// in the entries' stead: it is emptied before the lock is taken, and nothing is allocated, so that the lock is held for a
-    /// constant time. The answer is `None` unless the office was opened by `open_in_parts`, where `spare` has no room for an entry for
-    /// each placed seat (so much as there are seats is enough), and where the history is longer than
-    /// 18,446,744,073,708,503,039 entries; nothing is then cut out. It waits for the lock, and for nothing else.
+    /// constant time. `spare` needs room for one entry for each seat that is placed at that moment, whoever calls from it: each of
+    /// these workers is to find room for its Leave there. Room for as many entries as the office has seats is always enough. The
+    /// answer is `None` where `spare` has less room than that, where the office was not opened by `open_in_parts`, and where the
+    /// history is longer than 18,446,744,073,708,503,039 entries; nothing is then cut out. It waits for the lock, and for nothing else.
     pub fn cut<R: Wait>(&self, rt: &R, pass: &mut Pass<C, W>, spare: Vec<Entry>) -> Option<Part>
         requires office { pass.old.table ≡ self.now.table }
         ensures same { IsSamePass pass.old pass.new }
