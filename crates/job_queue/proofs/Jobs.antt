@@ -4,8 +4,7 @@ use Rattle.std.specs.List.{filter, AllByRecursion}
 use Rattle.std.proofs.lemmas.List.{map-append}
 use Rattle.std.proofs.lemmas.List.Elements.{filter-append}
 use Rattle.job_queue.specs.declared.view.Fed.{Fed}
-use Rattle.job_queue.specs.Jobs.{fed, fed_from, own, by, given}
-use Rattle.job_queue.specs.Rule.{HavePlaces}
+use Rattle.job_queue.specs.Jobs.{fed, fed_from, own, by, given, HavePlaces}
 
 pub each_append : {A : Type 0} (P : A → Type 0) (xs ys : List A) → AllByRecursion P xs → AllByRecursion P ys → AllByRecursion P (xs ++ ys)
 each_append P [] ys a b = b
@@ -50,7 +49,7 @@ module _ {J : Type 0} where
   by-append : (n : ℕ) (xs ys : List (ℕ × Fed J)) → by n (xs ++ ys) ≡ by n xs ++ by n ys
   by-append n xs ys = ap given (filter-append (λ (p : ℕ × Fed J). p.0 == n) xs ys) ∙ given-append (filter (λ (p : ℕ × Fed J). p.0 == n) xs) (filter (λ (p : ℕ × Fed J). p.0 == n) ys)
 
-  own_first : (n : ℕ) (x : Fed J) (xs : List (Fed J)) → x.feeder ≡ n → own n (x ∷ xs) ≡ x ∷ own n xs
+  pub own_first : (n : ℕ) (x : Fed J) (xs : List (Fed J)) → x.feeder ≡ n → own n (x ∷ xs) ≡ x ∷ own n xs
   own_first n x xs e = ap (λ b. cond b (x ∷ own n xs) (own n xs)) (eq-eqb x.feeder n e)
 
   pub own-more : (n : ℕ) (x : Fed J) (xs : List (Fed J)) → x.feeder ≡ n → own n (xs ++ x ∷ []) ≡ own n xs ++ x ∷ []

@@ -4,5 +4,6 @@ pub mod Count
 pub mod Steps
 pub mod Dealt
 pub mod Gathered
+pub mod Full
 pub mod Parts
 pub mod Settled

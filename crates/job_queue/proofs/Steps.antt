@@ -1,6 +1,7 @@
 -- Each step of the queue keeps its rule.
 use Rattle.std.proofs.Common.{◌≡◌, ℕ, zero, suc, ◌+◌, ◌<◌, ◌≤◌, ◌==◌, ◌≢◌, List, [], ◌∷◌, ◌++◌, length, cond, set, refl, ap, sym, ◌∙◌, subst, arith, append_assoc}
 use Rattle.std.specs.List.{AllByRecursion}
+use Rattle.std.proofs.lemmas.List.Elements.{All-from_recursion}
 use mathlib.Core.Logic.{dite}
 use mathlib.Core.Option.{some, some-injective, some-ne-none}
 use native.Mathlib.Decide.{ℕ_discrete}
@@ -11,9 +12,9 @@ use Rattle.job_queue.specs.declared.view.Fed.{Fed}
 use Rattle.job_queue.specs.declared.view.Known.{Known}
 use Rattle.job_queue.specs.declared.view.View.{View}
 use Rattle.job_queue.specs.declared.view.View.TheVariants.{Opener, Records}
-use Rattle.job_queue.specs.Jobs.{fed, own, by, given}
+use Rattle.job_queue.specs.Jobs.{fed, own, by, given, HavePlaces, Moment, IsMomentOf}
 use Rattle.job_queue.specs.Views.{fresh, stores, takes, misses, records_of, head, one, spent}
-use Rattle.job_queue.specs.Rule.{times, total, Knows, Fits, HavePlaces, IsFed, IsPopped, Kept, Saw, Stored, IsLater, Taken, HasNumber, Account, Settles, Closes, Rests}
+use Rattle.job_queue.specs.Rule.{times, total, Knows, Fits, IsFed, IsPopped, Kept, Saw, Stored, IsLater, Taken, HasNumber, Account, Settles, Closes, Rests}
 use Rattle.job_queue.proofs.Jobs.{each_append, each_weaker, own-more, own-other, by-more, by-other, moves, own_none, by_none, fed_last, length-fed_from, places_more, popped_before}
 use Rattle.job_queue.proofs.Count.{has_all, test, test_same, test_other}
 use Rattle.job_queue.proofs.Views.{each_set, each_snoc, times-append, total_set, total_snoc, total_one, total_two, counts, differs}
@@ -117,8 +118,22 @@ module _ {J : Type 0} where
         (refl, subst (λ (l : List (Fed J)). IsLater l x) (sym h.4) (popped_before k.number r.out x items (r.placed x.feeder))),
       )
 
+  -- what is so between two steps is so at a moment that the queue can have
+  possible : (items : List (Fed J)) (views : List (View J)) (r : Kept items views) → IsMomentOf r.feeders r.takers (record { pops = r.out; held = items })
+  possible items views r =
+      let Pushes : Fed J → Type 0 = λ x. x.feeder < r.feeders in
+      let Popped : ℕ × Fed J → Type 0 = λ p. (r.feeders ≤ p.0) × (p.0 < r.feeders + r.takers) in
+      record {
+        pushes = All-from_recursion Pushes (given r.out ++ items) (each_weaker (IsFed r.feeders r.made) Pushes (λ x h. h.0) (given r.out ++ items) r.fed);
+        places = r.placed;
+        pops = All-from_recursion Popped r.out (each_weaker (IsPopped r.feeders r.made) Popped (λ p h. (h.0, let lt = h.1 in let most = r.enough in omega arith)) r.out r.popped);
+      }
+
   pub learns_it : (port : ℕ) (k : Known J) (ks : List (Known J)) → Learns Kept port (Records (k ∷ ks)) (Saw (Records (k ∷ ks)))
-  learns_it port k ks items views r at = let h = (r.each port (Records (k ∷ ks)) at).0 in (r.out, h.3, h.4)
+  learns_it port k ks items views r at =
+      let h = (r.each port (Records (k ∷ ks)) at).0 in
+      let moment : Moment J = record { pops = r.out; held = items } in
+      (r.out, h.3, h.4, subst (λ (n : ℕ × ℕ). IsMomentOf n.0 n.1 moment) (λ i. (sym h.0 i, sym h.1 i)) (possible items views r))
 
   -- ---- a pass more
   -- spent passes count for nothing

@@ -7,7 +7,7 @@ use Rattle.job_queue.specs.declared.view.Fed.{Fed}
 use Rattle.job_queue.specs.declared.view.Known.{Known}
 use Rattle.job_queue.specs.declared.view.View.{View}
 use Rattle.job_queue.specs.declared.view.View.TheVariants.{Opener, Records}
-use Rattle.job_queue.specs.Jobs.{fed_from, own, by, given}
+use Rattle.job_queue.specs.Jobs.{fed_from, own, by, given, HavePlaces, IsMomentOf}
 use Rattle.job_queue.specs.Views.{known_of, records_of, stores, takes, rest}
 
 module _ {J : Type 0} where
@@ -28,11 +28,6 @@ module _ {J : Type 0} where
   abbrev pub Fits : ℕ → ℕ → ℕ → ℕ → (ℕ → List (Fed J)) → (ℕ → List (Fed J)) → ℕ → View J → Type 0
   Fits feeders takers made opener put got j (Opener f t m) = (f ≡ feeders) × (t ≡ takers) × (m ≡ made) × (j ≡ opener)
   Fits feeders takers made opener put got j (Records ks) = AllByRecursion (Knows feeders takers made put got) ks
-
-  -- the places rise one by one
-  abbrev pub HavePlaces : ℕ → List (Fed J) → Type 0
-  HavePlaces p [] = Unit {0}
-  HavePlaces p (x ∷ xs) = (x.place ≡ p) × HavePlaces (p + 1) xs
 
   abbrev pub IsFed : ℕ → ℕ → Fed J → Type 0
   IsFed feeders made x = (x.feeder < feeders) × (x.feeder < made)
@@ -61,7 +56,9 @@ module _ {J : Type 0} where
 
   -- what the queue held, beside what the pass did
   abbrev pub Saw : View J → List (Fed J) → Type 0
-  Saw v items = let k = known_of v in (out : List (ℕ × Fed J)) × (fed_from k.number 0 k.stored ≡ own k.number (given out ++ items)) × (k.taken ≡ by k.number out)
+  Saw v items = let k = known_of v in
+      (out : List (ℕ × Fed J)) × (fed_from k.number 0 k.stored ≡ own k.number (given out ++ items)) × (k.taken ≡ by k.number out)
+      × IsMomentOf k.feeders k.takers (record { pops = out; held = items })
 
   abbrev pub Stored : View J → Fed J → View J → Type 0
   Stored v x w = w ≡ Records (stores (known_of v) x.job ∷ rest (records_of v))

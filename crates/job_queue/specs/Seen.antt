@@ -6,7 +6,7 @@ use Rattle.std.specs.List.Sorted.{IsPermutation}
 use Rattle.atomic_table.specs.Seated.{TableId}
 use Rattle.job_queue.specs.declared.view.Fed.{Fed}
 use Rattle.job_queue.specs.declared.view.Known.{Known}
-use Rattle.job_queue.specs.Jobs.{fed_from, own, by, Moment, pushed}
+use Rattle.job_queue.specs.Jobs.{fed_from, own, by, Moment, IsMomentOf, pushed}
 
 -- which queue, and of how many feeders and takers
 pub record QueueId : Type 0 where
@@ -68,13 +68,13 @@ module _ {J : Type 0} where
   abbrev pub HasTaken : Moment J → OfTaker J → Type 0
   HasTaken m t = t.taken ≡ by t.number m.pops
 
-  -- the queue was full at one moment, at which the feeder had stored what it has now
+  -- the queue was full at one moment that it can have, at which the feeder had stored what it has now
   abbrev pub WasFull : OfQueue → OfFeeder J → Type 0
-  WasFull q f = (m : Moment J) × (length m.held ≡ q.capacity) × HasStored m f
+  WasFull q f = (m : Moment J) × (length m.held ≡ q.capacity) × HasStored m f × IsMomentOf f.queue.feeders f.queue.takers m
 
-  -- the queue was empty at one moment, at which the taker had taken what it has now
+  -- the queue was empty at one moment that it can have, at which the taker had taken what it has now
   abbrev pub WasEmpty : OfTaker J → Type 0
-  WasEmpty t = (m : Moment J) × (m.held ≡ []) × HasTaken m t
+  WasEmpty t = (m : Moment J) × (m.held ≡ []) × HasTaken m t × IsMomentOf t.queue.feeders t.queue.takers m
 
   -- the taker took this job too, which its feeder stored after all those that the taker had of that feeder
   abbrev pub HasTakenNext : OfTaker J → J → OfTaker J → Type 0

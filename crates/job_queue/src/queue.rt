@@ -97,7 +97,8 @@ impl<J: Drop> JobQueue<J> {
 
 impl<J> JobQueue<J> {
     /// Stores a job at the back. It comes back where the queue was full at one moment of the call; the feeder is then as it was.
-    /// It takes no memory, and takes as long for a full queue as for an empty one, other callers aside.
+    /// The only feeder of a queue gets a job back only where it has stored as many as the queue has room for: so it stores that many
+    /// whatever the takers do. It takes no memory, and takes as long for a full queue as for an empty one, other callers aside.
     pub fn push<R: Wait>(&self, rt: &R, feeder: &mut Feeder<J>, job: J) -> Result<(), J>
         requires queue { feeder.old.queue ≡ self.now.id }
         requires room { length feeder.old.stored < 1048576 }
@@ -105,6 +106,7 @@ impl<J> JobQueue<J> {
         ensures back { IfErr result (λ x. x ≡ job) }
         ensures same { OnErr result (feeder.new ≡ feeder.old) }
         ensures full { OnErr result (WasFull self.now feeder.old) }
+        ensures only { OnErr result (self.now.id.feeders ≡ 1 → self.now.capacity ≤ length feeder.old.stored) }
     {
         let fed = Fed {
             feeder: feeder.number,

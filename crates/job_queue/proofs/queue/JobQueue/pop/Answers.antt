@@ -1,7 +1,7 @@
 use Rattle.std.proofs.Common.{All, ◌≡◌, ◌<◌, sym, ap, ◌∙◌, subst, []}
 use Rattle.std.proofs.lemmas.List.Elements.{All-from_recursion}
 use Rattle.job_queue.specs.declared.view.Fed.{Fed}
-use Rattle.job_queue.specs.Jobs.{Moment}
+use Rattle.job_queue.specs.Jobs.{Moment, IsMomentOf}
 use Rattle.job_queue.proofs.Gathered.{nothing}
 use Rattle.crossbeam_queue.specs.Fifo.{Pops, Learns, Forks}
 use Rattle.job_queue.specs.declared.view.View.{View}
@@ -27,7 +27,8 @@ pub returns-in-None-clause-empty : goal.returns-in-None-clause-empty
 returns-in-None-clause-empty g c =
     let e = c.in-None.ensures.rule.1 in
     let m : Moment g.row.J.Denot = record { pops = e.2.0; held = e.0 } in
-    (m, nothing e.0 e.1, subst (HasTaken m) c.taker.view_is e.2.2)
+    let Possible : OfTaker g.row.J.Denot → Type 0 = λ t. IsMomentOf t.queue.feeders t.queue.takers m in
+    (m, nothing e.0 e.1, subst (HasTaken m) c.taker.view_is e.2.2, subst Possible c.taker.view_is e.2.3)
 
 pub returns-in-Some-clause-taken : goal.returns-in-Some-clause-taken
 returns-in-Some-clause-taken g c =

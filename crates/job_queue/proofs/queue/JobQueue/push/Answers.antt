@@ -1,12 +1,13 @@
-use Rattle.std.proofs.Common.{◌≡◌, ◌∙◌, ap, length, sym, subst, []}
+use Rattle.std.proofs.Common.{◌≡◌, ◌<◌, ◌∙◌, ap, length, sym, subst, []}
 use Rattle.crossbeam_queue.specs.Fifo.{Pushes, Learns}
 use Rattle.job_queue.specs.declared.view.Fed.{Fed}
 use Rattle.job_queue.specs.declared.view.View.{View}
-use Rattle.job_queue.specs.Jobs.{fed, Moment}
-use Rattle.job_queue.specs.Seen.{OfQueue, HasStored, feeder_of}
+use Rattle.job_queue.specs.Jobs.{fed, Moment, IsMomentOf}
+use Rattle.job_queue.specs.Seen.{QueueId, OfQueue, OfFeeder, HasStored, feeder_of}
 use Rattle.job_queue.specs.Views.{known_of}
 use Rattle.job_queue.specs.Rule.{Kept, Stored, Saw}
 use Rattle.job_queue.proofs.Steps.{stores_it, learns_it}
+use Rattle.job_queue.proofs.Full.{only_fills}
 use Rattle.job_queue.proofs.queue.JobQueue.push.Goals as goal
 
 pub push_as-requires-clause-rule : goal.push_as-requires-clause-rule
@@ -25,7 +26,13 @@ pub returns-in-Err-clause-full : goal.returns-in-Err-clause-full
 returns-in-Err-clause-full g c =
     let e = c.in-Err.ensures.rule.2 in
     let m : Moment g.row.J.Denot = record { pops = e.2.0; held = e.0 } in
-    (m, e.1 ∙ ap (λ (q : OfQueue). q.capacity) c.self.view_is, subst (HasStored m) c.feeder.view_is e.2.1)
+    let Possible : OfFeeder g.row.J.Denot → Type 0 = λ f. IsMomentOf f.queue.feeders f.queue.takers m in
+    (m, e.1 ∙ ap (λ (q : OfQueue). q.capacity) c.self.view_is, subst (HasStored m) c.feeder.view_is e.2.1, subst Possible c.feeder.view_is e.2.3)
+
+pub returns-in-Err-clause-only : goal.returns-in-Err-clause-only
+returns-in-Err-clause-only g c one =
+    let Numbered : OfFeeder g.row.J.Denot → Type 0 = λ f. f.number < f.queue.feeders in
+    only_fills c.args.self.now c.args.feeder.now (ap (λ (q : QueueId). q.feeders) c.requires.queue ∙ one) (subst Numbered c.feeder.view_is c.feeder.invariant.4) (returns-in-Err-clause-full g c)
 
 pub returns-in-Err-clause-back : goal.returns-in-Err-clause-back
 returns-in-Err-clause-back g c = c.into_job.ensures ∙ ap (λ (x : Fed g.row.J.Denot). x.job) c.in-Err.ensures.rule.0
