@@ -6,7 +6,9 @@ that fails ends it with status 1.
     check/program.py PROGRAM            as check/program.py crates/market/out/market
 """
 import os
+import pty
 import random
+import re
 import signal
 import subprocess
 import sys
@@ -167,6 +169,34 @@ def refuses_words(program):
         due(f"{words} is refused with a text", (found.returncode, found.stdout, found.stderr != b""), (2, b"", True))
 
 
+def tells_progress(program):
+    # An input that comes for more than a second: what is told of it comes at most four times a second, where it is asked for or seen.
+    journal = ran([program, "run", "--journal"], SCRIPT).stdout
+    for words in SUBCOMMANDS:
+        if words[0] == "drive":
+            continue
+        lines = (journal if words[0] == "replay" else SCRIPT + b"0 limit\n" * 3).splitlines(keepends=True)
+        whole = ran([program, *words], b"".join(lines))
+        for how, options in (("untold", []), ("asked for", ["--progress"]), ("to a terminal", [])):
+            seen, shown = pty.openpty() if how == "to a terminal" else os.pipe()
+            child = subprocess.Popen([program, *words, *options], stdin=subprocess.PIPE, stdout=subprocess.PIPE, stderr=shown)
+            os.close(shown)
+            for line in lines:
+                child.stdin.write(line)
+                child.stdin.flush()
+                time.sleep(1.6 / len(lines))
+            child.stdin.close()
+            told, status = child.stdout.read(), child.wait()
+            due(f"{' '.join(words)} writes the same where its progress is {how}", (told, status), (whole.stdout, whole.returncode))
+            try:
+                said = os.read(seen, 4_096).decode().splitlines()
+            except OSError:
+                said = []
+            os.close(seen)
+            fits = all(re.fullmatch(words[0] + r": \d+ lines, \d+ bytes, \d+ lines a second", line) for line in said)
+            due(f"and tells of it {how}", (fits, said == [] if how == "untold" else 1 <= len(said) <= 4), (True, True))
+
+
 def does_its_job(program):
     due("a script is answered", ran([program, "run"], SCRIPT).stdout, REPLIES)
     journal = ran([program, "run", "--journal"], SCRIPT).stdout
@@ -182,7 +212,7 @@ def does_its_job(program):
 
 def main():
     program = os.path.abspath(sys.argv[1])
-    for case in (does_its_job, has_examples, talks, is_killed, reads_slowly, closes_its_pipe, fills_a_disk, cannot_read, comes_in_pieces, is_too_long, helps, refuses_words):
+    for case in (does_its_job, has_examples, talks, is_killed, reads_slowly, closes_its_pipe, fills_a_disk, cannot_read, comes_in_pieces, is_too_long, helps, refuses_words, tells_progress):
         case(program)
     return 0
 

@@ -5,15 +5,15 @@ ghost use Rattle.std.specs.Prelude.{◌≤◌};
 
 mod progress;
 
-use crate::progress::ProgressGate;
+use crate::progress::{Meter, MeteredSource, ProgressGate};
 use byte_devices::{ReadSource, WriteSink};
 use clap::Error;
 use clap::error::ErrorKind;
 use market_drive::DriveFault;
 use market_prog::{
-    Choice, DriveEnd, DriveOptions, MarketOptions, RunFault, ScriptTask, explain_script,
-    read_words, run_drive, run_drive_through, run_journal, run_replay, run_script, status_of_drive,
-    status_of_replay, status_of_run,
+    Choice, DriveEnd, DriveOptions, ReplayOptions, RunFault, ScriptOptions, ScriptTask,
+    explain_script, read_words, run_drive, run_drive_through, run_journal, run_replay, run_script,
+    status_of_drive, status_of_replay, status_of_run,
 };
 use std::fmt::Display;
 use std::io::IsTerminal;
@@ -43,30 +43,47 @@ fn finish<T: Drop>(rt: &HostRuntime, outcome: Result<T, RunFault>, status: u8) -
     }
 }
 
+/// What tells how much of standard input a command has read: where that is asked for, and where a person sees standard error
+/// and doesn't type the lines.
+fn meter_of<'a>(
+    rt: &'a HostRuntime,
+    command: &'static str,
+    asked: bool,
+) -> Option<Meter<'a, HostRuntime>> {
+    let tells = asked || (rt.stderr().is_terminal() && !rt.stdin().is_terminal());
+    if tells { Meter::new(rt, command) } else { None }
+}
+
 /// Writes what was chosen of the script on standard input.
-fn work_script(rt: &HostRuntime, task: ScriptTask, options: MarketOptions) -> u8 {
+fn work_script(rt: &HostRuntime, task: ScriptTask, options: ScriptOptions) -> u8 {
     let alloc = rt.alloc();
-    let input = &mut ReadSource::new(rt.stdin());
+    let command = match task {
+        ScriptTask::Answer | ScriptTask::Journal => "run",
+        ScriptTask::Explain => "explain",
+    };
+    let meter = meter_of(rt, command, options.progress);
+    let input = &mut MeteredSource::new(ReadSource::new(rt.stdin()), meter);
     let output = &mut WriteSink::new(rt.stdout());
     let outcome = match task {
-        ScriptTask::Answer => run_script(alloc, options, input, output),
-        ScriptTask::Journal => run_journal(alloc, options, input, output),
-        ScriptTask::Explain => explain_script(alloc, options, input, output),
+        ScriptTask::Answer => run_script(alloc, options.market, input, output),
+        ScriptTask::Journal => run_journal(alloc, options.market, input, output),
+        ScriptTask::Explain => explain_script(alloc, options.market, input, output),
     };
     let status = status_of_run(&outcome);
     finish(rt, outcome, status)
 }
 
 /// Replays the journal on standard input.
-fn replay(rt: &HostRuntime) -> u8 {
-    let mut input = ReadSource::new(rt.stdin());
+fn replay(rt: &HostRuntime, options: ReplayOptions) -> u8 {
+    let meter = meter_of(rt, "replay", options.progress);
+    let mut input = MeteredSource::new(ReadSource::new(rt.stdin()), meter);
     let mut output = WriteSink::new(rt.stdout());
     let outcome = run_replay(rt.alloc(), &mut input, &mut output);
     let status = status_of_replay(&outcome);
     finish(rt, outcome, status)
 }
 
-/// Whether progress is told: where standard error is a terminal, and where it is asked for.
+/// Whether the progress of a drive is told: where standard error is a terminal, and where it is asked for.
 fn tells_progress(rt: &HostRuntime, options: DriveOptions) -> bool {
     options.progress || rt.stderr().is_terminal()
 }
@@ -126,7 +143,7 @@ fn obey<T: Threads + Wait + Sync>(rt: &HostRuntime, threads: &T, words: &[String
     };
     match read_words(rt.alloc(), &texts) {
         Ok(Choice::Script(task, options)) => work_script(rt, task, options),
-        Ok(Choice::Replay) => replay(rt),
+        Ok(Choice::Replay(options)) => replay(rt, options),
         Ok(Choice::Drive(options)) => drive(rt, threads, options),
         Err(error) => print_help(rt, &error),
     }

@@ -142,11 +142,11 @@ record HasMarketRules (rules : List Rule) : Type 0 where
 
 run_rules : HasMarketRules run.rules
 run_rules = record {
-  only_base = ((λ _. refl), (other, (other, (other, (other, (other, (other, tt)))))));
-  only_hard = (other, ((λ _. refl), (other, (other, (other, (other, (other, tt)))))));
-  only_seats = (other, (other, ((λ _. refl), (other, (other, (other, (other, tt)))))));
-  only_levels = (other, (other, (other, ((λ _. refl), (other, (other, (other, tt)))))));
-  only_last = (other, (other, (other, (other, ((λ _. refl), (other, (other, tt)))))));
+  only_base = ((λ _. refl), (other, (other, (other, (other, (other, (other, (other, tt))))))));
+  only_hard = (other, ((λ _. refl), (other, (other, (other, (other, (other, (other, tt))))))));
+  only_seats = (other, (other, ((λ _. refl), (other, (other, (other, (other, (other, tt))))))));
+  only_levels = (other, (other, (other, ((λ _. refl), (other, (other, (other, (other, tt))))))));
+  only_last = (other, (other, (other, (other, ((λ _. refl), (other, (other, (other, tt))))))));
   has_base = inl refl;
   has_hard = inr (inl refl);
   has_seats = inr (inr (inl refl));
@@ -156,11 +156,11 @@ run_rules = record {
 
 explain_rules : HasMarketRules explain.rules
 explain_rules = record {
-  only_base = ((λ _. refl), (other, (other, (other, (other, (other, tt))))));
-  only_hard = (other, ((λ _. refl), (other, (other, (other, (other, tt))))));
-  only_seats = (other, (other, ((λ _. refl), (other, (other, (other, tt))))));
-  only_levels = (other, (other, (other, ((λ _. refl), (other, (other, tt))))));
-  only_last = (other, (other, (other, (other, ((λ _. refl), (other, tt))))));
+  only_base = ((λ _. refl), (other, (other, (other, (other, (other, (other, tt)))))));
+  only_hard = (other, ((λ _. refl), (other, (other, (other, (other, (other, tt)))))));
+  only_seats = (other, (other, ((λ _. refl), (other, (other, (other, (other, tt)))))));
+  only_levels = (other, (other, (other, ((λ _. refl), (other, (other, (other, tt)))))));
+  only_last = (other, (other, (other, (other, ((λ _. refl), (other, (other, tt)))))));
   has_base = inl refl;
   has_hard = inr (inl refl);
   has_seats = inr (inr (inl refl));

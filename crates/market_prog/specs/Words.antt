@@ -10,6 +10,8 @@ use Rattle.market_prog.specs.declared.words.Choice.TheVariants.{Script, Replay, 
 use Rattle.market_prog.specs.declared.words.ScriptTask.{ScriptTask}
 use Rattle.market_prog.specs.declared.words.ScriptTask.TheVariants.{Answer, Journal, Explain}
 use Rattle.market_prog.specs.declared.options.MarketOptions.{MarketOptions}
+use Rattle.market_prog.specs.declared.words.ScriptOptions.{ScriptOptions}
+use Rattle.market_prog.specs.declared.words.ReplayOptions.{ReplayOptions}
 use Rattle.market_prog.specs.declared.words.DriveOptions.{DriveOptions}
 
 -- the option `--name` with a number from 1 to high
@@ -35,19 +37,25 @@ script_app name = with_rule (with_rule (with_rule (with_rule (with_rule (new_app
 abbrev pub flag_rule : Text → Rule
 flag_rule name = record (new_rule name) { long = Some name; action = Some SetTrue }
 
+-- the option that asks for progress to be told
+abbrev pub progress_rule : Rule
+progress_rule = flag_rule (codes "progress")
+
 -- the subcommand `run`
 abbrev pub run_app : App
-run_app = with_rule (script_app (codes "run")) (flag_rule (codes "journal"))
+run_app = with_rule (with_rule (script_app (codes "run")) (flag_rule (codes "journal"))) progress_rule
 
--- the subcommand `replay`, which has no options
+-- the subcommand `explain`
+abbrev pub explain_app : App
+explain_app = with_rule (script_app (codes "explain")) progress_rule
+
+-- the subcommand `replay`
 abbrev pub replay_app : App
-replay_app = new_app (codes "replay")
+replay_app = with_rule (new_app (codes "replay")) progress_rule
 
 -- the subcommand `drive`
 abbrev pub drive_app : App
-drive_app = with_rule (with_rule (new_app (codes "drive"))
-    (number_rule (codes "workers") (codes "4") 16))
-    (flag_rule (codes "progress"))
+drive_app = with_rule (with_rule (new_app (codes "drive")) (number_rule (codes "workers") (codes "4") 16)) progress_rule
 
 -- a command that tells its version, and is nothing without a subcommand
 abbrev pub with_choice_asked : App → App
@@ -58,7 +66,7 @@ with_choice_asked a =
 abbrev pub market_app : App
 market_app = with_subcommand (with_subcommand (with_subcommand (with_subcommand (with_choice_asked (new_app (codes "market")))
     run_app.top)
-    (script_app (codes "explain")).top)
+    explain_app.top)
     replay_app.top)
     drive_app.top
 
@@ -88,6 +96,15 @@ IsTaskOf found Answer = (found.0 ≡ codes "run") × (asks (codes "journal") fou
 IsTaskOf found Journal = (found.0 ≡ codes "run") × (asks (codes "journal") found.1 ≡ true)
 IsTaskOf found Explain = found.0 ≡ codes "explain"
 
+-- the options of a script are those of these matches
+pub record IsScriptOf (rows : List Row) (options : ScriptOptions) : Type 0 where
+  pub market : IsMarketOf rows options.market
+  pub progress : options.progress ≡ asks (codes "progress") rows
+
+-- the options of `replay` are those of these matches
+abbrev pub IsReplayOf : List Row → ReplayOptions → Type 0
+IsReplayOf rows options = options.progress ≡ asks (codes "progress") rows
+
 -- the options of `drive` are those of these matches
 pub record IsDriveOf (rows : List Row) (options : DriveOptions) : Type 0 where
   pub workers : IsNumberOf (codes "workers") 16 rows options.workers
@@ -95,8 +112,8 @@ pub record IsDriveOf (rows : List Row) (options : DriveOptions) : Type 0 where
 
 -- the choice is the named subcommand with these matches
 abbrev pub IsChoiceOf : Text × List Row → Choice → Type 0
-IsChoiceOf found (Script task options) = IsTaskOf found task × IsMarketOf found.1 options
-IsChoiceOf found Replay = found.0 ≡ codes "replay"
+IsChoiceOf found (Script task options) = IsTaskOf found task × IsScriptOf found.1 options
+IsChoiceOf found (Replay options) = (found.0 ≡ codes "replay") × IsReplayOf found.1 options
 IsChoiceOf found (Drive options) = (found.0 ≡ codes "drive") × IsDriveOf found.1 options
 
 -- the choice is that of clap's subcommand for the words, with its matches

@@ -24,4 +24,4 @@ pub use fault::{RunFault, status_of_run};
 pub use journal::run_journal;
 pub use options::MarketOptions;
 pub use replay::{run_replay, status_of_replay};
-pub use words::{Choice, DriveOptions, ScriptTask, read_words};
+pub use words::{Choice, DriveOptions, ReplayOptions, ScriptOptions, ScriptTask, read_words};

@@ -1,7 +1,7 @@
 //! The words of the command line.
 ghost use Rattle.std.specs.Prelude.{◌≡◌, ◌≤◌, ◌<◌, IfOk, codes, false, map};
 ghost use Rattle.clap.specs.Words.{App, FailsBy, app_of, fault_of, found_of, new_app, rows_of, rule_of, with_rule, with_subcommand};
-ghost use Rattle.market_prog.specs.Words.{Chooses, IsChoiceOf, IsDriveOf, IsNumberOf, IsMarketOf, asks, drive_app, flag_rule, market_app, number_rule, replay_app, run_app, script_app, with_choice_asked};
+ghost use Rattle.market_prog.specs.Words.{Chooses, IsChoiceOf, IsDriveOf, IsNumberOf, IsMarketOf, IsReplayOf, IsScriptOf, asks, drive_app, explain_app, flag_rule, market_app, number_rule, replay_app, run_app, script_app, with_choice_asked};
 ghost use Rattle.market_prog.specs.Command.{IsCommandOf};
 ghost use Rattle.market_prog.specs.Passed.{HasNumber, HasMarketNumbers, NamesSubcommand};
 
@@ -18,9 +18,9 @@ const VERSION: &str = "0.1.0";
 #[derive(Clone, Copy, Debug, PartialEq, Eq)]
 pub enum Choice {
     /// `market run` and `market explain`: a script speaks to this market.
-    Script(ScriptTask, MarketOptions),
+    Script(ScriptTask, ScriptOptions),
     /// `market replay`: replays a journal.
-    Replay,
+    Replay(ReplayOptions),
     /// `market drive`: drives a plan.
     Drive(DriveOptions),
 }
@@ -34,6 +34,22 @@ pub enum ScriptTask {
     Journal,
     /// `market explain`: the explanation of the market that it leads to.
     Explain,
+}
+
+/// How a script is read.
+#[derive(Clone, Copy, Debug, PartialEq, Eq)]
+pub struct ScriptOptions {
+    /// The market that it speaks to.
+    pub market: MarketOptions,
+    /// `--progress`: how much is read is told meanwhile, also where standard error is no terminal.
+    pub progress: bool,
+}
+
+/// How a journal is replayed.
+#[derive(Clone, Copy, Debug, PartialEq, Eq)]
+pub struct ReplayOptions {
+    /// `--progress`: how much is read is told meanwhile, also where standard error is no terminal.
+    pub progress: bool,
 }
 
 /// How a plan is driven.
@@ -181,6 +197,18 @@ fn with_flag<'a>(
     command?.arg(flag_arg(alloc, name, help))
 }
 
+/// A command that also takes `--progress`, where there was memory to make the command. `told` is what that tells.
+fn with_progress<'a>(
+    command: Result<Command<'a>, AllocError>,
+    alloc: Global,
+    told: &'static str,
+) -> Result<Command<'a>, AllocError>
+    ensures { (app : App) → IfOk command.entry (λ c. IsCommandOf c app) → IfOk result (λ c.
+        IsCommandOf c (with_rule app (flag_rule (codes "progress")))) }
+{
+    with_flag(command, alloc, "progress", told)
+}
+
 /// The subcommand `run`.
 fn run_command<'a>(alloc: Global) -> Result<Command<'a>, AllocError>
     ensures { IfOk result (λ c. IsCommandOf c run_app) }
@@ -191,33 +219,36 @@ fn run_command<'a>(alloc: Global) -> Result<Command<'a>, AllocError>
         "Answers a script of commands, line by line",
         help::OF_RUN,
     );
-    with_flag(
+    let command = with_flag(
         command,
         alloc,
         "journal",
         "Writes the journal of the script's commands in place of the replies",
-    )
+    );
+    with_progress(command, alloc, help::PROGRESS_OF_LINES)
 }
 
 /// The subcommand `explain`.
 fn explain_command<'a>(alloc: Global) -> Result<Command<'a>, AllocError>
-    ensures { IfOk result (λ c. IsCommandOf c (script_app (codes "explain"))) }
+    ensures { IfOk result (λ c. IsCommandOf c explain_app) }
 {
-    script_command(
+    let command = script_command(
         alloc,
         "explain",
         "Explains how workers are divided after a script of commands",
         help::OF_EXPLAIN,
-    )
+    );
+    with_progress(command, alloc, help::PROGRESS_OF_LINES)
 }
 
 /// The subcommand `replay`.
-fn replay_command<'a>(alloc: Global) -> Command<'a>
-    ensures { IsCommandOf result replay_app }
+fn replay_command<'a>(alloc: Global) -> Result<Command<'a>, AllocError>
+    ensures { IfOk result (λ c. IsCommandOf c replay_app) }
 {
-    Command::new(alloc, "replay")
+    let command = Command::new(alloc, "replay")
         .about("Replays a journal, and tells whether it is legal")
-        .after_help(help::OF_REPLAY)
+        .after_help(help::OF_REPLAY);
+    with_progress(Ok(command), alloc, help::PROGRESS_OF_LINES)
 }
 
 /// The subcommand `drive`.
@@ -228,12 +259,7 @@ fn drive_command<'a>(alloc: Global) -> Result<Command<'a>, AllocError>
         .about("Runs a plan of jobs by workers that the market moves, and writes their values")
         .after_help(help::OF_DRIVE);
     let command = with_number(Ok(command), alloc, WORKERS);
-    with_flag(
-        command,
-        alloc,
-        "progress",
-        "Tells on standard error how many jobs are done, also where that is no terminal",
-    )
+    with_progress(command, alloc, help::PROGRESS_OF_JOBS)
 }
 
 /// A command with one more subcommand, where there was memory to make it.
@@ -267,7 +293,7 @@ fn market_command<'a>(alloc: Global) -> Result<Command<'a>, AllocError>
 {
     let command = with_made(bare_command(alloc), run_command(alloc))?;
     let command = with_made(command, explain_command(alloc))?;
-    let command = command.subcommand(replay_command(alloc))?;
+    let command = with_made(command, replay_command(alloc))?;
     with_made(command, drive_command(alloc))
 }
 
@@ -298,6 +324,33 @@ fn asks(matches: &ArgMatches<'_>, name: &str) -> bool
     word == "true"
 }
 
+/// `--progress` is among matches that clap has passed.
+fn asks_progress(matches: &ArgMatches<'_>) -> bool
+    ensures { result ≡ asks (codes "progress") (rows_of (found_of matches.now)) }
+{
+    asks(matches, "progress")
+}
+
+/// The options of a script in matches that clap has passed.
+fn script_options(matches: &ArgMatches<'_>) -> ScriptOptions
+    requires { HasMarketNumbers (rows_of (found_of matches.now)) }
+    ensures { IsScriptOf (rows_of (found_of matches.now)) result }
+{
+    ScriptOptions {
+        market: market_options(matches),
+        progress: asks_progress(matches),
+    }
+}
+
+/// The options of `replay` in matches that clap has passed.
+fn replay_options(matches: &ArgMatches<'_>) -> ReplayOptions
+    ensures { IsReplayOf (rows_of (found_of matches.now)) result }
+{
+    ReplayOptions {
+        progress: asks_progress(matches),
+    }
+}
+
 /// The options of `drive` in matches that clap has passed.
 fn drive_options(matches: &ArgMatches<'_>) -> DriveOptions
     requires { HasNumber (codes "workers") 16 (rows_of (found_of matches.now)) }
@@ -305,7 +358,7 @@ fn drive_options(matches: &ArgMatches<'_>) -> DriveOptions
 {
     DriveOptions {
         workers: WORKERS.number(matches),
-        progress: asks(matches, "progress"),
+        progress: asks_progress(matches),
     }
 }
 
@@ -315,12 +368,12 @@ fn choice_of(name: &str, matches: &ArgMatches<'_>) -> Choice
     ensures { IsChoiceOf (name.now, rows_of (found_of matches.now)) result }
 {
     if name == "replay" {
-        return Choice::Replay;
+        return Choice::Replay(replay_options(matches));
     }
     if name == "drive" {
         return Choice::Drive(drive_options(matches));
     }
-    let options = market_options(matches);
+    let options = script_options(matches);
     let task = match name {
         "run" if asks(matches, "journal") => ScriptTask::Journal,
         "run" => ScriptTask::Answer,

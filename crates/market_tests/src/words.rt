@@ -1,6 +1,8 @@
 //! Command lines, and what is said of them.
 use crate::asserts::same;
-use market_prog::{Choice, DriveOptions, MarketOptions, ScriptTask, read_words};
+use market_prog::{
+    Choice, DriveOptions, MarketOptions, ReplayOptions, ScriptOptions, ScriptTask, read_words,
+};
 use market_types::LastNumber;
 use std::alloc::Global;
 use std::process::Abort;
@@ -14,15 +16,49 @@ fn choose(rt: &impl Abort, alloc: Global, words: &[&str], due: Choice) {
     same(rt, choice, due);
 }
 
+/// That task, of a script that speaks to this market.
+fn script(task: ScriptTask, market: MarketOptions) -> Choice {
+    let progress = false;
+    Choice::Script(task, ScriptOptions { market, progress })
+}
+
 #[test]
 fn options_are_read_or_default(rt: HostRuntime) {
-    let due = Choice::Script(ScriptTask::Answer, MarketOptions::USUAL);
+    let due = script(ScriptTask::Answer, MarketOptions::USUAL);
     choose(&rt, rt.alloc(), &["market", "run"], due);
-    let due = Choice::Script(ScriptTask::Journal, MarketOptions::USUAL);
+    let due = script(ScriptTask::Journal, MarketOptions::USUAL);
     choose(&rt, rt.alloc(), &["market", "run", "--journal"], due);
-    let due = Choice::Script(ScriptTask::Explain, MarketOptions::USUAL);
+    let due = script(ScriptTask::Explain, MarketOptions::USUAL);
     choose(&rt, rt.alloc(), &["market", "explain"], due);
-    choose(&rt, rt.alloc(), &["market", "replay"], Choice::Replay);
+    let due = Choice::Replay(ReplayOptions { progress: false });
+    choose(&rt, rt.alloc(), &["market", "replay"], due);
+}
+
+#[test]
+fn progress_is_asked_for(rt: HostRuntime) {
+    let progress = true;
+    let market = MarketOptions::USUAL;
+    let options = ScriptOptions { market, progress };
+    for (words, due) in [
+        (
+            ["market", "run", "--progress"].as_slice(),
+            Choice::Script(ScriptTask::Answer, options),
+        ),
+        (
+            ["market", "run", "--progress", "--journal"].as_slice(),
+            Choice::Script(ScriptTask::Journal, options),
+        ),
+        (
+            ["market", "explain", "--progress"].as_slice(),
+            Choice::Script(ScriptTask::Explain, options),
+        ),
+        (
+            ["market", "replay", "--progress"].as_slice(),
+            Choice::Replay(ReplayOptions { progress }),
+        ),
+    ] {
+        choose(&rt, rt.alloc(), words, due);
+    }
 }
 
 #[test]
@@ -32,12 +68,7 @@ fn an_option_is_read_beside_the_usual_ones(rt: HostRuntime) {
         base: 3,
         ..MarketOptions::USUAL
     };
-    choose(
-        &rt,
-        rt.alloc(),
-        &words,
-        Choice::Script(ScriptTask::Explain, three),
-    );
+    choose(&rt, rt.alloc(), &words, script(ScriptTask::Explain, three));
 }
 
 /// A market whose arenas are numbered to there.
@@ -71,10 +102,10 @@ fn the_greatest_numbers_are_read(rt: HostRuntime) {
         levels: 8,
         ..with_last(&rt, 4_294_967_294)
     };
-    let due = Choice::Script(ScriptTask::Answer, most);
+    let due = script(ScriptTask::Answer, most);
     choose(&rt, rt.alloc(), &words, due);
     let words = ["market", "explain", "--last", "3"];
-    let due = Choice::Script(ScriptTask::Explain, with_last(&rt, 3));
+    let due = script(ScriptTask::Explain, with_last(&rt, 3));
     choose(&rt, rt.alloc(), &words, due);
 }
 

@@ -1,7 +1,7 @@
 //! The words of a command line.
 use crate::asserts::{holds, same};
 use clap::error::ErrorKind;
-use market_prog::{Choice, MarketOptions, ScriptTask, read_words};
+use market_prog::{Choice, MarketOptions, ScriptOptions, ScriptTask, read_words};
 use std::rt::HostRuntime;
 
 #[test]
@@ -17,9 +17,12 @@ fn a_refused_growth_leaves_words_to_be_read(rt: HostRuntime) {
             choice
         }
     };
-    let nine_seats = MarketOptions {
-        seats: 9,
-        ..MarketOptions::USUAL
+    let nine_seats = ScriptOptions {
+        market: MarketOptions {
+            seats: 9,
+            ..MarketOptions::USUAL
+        },
+        progress: false,
     };
     same(&rt, choice, Choice::Script(ScriptTask::Answer, nine_seats));
 }

@@ -2,8 +2,8 @@ use Rattle.std.proofs.Common.{◌≡◌, ◌∙◌, sym, true, inl, inr, true≢
 use Rattle.std.proofs.lemmas.Slice.Eq.{bytes_eq-Decides}
 use Rattle.market_prog.proofs.words.choice_of.Goals as goal
 
-pub market_options-options-requires : goal.market_options-options-requires
-market_options-options-requires c =
+pub script_options-options-requires : goal.script_options-options-requires
+script_options-options-requires c =
     elim c.requires [
       | inl script ↦ script.numbers
       | inr (inl is) ↦

@@ -9,4 +9,4 @@ returns c =
     let start : IsCommandOf c.new.result (new_app (codes "drive")) = record { is = c.new.ensures.app; local = c.new.ensures.local } in
     let about = command_with_setting _ _ _ (λ a. a) _ c.about.ensures refl refl start in
     let help = command_with_setting _ _ _ (λ a. a) _ c.after_help-command.ensures refl refl about in
-    c.with_flag.ensures _ (c.with_number-command.ensures _ help)
+    c.with_progress.ensures _ (c.with_number-command.ensures _ help)

@@ -1,10 +1,9 @@
 use Rattle.std.proofs.lemmas.Result.{IfOk-weaker}
-use Rattle.market_prog.proofs.Commands.{command_with_subcommand}
 use Rattle.market_prog.proofs.words.market_command.Goals as goal
 
 pub returns : goal.returns
 returns c =
     let run = c.in_ok-command.ensures _ _ c.bare_command.ensures c.run_command.ensures in
     let explain = c.in_ok-command-2.ensures _ _ run c.explain_command.ensures in
-    let replay = command_with_subcommand _ _ _ _ _ c.in_ok-command-3.ensures c.replay_command.ensures explain in
-    IfOk-weaker c.with_made-3.result _ _ (λ r is. is.is) (c.with_made-3.ensures _ _ replay c.drive_command.ensures)
+    let replay = c.in_ok-command-3.ensures _ _ explain c.replay_command.ensures in
+    IfOk-weaker c.with_made-4.result _ _ (λ r is. is.is) (c.with_made-4.ensures _ _ replay c.drive_command.ensures)

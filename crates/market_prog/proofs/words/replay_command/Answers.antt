@@ -8,4 +8,5 @@ pub returns : goal.returns
 returns c =
     let start : IsCommandOf c.new.result (new_app (codes "replay")) = record { is = c.new.ensures.app; local = c.new.ensures.local } in
     let about = command_with_setting _ _ _ (λ a. a) _ c.about.ensures refl refl start in
-    command_with_setting _ _ _ (λ a. a) _ c.after_help.ensures refl refl about
+    let help = command_with_setting _ _ _ (λ a. a) _ c.after_help-command.ensures refl refl about in
+    c.with_progress.ensures _ help
