@@ -6,8 +6,6 @@
 //! these cut what they give and take into pieces of a chosen size, and fail where a test says.
 #![tactic(auto)]
 
-#[cfg(test)]
-mod asked_once;
 mod device;
 mod out_fault;
 mod std_device;
@@ -17,3 +15,6 @@ pub use device::{DeviceFault, Sink, Source, WriteFault, put_all};
 pub use out_fault::OutFault;
 pub use std_device::{ReadSource, WriteSink};
 pub use test_device::{Refusal, TestSink, TestSource};
+
+#[cfg(test)]
+mod asked_once;

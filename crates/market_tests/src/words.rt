@@ -34,31 +34,33 @@ fn options_are_read_or_default(rt: HostRuntime) {
     choose(&rt, rt.alloc(), &["market", "replay"], due);
 }
 
+/// That task, of a script that speaks to the usual market and of which progress is told.
+fn told(task: ScriptTask) -> Choice {
+    let market = MarketOptions::USUAL;
+    let progress = true;
+    Choice::Script(task, ScriptOptions { market, progress })
+}
+
 #[test]
 fn progress_is_asked_for(rt: HostRuntime) {
-    let progress = true;
-    let market = MarketOptions::USUAL;
-    let options = ScriptOptions { market, progress };
-    for (words, due) in [
+    for (words, task) in [
         (
             ["market", "run", "--progress"].as_slice(),
-            Choice::Script(ScriptTask::Answer, options),
+            ScriptTask::Answer,
         ),
         (
             ["market", "run", "--progress", "--journal"].as_slice(),
-            Choice::Script(ScriptTask::Journal, options),
+            ScriptTask::Journal,
         ),
         (
             ["market", "explain", "--progress"].as_slice(),
-            Choice::Script(ScriptTask::Explain, options),
-        ),
-        (
-            ["market", "replay", "--progress"].as_slice(),
-            Choice::Replay(ReplayOptions { progress }),
+            ScriptTask::Explain,
         ),
     ] {
-        choose(&rt, rt.alloc(), words, due);
+        choose(&rt, rt.alloc(), words, told(task));
     }
+    let due = Choice::Replay(ReplayOptions { progress: true });
+    choose(&rt, rt.alloc(), &["market", "replay", "--progress"], due);
 }
 
 #[test]

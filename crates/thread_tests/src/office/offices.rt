@@ -1,4 +1,5 @@
-//! Three callers of one office, one after another: two come to work, and one of them stays. An office that is never full.
+//! Three callers of one office, one after another: two come to work, and one of them stays. An office that
+//! keeps no entry answers more calls than a history has places.
 ghost use Rattle.std.specs.Prelude.{◌≡◌, ◌<◌, ◌+◌, vec_len, vec_capacity, All, IfOk, IfErr, false};
 ghost use Rattle.market_types.specs.Commands.{moves_seat};
 ghost use Rattle.market_lock.specs.Seen.{OfPass, OfPlaced};
