@@ -229,7 +229,8 @@ outcome jobs ds r le low = (
   dite (ℕ_discrete (length ds) (length jobs)) (λ e. e) (λ ne. absurd (no_more jobs ds (first_of_some ds (omega arith)) r low (omega arith))),
   λ k job d lt.
       let h = low k d lt in let p = r.1 k d (omega arith) in
-      (h, (slice_index_or ds k d).kept ∙ ap value_of (p.2 k job h)),
+      let task = p.2 k job h in
+      (h, (slice_index_or ds k d).kept ∙ ap value_of task, task),
 )
 
 -- ---- faults of the same answers in another order

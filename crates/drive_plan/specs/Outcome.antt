@@ -5,11 +5,14 @@ use Rattle.drive_plan.specs.declared.task.PlannedJob.{PlannedJob}
 use Rattle.drive_plan.specs.declared.task.Done.{Done}
 use Rattle.drive_plan.specs.Values.{value_of}
 
--- the answers are the values of the plan's jobs, one for each in order of number
+-- the answers are the values of the plan's jobs, one for each in order of number, with its task
 abbrev pub IsOutcome : List PlannedJob → List Done → Type 0
 IsOutcome jobs ds =
     (length ds ≡ length jobs)
-    × ((k : ℕ) (job : PlannedJob) (d : Done) → k < length jobs → ((slice_index_or ds k d).number ≡ k + 1) × ((slice_index_or ds k d).value ≡ value_of (slice_index_or jobs k job).task))
+    × ((k : ℕ) (job : PlannedJob) (d : Done) → k < length jobs
+    → ((slice_index_or ds k d).number ≡ k + 1)
+    × ((slice_index_or ds k d).value ≡ value_of (slice_index_or jobs k job).task)
+    × ((slice_index_or ds k d).task ≡ (slice_index_or jobs k job).task))
 
 -- how many answers have the number
 abbrev pub times : ℕ → List Done → ℕ

@@ -27,4 +27,4 @@ lines-are n (job ∷ jobs) (d ∷ ds) e h =
     ap₂ (λ (x y : ℕ). job_line x y ++ answer_lines ds) number here.1 ∙ ap (λ (t : List ℕ). job_line n (value_of job.task) ++ t) rest
 
 pub outcome-written : (jobs : List PlannedJob) (ds : List Done) → IsOutcome jobs ds → answer_lines ds ≡ outcome_lines 1 jobs
-outcome-written jobs ds h = lines-are 1 jobs ds h.0 h.1
+outcome-written jobs ds h = lines-are 1 jobs ds h.0 (λ k job d lt. let at = h.1 k job d lt in (at.0, at.1))
