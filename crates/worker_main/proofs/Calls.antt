@@ -17,7 +17,8 @@ use Rattle.worker_main.specs.declared.station.Station.{Station}
 use Rattle.worker_main.specs.declared.report.Ended.{Ended}
 use Rattle.worker_main.specs.declared.report.Ended.TheVariants.{Idle, GateShut, NoStation, Call, Memory}
 use Rattle.worker_main.specs.Turns.{recalled, emptied, give_back, stayed, ending}
-use Rattle.worker_main.specs.Books.{IfIdle}
+use Rattle.edit_history.specs.declared.fault.CallFault.TheVariants as fault
+use Rattle.worker_main.specs.Books.{HasLackedPlaces, IfFull, IfIdle, IfShut}
 use Rattle.worker_main.specs.Steps.{HasGoneOn, HasGivenBack, HasTurned, IsInside, IsFault, IsBrokenOff, still_held}
 use Rattle.worker_main.proofs.Lists.{prefix_self, prefix_trans}
 
@@ -35,6 +36,34 @@ called p q cmd reply h =
 
 pub failed : (p q : OfPass) (cmd : Cmd) (fault : CallFault) → Fails p cmd fault q → HasGoneOn p q
 failed p q cmd fault h = (h.0, h.2.0)
+
+-- a call was not answered, and where the history was full it lacked places
+pub lacked : (a p q r : OfPass) (cmd : Cmd) (fault : CallFault) → HasGoneOn a p → Fails p cmd fault q → HasGoneOn q r → IfFull (Call fault) (HasLackedPlaces a r)
+lacked a p q r cmd fault.HistoryFull on h off = let m = goes_further a p q on (failed p q cmd fault.HistoryFull h) in (q, cmd, m.0, m.1, off.1, h.3 refl)
+lacked a p q r cmd fault.Memory on h off = tt
+
+lacked_earlier : (a b c : OfPass) → HasGoneOn a b → HasLackedPlaces b c → HasLackedPlaces a c
+lacked_earlier a b c on h = let m = goes_further a b h.0 on (h.2, h.3) in (h.0, h.1, m.0, m.1, h.4, h.5)
+
+if_full_then : {P Q : Type 0} (e : Ended) → (P → Q) → IfFull e P → IfFull e Q
+if_full_then (Call fault.HistoryFull) f p = f p
+if_full_then (Call fault.Memory) f p = tt
+if_full_then Idle f p = tt
+if_full_then Memory f p = tt
+if_full_then (GateShut job) f p = tt
+if_full_then (NoStation arena) f p = tt
+
+pub full_earlier : (a b c : OfPass) (o : Option Ended) → HasGoneOn a b → IfSome o (λ e. IfFull e (HasLackedPlaces b c)) → IfSome o (λ e. IfFull e (HasLackedPlaces a c))
+full_earlier a b c None on h = tt
+full_earlier a b c (Some e) on h = if_full_then e (lacked_earlier a b c on) h
+
+-- a fault is no shut gate
+pub fault_passes : (e : Ended) (P : Job → Type 0) → IsFault e → IfShut e P
+fault_passes (Call fault) P h = tt
+fault_passes Idle P h = absurd h
+fault_passes Memory P h = absurd h
+fault_passes (GateShut job) P h = absurd h
+fault_passes (NoStation arena) P h = absurd h
 
 -- a Request and a Leave
 pub gave_back : (s : Station) (p q r : OfPass) (cmd : Cmd) (reply : Reply) (arena : ℕ) → cmd ≡ give_back s → arena ≡ s.arena → q.seat ≡ p.seat → q.mine ≡ p.mine ++ entry p.seat cmd reply ∷ [] → r.mine ≡ q.mine ++ entry q.seat Leave (Left arena) ∷ []

@@ -2,14 +2,18 @@
 use Rattle.std.specs.Prelude.{◌≡◌, ℕ, ◌+◌, ◌≤◌, List, [], ◌∷◌, ◌++◌, length, map, slice_get, Some, ⊤}
 use mathlib.Core.List.{IsPrefix}
 use Rattle.market_types.specs.declared.reply.Entry.{Entry}
-use Rattle.market_lock.specs.Seen.{OfPass}
+use Rattle.market_types.specs.declared.command.Cmd.{Cmd}
+use Rattle.edit_history.specs.Places.{LacksPlaces}
+use Rattle.edit_history.specs.declared.fault.CallFault.TheVariants as fault
+use Rattle.market_lock.specs.Views.{chronicle_cut}
+use Rattle.market_lock.specs.Seen.{OfPass, IsSamePass}
 use Rattle.job_queue.specs.declared.view.Fed.{Fed}
 use Rattle.job_queue.specs.Seen.{OfTaker}
 use Rattle.drive_plan.specs.declared.task.Job.{Job}
 use Rattle.drive_plan.specs.declared.task.Done.{Done}
 use Rattle.worker_main.specs.declared.station.Station.{Station}
 use Rattle.worker_main.specs.declared.report.Ended.{Ended}
-use Rattle.worker_main.specs.declared.report.Ended.TheVariants.{Idle, GateShut, NoStation}
+use Rattle.worker_main.specs.declared.report.Ended.TheVariants.{Idle, GateShut, NoStation, Call}
 use Rattle.worker_main.specs.Turns.{stays_for, requests_for}
 
 abbrev pub jobs_of : List (Fed Job) → List Job
@@ -32,6 +36,20 @@ IfIdle ended P = ⊤
 abbrev pub IfNoStation : Ended → (ℕ → Type 0) → Type 0
 IfNoStation (NoStation arena) P = P arena
 IfNoStation ended P = ⊤
+
+-- what is told where the gate stayed shut, and where the history was full
+abbrev pub IfShut : Ended → (Job → Type 0) → Type 0
+IfShut (GateShut job) P = P job
+IfShut ended P = ⊤
+
+abbrev pub IfFull : Ended → Type 0 → Type 0
+IfFull (Call fault.HistoryFull) P = P
+IfFull ended P = ⊤
+
+-- between the two, the history as the caller then saw it had too few free places for a call of its seat
+abbrev pub HasLackedPlaces : OfPass → OfPass → Type 0
+HasLackedPlaces p q =
+    (m : OfPass) × (cmd : Cmd) × IsSamePass p m × IsPrefix p.seen m.seen × IsPrefix m.seen q.seen × LacksPlaces (chronicle_cut m.terms m.seen m.from) m.seat cmd
 
 -- the same taker, after more pops
 abbrev pub IsTakerAfter : OfTaker Job → OfTaker Job → Type 0

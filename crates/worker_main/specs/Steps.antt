@@ -34,6 +34,11 @@ HasLooked p ran Empty q after = (q ≡ missed_one p) × (after ≡ ran)
 HasLooked p ran (Shut job) q after = HasTaken p job q × (after ≡ ran)
 HasLooked p ran NoRoom q after = (q ≡ p) × (after ≡ ran)
 
+-- what is told where the job was not let through
+abbrev pub IfShutOut : Looked → (Job → Type 0) → Type 0
+IfShutOut (Shut job) P = P job
+IfShutOut looked P = ⊤
+
 -- the caller gave its station's request back, and left
 abbrev pub HasGivenBack : Station → OfPass → OfPass → Type 0
 HasGivenBack s p q = (reply : Reply) × (q.mine ≡ p.mine ++ ending p.seat s (emptied reply))

@@ -1,15 +1,26 @@
 //! Who says when a job may run.
-ghost use Rattle.std.specs.Prelude.{◌≡◌, true};
+ghost use Rattle.std.specs.Prelude.{◌≡◌, ◌<◌, ℕ, true, false};
 
 use std::thread;
 
-/// Whether a worker may go on with a job, and who is told when it is done.
+/// Whether a worker may go on with a job, and who is told when it is done. Contracts of workers speak of a gate in words of its
+/// own, `passed`, `refused` and `told`: that it let a job of this number through, that it refused one, and that it was told that one
+/// is done. A gate that has nothing to say of them leaves them out.
 pub trait Gate {
+    ghost passed: { Self → ℕ → Type 0 } = { λ _ _. Unit {0} };
+
+    ghost refused: { Self → ℕ → Type 0 } = { λ _ _. Unit {0} };
+
+    ghost told: { Self → ℕ → Type 0 } = { λ _ _. Unit {0} };
+
     /// Whether the job of this number may run now. It is asked without any lock held.
-    fn before(&self, number: u32) -> bool;
+    fn before(&self, number: u32) -> bool
+        ensures passed { result ≡ true → passed self.now number }
+        ensures refused { result ≡ false → refused self.now number };
 
     /// The job of this number is done.
-    fn after(&self, number: u32);
+    fn after(&self, number: u32)
+        ensures told { told self.now number };
 }
 
 /// A gate through which each job goes at once. It takes no memory.
@@ -32,8 +43,12 @@ impl Gate for OpenGate {
 }
 
 /// Asks the gate up to so many times whether the job may run. A worker that has to ask again lets other threads run first.
-pub(crate) fn is_let_through<G: Gate>(gate: &G, number: u32, turns: u64) -> bool {
-    for _ in 0..turns {
+pub(crate) fn is_let_through<G: Gate>(gate: &G, number: u32, turns: u64) -> bool
+    ensures passed { result ≡ true → G.passed gate.now number }
+    ensures refused { result ≡ false → 0 < turns → G.refused gate.now number }
+{
+    for asked in 0..turns {
+        let _ = asked;
         if gate.before(number) {
             return true;
         }

@@ -1,7 +1,8 @@
 //! One turn of a worker at an arena.
-ghost use Rattle.std.specs.Prelude.{◌≡◌, ◌++◌, IfNone, IfSome, neg_ℤ, pos};
-ghost use Rattle.worker_main.specs.Books.{results};
-ghost use Rattle.worker_main.specs.Steps.{HasGivenBack, HasGoneOn, HasLooked, HasPopped, HasTurned, IsBrokenOff, IsFault, still_held};
+ghost use Rattle.std.specs.Prelude.{◌≡◌, ◌<◌, ◌++◌, All, IfNone, IfSome, neg_ℤ, pos};
+ghost use Rattle.worker_main.specs.Books.{HasLackedPlaces, IfFull, IfShut, results};
+ghost use Rattle.worker_main.specs.Steps.{HasGivenBack, HasGoneOn, HasLooked, HasPopped, HasTurned, IfShutOut, IsBrokenOff, IsFault, still_held};
+ghost use Rattle.drive_plan.specs.declared.task.Done.{Done};
 
 use crate::gate::{Gate, is_let_through};
 use crate::report::Ended;
@@ -37,6 +38,8 @@ fn run_next<G: Gate, R: Wait>(
 ) -> Looked
     requires queue { taker.old.queue ≡ station.now.queue.id }
     ensures exact { HasLooked taker.old (results done.old.items) result taker.new (results done.new.items) }
+    ensures gate { All (λ (d : Done). G.passed gate.now d.number × G.told gate.now d.number) done.old.items → All (λ (d : Done). G.passed gate.now d.number × G.told gate.now d.number) done.new.items }
+    ensures shut { 0 < turns → IfShutOut result (λ job. G.refused gate.now job.number) }
 {
     let Ok(()) = done.reserve(1) else {
         return Looked::NoRoom;
@@ -73,6 +76,7 @@ fn give_back<C: Ledger, W: Ledger, R: Wait>(
     ensures same { HasGoneOn placed.who result.0 }
     ensures back { IfNone result.1 (HasGivenBack station.now placed.who result.0) }
     ensures fault { IfSome result.1 IsFault }
+    ensures full { IfSome result.1 (λ ended. IfFull ended (HasLackedPlaces placed.who result.0)) }
 {
     let mut placed = placed;
     let less = Cmd::Request(
@@ -106,6 +110,9 @@ pub(crate) fn take_turn<C: Ledger, W: Ledger, G: Gate, R: Wait>(
     ensures jobs { HasPopped taker.old (results done.old.items) taker.new (results done.new.items ++ still_held result.1) }
     ensures turn { IfNone result.1 (HasTurned station.now taker.old taker.new placed.who result.0) }
     ensures ended { IfSome result.1 IsBrokenOff }
+    ensures full { IfSome result.1 (λ ended. IfFull ended (HasLackedPlaces placed.who result.0)) }
+    ensures gate { All (λ (d : Done). G.passed gate.now d.number × G.told gate.now d.number) done.old.items → All (λ (d : Done). G.passed gate.now d.number × G.told gate.now d.number) done.new.items }
+    ensures shut { 0 < turns → IfSome result.1 (λ ended. IfShut ended (λ job. G.refused gate.now job.number)) }
 {
     let mut placed = placed;
     for _ in rt.forever() {

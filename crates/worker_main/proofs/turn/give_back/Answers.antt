@@ -1,6 +1,6 @@
 use Rattle.std.proofs.Common.{◌≡◌, ◌∙◌, rules, to_z, of_z, w32, neg_ℤ, pos}
 use Rattle.market_types.specs.declared.command.Cmd.TheVariants.{Request}
-use Rattle.worker_main.proofs.Calls.{called, failed, goes_further, gave_back}
+use Rattle.worker_main.proofs.Calls.{goes_on, called, failed, goes_further, gave_back, lacked}
 use Rattle.worker_main.proofs.turn.give_back.Goals as goal
 
 pub returns-clause-same : goal.returns-clause-same
@@ -17,3 +17,7 @@ returns-clause-back g c =
 pub returns-in-Err-clause-same : goal.returns-in-Err-clause-same
 returns-in-Err-clause-same g c =
     goes_further c.args.placed.who c.call_placed.new.placed.who c.leave.result (failed _ _ _ _ c.in-Err.ensures.failed) (called _ _ _ _ c.leave.ensures.exact)
+
+pub returns-in-Err-clause-full : goal.returns-in-Err-clause-full
+returns-in-Err-clause-full g c =
+    lacked c.args.placed.who c.args.placed.who c.call_placed.new.placed.who c.leave.result _ c.in-Err.fault (goes_on c.args.placed.who) c.in-Err.ensures.failed (called _ _ _ _ c.leave.ensures.exact)

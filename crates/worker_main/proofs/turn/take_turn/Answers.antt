@@ -1,13 +1,14 @@
 use Rattle.std.proofs.Common.{[], ◌∷◌, ◌++◌, refl, ap, ◌∙◌, append-nil}
 use Rattle.std.proofs.lemmas.Option.{IfSome_then}
 use Rattle.worker_main.specs.Books.{results}
+use Rattle.market_types.specs.declared.command.Cmd.TheVariants.{Stay}
 use Rattle.worker_main.proofs.Takers.{popped_nothing, popped_one, popped_none}
-use Rattle.worker_main.proofs.Calls.{goes_on, goes_further, called, failed, just_inside, stayed_on, was_recalled, was_emptied, if_none_then, fault_holds, fault_breaks}
+use Rattle.worker_main.proofs.Calls.{goes_on, goes_further, called, failed, just_inside, stayed_on, was_recalled, was_emptied, if_none_then, fault_holds, fault_breaks, fault_passes, lacked, full_earlier}
 use Rattle.worker_main.proofs.turn.take_turn.Goals as goal
 
 pub loop-init : goal.loop-init
 loop-init g c =
-    (goes_on c.args.placed.who, refl, popped_nothing c.args.taker.now (results c.args.done.now.items), just_inside c.args.station.now c.args.taker.now c.args.placed.who)
+    (goes_on c.args.placed.who, refl, popped_nothing c.args.taker.now (results c.args.done.now.items), just_inside c.args.station.now c.args.taker.now c.args.placed.who, λ h. h)
 
 pub loop-preserved : goal.loop-preserved
 loop-preserved g c =
@@ -18,6 +19,7 @@ loop-preserved g c =
       s.0 ∙ i.1,
       popped_one c.args.taker.now c.loop.taker c.run_next.new.taker _ _ _ x.1.0 x.0 i.2 x.1.1 x.1.2 x.2,
       stayed_on c.args.station.now c.args.taker.now c.loop.taker c.run_next.new.taker c.args.placed.who c.loop.placed.who c.in-Stays.stays.who x.1.0 c.loop.placed.arena i.3 x.1.2 (i.1 ∙ c.requires.arena) i.0.0.2 s.1.2.3,
+      λ h. c.run_next.ensures.gate (i.4 h),
     )
 
 pub returns-in-Recalled-clause-same : goal.returns-in-Recalled-clause-same
@@ -77,3 +79,17 @@ pub returns-in-Failed-clause-same : goal.returns-in-Failed-clause-same
 returns-in-Failed-clause-same g c =
     goes_further c.args.placed.who c.loop.placed.who c.leave-in-Failed.result c.loop.invariant.0
     (goes_further c.loop.placed.who c.in-Failed.worker.who c.leave-in-Failed.result (failed _ _ _ _ c.in-Failed.ensures.exact.1) (called _ _ _ _ c.leave-in-Failed.ensures.exact))
+
+pub returns-in-Failed-clause-full : goal.returns-in-Failed-clause-full
+returns-in-Failed-clause-full g c =
+    lacked c.args.placed.who c.loop.placed.who c.in-Failed.worker.who c.leave-in-Failed.result Stay c.in-Failed.fault c.loop.invariant.0 c.in-Failed.ensures.exact.1 (called _ _ _ _ c.leave-in-Failed.ensures.exact)
+
+pub returns-in-Empty-clause-full : goal.returns-in-Empty-clause-full
+returns-in-Empty-clause-full g c = full_earlier c.args.placed.who c.loop.placed.who c.give_back.result.0 c.give_back.result.1 c.loop.invariant.0 c.give_back.ensures.full
+
+pub returns-in-Empty-clause-shut : goal.returns-in-Empty-clause-shut
+returns-in-Empty-clause-shut g c some =
+    IfSome_then c.give_back.result.1 c.give_back.ensures.fault (λ e. fault_passes e (λ job. g.G.Gate.refused c.args.gate.now job.number))
+
+pub returns-in-Failed-clause-gate : goal.returns-in-Failed-clause-gate
+returns-in-Failed-clause-gate g c h = c.run_next.ensures.gate (c.loop.invariant.4 h)

@@ -7,7 +7,7 @@ use Rattle.worker_main.specs.Steps.{HasEarned}
 use Rattle.worker_main.specs.Stations.{IsTakerOf}
 use Rattle.worker_main.proofs.Lists.{zip_read, zip_within, contains_at}
 use Rattle.worker_main.proofs.Takers.{takers_self, takers_at, earned_at, earned_nothing}
-use Rattle.worker_main.proofs.Calls.{called, failed, goes_further, if_none_then}
+use Rattle.worker_main.proofs.Calls.{goes_on, called, failed, goes_further, if_none_then, lacked, full_earlier}
 use Rattle.worker_main.proofs.Steps.{turned}
 use Rattle.worker_main.proofs.working.visit.Goals as goal
 
@@ -81,3 +81,10 @@ pub returns-in_default-clause-jobs : goal.returns-in_default-clause-jobs
 returns-in_default-clause-jobs g c =
     let ran = results c.args.done.now.items in
     subst (λ l. HasEarned c.args.takers.now.items ran c.args.takers.now.items l) (sym (append-nil ran)) (earned_nothing c.args.takers.now.items ran)
+
+pub returns-in-Failed-clause-full : goal.returns-in-Failed-clause-full
+returns-in-Failed-clause-full g c = lacked c.args.pass c.args.pass c.in-Failed.pass c.in-Failed.pass Join c.in-Failed.fault (goes_on c.args.pass) c.in-Failed.ensures.exact (goes_on c.in-Failed.pass)
+
+pub returns-clause-full : goal.returns-clause-full
+returns-clause-full g c =
+    full_earlier c.args.pass c.in-Placed.placed.who c.take_turn.result.0 c.take_turn.result.1 (called _ _ _ _ c.in-Placed.ensures.exact) c.take_turn.ensures.full

@@ -1,9 +1,10 @@
-use Rattle.std.proofs.Common.{[], sym, subst, IfNone, IfSome}
+use Rattle.std.proofs.Common.{All, [], sym, subst, arith, IfNone, IfSome}
+use Rattle.drive_plan.specs.declared.task.Done.{Done}
 use Rattle.worker_main.specs.Turns.{IsTurnOf, IsLastJoin}
-use Rattle.worker_main.specs.Books.{results, HasAdded, IfIdle}
+use Rattle.worker_main.specs.Books.{results, HasAdded, HasLackedPlaces, IfFull, IfIdle, IfShut}
 use Rattle.worker_main.specs.Steps.{HasEarned}
 use Rattle.worker_main.proofs.Takers.{still_of, takers_self, takers_trans, earned_nothing, earned_trans, earned_whole, earned_with, earned_from_nothing}
-use Rattle.worker_main.proofs.Calls.{goes_on, goes_further, if_idle_then}
+use Rattle.worker_main.proofs.Calls.{goes_on, goes_further, full_earlier, if_idle_then}
 use Rattle.worker_main.proofs.Steps.{starts, more_turns, ends_idle}
 use Rattle.worker_main.proofs.working.work.Goals as goal
 
@@ -13,6 +14,7 @@ loop-init g c = (
   takers_self c.args.takers.items,
   subst (λ l. HasEarned c.args.takers.items [] c.args.takers.items (results l)) (sym c.new-done.ensures.items) (earned_nothing c.args.takers.items []),
   starts c.args.stations.now c.args.takers.items c.args.pass,
+  subst (All (λ (d : Done). g.G.Gate.passed c.args.gate.now d.number × g.G.Gate.told c.args.gate.now d.number)) (sym c.new-done.ensures.items) (λ i d lt. absurd (omega arith)),
 )
 
 pub visit-next-requires-clause-takers : goal.visit-next-requires-clause-takers
@@ -32,6 +34,7 @@ loop-preserved g c =
       takers_trans old mid new i.1 v.takers,
       earned_trans old mid new [] (results c.loop.done.items) ran i.2 (earned_whole mid new (results c.loop.done.items) ran c.visit-next.result.1 c.in-None-ended.is v.jobs),
       more_turns c.args.stations.now old mid new c.args.pass c.loop.pass next i.1 i.0.0.2 i.3 one,
+      v.gate i.4,
     )
 
 pub returns-in-Some-ended-clause-takers : goal.returns-in-Some-ended-clause-takers
@@ -65,3 +68,15 @@ returns-in-Some-ended-clause-same g c =
 pub returns-in-Some-ended-clause-seen : goal.returns-in-Some-ended-clause-seen
 returns-in-Some-ended-clause-seen g c =
     (goes_further c.args.pass c.loop.pass c.visit-next.result.0 c.loop.invariant.0 c.visit-next.ensures.same).1
+
+pub returns-in-Some-ended-clause-full : goal.returns-in-Some-ended-clause-full
+returns-in-Some-ended-clause-full g c =
+    let next = c.visit-next.result.0 in
+    subst (λ o. IfSome o (λ e. IfFull e (HasLackedPlaces c.args.pass next))) c.in-Some-ended.is (full_earlier c.args.pass c.loop.pass next c.visit-next.result.1 c.loop.invariant.0 c.visit-next.ensures.full)
+
+pub returns-in-Some-ended-clause-gate : goal.returns-in-Some-ended-clause-gate
+returns-in-Some-ended-clause-gate g c = c.visit-next.ensures.gate c.loop.invariant.4
+
+pub returns-in-Some-ended-clause-shut : goal.returns-in-Some-ended-clause-shut
+returns-in-Some-ended-clause-shut g c some =
+    subst (λ o. IfSome o (λ e. IfShut e (λ job. g.G.Gate.refused c.args.gate.now job.number))) c.in-Some-ended.is (c.visit-next.ensures.shut some)

@@ -1,4 +1,5 @@
-use Rattle.std.proofs.Common.{[]}
+use Rattle.std.proofs.Common.{[], All}
+use Rattle.drive_plan.specs.declared.task.Done.{Done}
 use Rattle.std.specs.List.{AllZip}
 use Rattle.worker_main.specs.Turns.{AreWhole}
 use Rattle.worker_main.specs.Books.{results, HasAdded, IsTakerAfter}
@@ -11,3 +12,4 @@ invariant-loop g l =
     × AllZip IsTakerAfter l.fn.takers.items l.takers.items
     × HasEarned l.fn.takers.items [] l.takers.items (results l.done.items)
     × HasAdded (AreWhole l.stations) l.stations l.fn.takers.items l.takers.items l.fn.pass l.pass
+    × All (λ (d : Done). g.G.Gate.passed l.gate d.number × g.G.Gate.told l.gate d.number) l.done.items
