@@ -6,7 +6,7 @@ use Rattle.drive_plan.specs.declared.reader.PlanFault.{PlanFault}
 use Rattle.drive_plan.specs.declared.reader.PlanFault.TheVariants as plan
 use Rattle.market_drive.specs.declared.fault.DriveFault.{DriveFault}
 use Rattle.market_drive.specs.declared.fault.DriveFault.TheVariants.{BadPlan, Unservable, Unfinished, Doubled, Missing, Memory}
-use Rattle.market_drive.specs.Driving.{IsDue, IsLate, IsServable}
+use Rattle.market_drive.specs.Driving.{IsDue, IsEnding, IsServable}
 
 abbrev IsPlanned : Result Planned PlanFault → Type 0
 IsPlanned (Ok p) = Unit {0}
@@ -25,10 +25,10 @@ pub bad_due : (due : Result Planned PlanFault) (line : ℕ) → MemoryAside due 
 bad_due due line (inl e) = sym e
 bad_due due line (inr e) = absurd (subst IsBad e tt)
 
-pub late_due : (text : List ℕ) (p : Planned) (fault : DriveFault) → IsServable text p → IsLate fault → IsDue text fault
-late_due text p (BadPlan line) s l = absurd l
-late_due text p (Unservable a) s l = absurd l
-late_due text p Unfinished s l = (p, s)
-late_due text p (Doubled number) s l = (p, s)
-late_due text p (Missing number) s l = (p, s)
-late_due text p Memory s l = tt
+pub ending_due : (text : List ℕ) (p : Planned) (fault : DriveFault) → IsServable text p → IsEnding p fault → IsDue text fault
+ending_due text p (BadPlan line) s l = absurd l
+ending_due text p (Unservable a) s l = absurd l
+ending_due text p Unfinished s l = (p, s)
+ending_due text p (Doubled number) s l = absurd l
+ending_due text p (Missing number) s l = (p, s, l.0, l.1)
+ending_due text p Memory s l = tt

@@ -1,2 +1,5 @@
 pub mod Queues
 pub mod Dues
+pub mod Sums
+pub mod Fed
+pub mod Once

@@ -1,7 +1,7 @@
 -- Lists that end with one element more; takers of the stations' queues.
-use Rattle.std.proofs.Common.{◌≡◌, ◌≤◌, ◌<◌, ◌+◌, ℕ, refl, ap, sym, ◌∙◌, subst, arith, List, [], ◌∷◌, ◌++◌, length, All, get_or, Some, ⊎_elim}
+use Rattle.std.proofs.Common.{◌≡◌, ◌≤◌, ◌<◌, ◌+◌, ℕ, refl, ap, sym, ◌∙◌, subst, arith, List, [], ◌∷◌, ◌++◌, length, map, All, get_or, Some, ⊎_elim}
 use Rattle.std.specs.Prelude.{slice_get}
-use Rattle.std.specs.List.{AllZip}
+use Rattle.std.specs.List.{AllByRecursion, AllZip}
 use Rattle.job_queue.specs.Seen.{QueueId, OfTaker}
 use Rattle.drive_plan.specs.declared.task.Job.{Job}
 use Rattle.drive_plan.specs.declared.task.PlannedJob.{PlannedJob}
@@ -9,12 +9,12 @@ use Rattle.worker_main.specs.declared.station.Station.{Station}
 use Rattle.worker_main.specs.Stations.{IsTakerOf, HaveOwnArenas}
 use Rattle.worker_main.specs.Books.{IsTakerAfter}
 use Rattle.std.proofs.lemmas.List.{map-append, length-append, length-map, get_or_append_left}
-use Rattle.std.proofs.lemmas.List.Elements.{All-push}
+use Rattle.std.proofs.lemmas.List.Elements.{All-push, All-from_recursion, recursion_from_All}
 use Rattle.std.proofs.lemmas.List.Quantifiers.{all_pairs_push}
 use Rattle.std.proofs.lemmas.Bool.{cases_lt}
 use Rattle.std.proofs.lemmas.Grind.{common_steps}
 use Rattle.std.proofs.lemmas.Option.{slice_get-map, slice_get_read}
-use Rattle.market_drive.specs.Racks.{OfEnds, queues_of}
+use Rattle.market_drive.specs.Racks.{OfEnds, queues_of, unfed}
 use Rattle.market_drive.specs.Lines.{queues_at, queues_ended, AreLines}
 use Rattle.market_drive.specs.Arenas.{AreNumbered, HasRoomFor}
 
@@ -101,6 +101,16 @@ numbered_more ss s all next k d low =
     (λ (last : length ss ≤ k). (let same : get_or (ss ++ s ∷ []) k d ≡ s = grind (arith, common_steps) in rw same (omega arith)))
     (cases_lt k (length ss))
 
+-- the station of an arena, and the ends of its queue
+pub place_is : (ss : List Station) (es : List OfEnds) (k arena : ℕ) (s : Station) (e : OfEnds) → queues_ended es ≡ queues_at ss → AreNumbered ss → k < length ss → k + 1 ≡ arena → s ≡ get_or ss k s → e ≡ get_or es k e
+    → (slice_get ss k ≡ Some s) × (slice_get es k ≡ Some e) × (arena ≡ s.arena)
+place_is ss es k arena s e same numbers low own here there =
+    let long : length es ≡ length ss = sym (length-map es (λ (x : OfEnds). x.queue)) ∙ (ap length same ∙ length-map ss (λ (x : Station). x.queue.id)) in (
+      slice_get_read ss (length ss) k s refl low here,
+      slice_get_read es (length es) k e refl (omega arith) there,
+      sym own ∙ sym (ap (λ (x : Station). x.arena) here ∙ numbers k s low),
+    )
+
 -- the ends and the station at one place are of one queue
 pub own_queue : (ss : List Station) (es : List OfEnds) (k : ℕ) (s : Station) (e : OfEnds) → queues_ended es ≡ queues_at ss → k < length ss → s ≡ get_or ss k s → e ≡ get_or es k e → e.queue ≡ s.queue.id
 own_queue ss es k s e same low here there =
@@ -113,3 +123,20 @@ own_queue ss es k s e same low here there =
 
 pub roomy_more : (jobs : List PlannedJob) (all ss : List Station) (s : Station) → all ≡ ss ++ s ∷ [] → All (HasRoomFor jobs) ss → HasRoomFor jobs s → All (HasRoomFor jobs) all
 roomy_more jobs all ss s is old new = subst (All (HasRoomFor jobs)) (sym is) (All-push (HasRoomFor jobs) ss s old new)
+
+-- ---- ends that differ in nothing but what their queues were fed with
+
+pub unfed_queues : (es fs : List OfEnds) → map unfed fs ≡ map unfed es → queues_ended fs ≡ queues_ended es
+unfed_queues [] [] e = refl
+unfed_queues [] (f ∷ fs) e = absurd (no_cons (unfed f) (map unfed fs) (sym e))
+unfed_queues (x ∷ es) [] e = absurd (no_cons (unfed x) (map unfed es) e)
+unfed_queues (x ∷ es) (f ∷ fs) e = λ i. (head_or (unfed x) (e i)).queue ∷ unfed_queues es fs (ap rest e) i
+
+each_unfed : (P : OfEnds → Type 0) (es fs : List OfEnds) → map unfed fs ≡ map unfed es → AllByRecursion (λ x. P (unfed x)) es → AllByRecursion (λ x. P (unfed x)) fs
+each_unfed P [] [] e a = tt
+each_unfed P [] (f ∷ fs) e a = absurd (no_cons (unfed f) (map unfed fs) (sym e))
+each_unfed P (x ∷ es) [] e a = tt
+each_unfed P (x ∷ es) (f ∷ fs) e a = (subst P (sym (ap (head_or (unfed x)) e)) a.0, each_unfed P es fs (ap rest e) a.1)
+
+pub all_unfed : (P : OfEnds → Type 0) (es fs : List OfEnds) → map unfed fs ≡ map unfed es → All (λ x. P (unfed x)) es → All (λ x. P (unfed x)) fs
+all_unfed P es fs e a = All-from_recursion (λ x. P (unfed x)) fs (each_unfed P es fs e (recursion_from_All (λ x. P (unfed x)) es a))

@@ -1,5 +1,5 @@
 -- What driving a plan answers (own).
-use Rattle.std.specs.Prelude.{◌≡◌, ℕ, ◌+◌, List, length, Ok, Err, ⊤}
+use Rattle.std.specs.Prelude.{◌≡◌, ℕ, ◌+◌, ◌<◌, ◌≤◌, List, length, Ok, Err, ⊤}
 use Rattle.market_types.specs.State.{opening_to, usual_last}
 use Rattle.market_lock.specs.Headline.{IsGivenBy}
 use Rattle.market_lock.specs.declared.office.Closed.{Closed}
@@ -10,7 +10,7 @@ use Rattle.drive_plan.specs.declared.task.Done.{Done}
 use Rattle.drive_plan.specs.declared.reader.PlanFault.TheVariants as plan
 use Rattle.plan_market.specs.Servable.{IsUnservable, IsLeastUnservable}
 use Rattle.market_drive.specs.declared.fault.DriveFault.{DriveFault}
-use Rattle.market_drive.specs.declared.fault.DriveFault.TheVariants.{BadPlan, Unservable, Memory}
+use Rattle.market_drive.specs.declared.fault.DriveFault.TheVariants.{BadPlan, Unservable, Unfinished, Doubled, Missing, Memory}
 
 -- the text is this plan, and each of its arenas that has jobs would be allotted a worker if it alone asked for some
 abbrev pub IsServable : List ℕ → Planned → Type 0
@@ -21,23 +21,35 @@ abbrev pub IsDriven : List ℕ → List Done → Type 0
 IsDriven text ds = (p : Planned) × IsServable text p × IsOutcome p.jobs ds
 
 -- the office is that of the plan's market, with a seat for who gives the plan's commands and one for each of so many workers: its market, with every reply, is what
--- its history gives, which has as many calls as the callers made, and of which every entry can be read
+-- its history gives, which has as many calls as the callers made, and of which every entry can be read; it had room for 1,048,576 entries
 abbrev pub IsOfficeOf : Planned → ℕ → Closed → Type 0
 IsOfficeOf p workers closed =
     IsGivenBy (opening_to p.base p.hard (1 + workers) p.levels usual_last) closed.chronicle
     × (closed.calls ≡ length closed.chronicle.log)
     × (closed.chronicle.from ≡ 0)
+    × (closed.chronicle.places ≡ 1048576)
 
 -- it is the office of the text's plan
 abbrev pub IsOfficeOfText : List ℕ → ℕ → Closed → Type 0
 IsOfficeOfText text workers closed = (p : Planned) × (plan_of text ≡ Ok p) × IsOfficeOf p workers closed
 
--- a fault of the text or of its plan is due; all others come only where none of these is
+-- a fault of the text or of its plan is due; all others come only where none of these is. No answer is ever doubled, and a missing one is that of a job of the plan
 abbrev pub IsDue : List ℕ → DriveFault → Type 0
 IsDue text (BadPlan line) = plan_of text ≡ Err (plan.BadPlan line)
 IsDue text (Unservable a) = (p : Planned) × (plan_of text ≡ Ok p) × IsLeastUnservable p a
+IsDue text Unfinished = (p : Planned) × IsServable text p
+IsDue text (Doubled number) = ⊥
+IsDue text (Missing number) = (p : Planned) × IsServable text p × (0 < number) × (number ≤ length p.jobs)
 IsDue text Memory = ⊤
-IsDue text fault = (p : Planned) × IsServable text p
+
+-- a fault to which a drive of the plan comes once its office was opened, or want of memory: no answer is ever doubled
+abbrev pub IsEnding : Planned → DriveFault → Type 0
+IsEnding p (BadPlan line) = ⊥
+IsEnding p (Unservable a) = ⊥
+IsEnding p Unfinished = ⊤
+IsEnding p (Doubled number) = ⊥
+IsEnding p (Missing number) = (0 < number) × (number ≤ length p.jobs)
+IsEnding p Memory = ⊤
 
 -- a fault that comes only after the office was opened, or want of memory
 abbrev pub IsLate : DriveFault → Type 0

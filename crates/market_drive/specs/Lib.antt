@@ -1,5 +1,7 @@
 pub mod Racks
 pub mod Lines
 pub mod Arenas
+pub mod Jobs
+pub mod Reports
 pub mod Ending
 pub mod Driving

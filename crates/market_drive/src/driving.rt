@@ -2,12 +2,12 @@
 ghost use Rattle.std.specs.Prelude.{◌≡◌, ◌<◌, ◌≤◌, Ok, IfOk, IfErr};
 ghost use Rattle.drive_plan.specs.Format.{plan_of};
 ghost use Rattle.drive_plan.specs.Outcome.{IsOutcome};
-ghost use Rattle.market_drive.specs.Driving.{IsDriven, IsDue, IsLate, IsOfficeOf, IsOfficeOfText};
+ghost use Rattle.market_drive.specs.Driving.{IsDriven, IsDue, IsEnding, IsLate, IsOfficeOf, IsOfficeOfText};
 
 use crate::driven::Driven;
 use crate::fault::DriveFault;
 use crate::lines::line_up;
-use crate::shifts::work_shifts;
+use crate::shifts::{Shifts, work_shifts};
 use drive_plan::{Done, Plan, PlanFault, read_plan};
 use plan_market::{plan_commands, unservable};
 use std::alloc::{AllocError, Global};
@@ -40,6 +40,7 @@ fn drive_plan_of<G: Gate + Sync, R: Threads + Wait + Sync>(
     ensures outcome { IfOk result (λ driven. IsOutcome plan.now.jobs driven.done.items) }
     ensures office { IfOk result (λ driven. IsOfficeOf plan.now workers driven.closed) }
     ensures late { IfErr result IsLate }
+    ensures ending { IfErr result (IsEnding plan.now) }
 {
     let Ok(cmds) = plan_commands(alloc, plan) else {
         return Err(DriveFault::Memory);
@@ -48,11 +49,22 @@ fn drive_plan_of<G: Gate + Sync, R: Threads + Wait + Sync>(
         return Err(DriveFault::Memory);
     };
     let stations = lines.stations();
-    let (racks, outcome) = work_shifts::<Brand, G, R>(
-        rt, alloc, plan, &cmds, stations, racks, gate,
-    );
+    let Shifts {
+        racks,
+        reports,
+        closed,
+    } = work_shifts::<Brand, G, R>(rt, alloc, plan, &cmds, stations, racks, gate);
     lines.settle(rt, racks);
-    outcome
+    let Some(closed) = closed else {
+        return Err(DriveFault::Memory);
+    };
+    match reports.gather(plan) {
+        Ok(done) => Ok(Driven { done, closed }),
+        Err(fault) => {
+            drop(closed);
+            Err(fault)
+        }
+    }
 }
 
 /// Reads a plan, and gives the answers to its jobs in order of number: at Ok the same by every number of workers, 1 to 16, each of

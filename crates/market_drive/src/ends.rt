@@ -1,5 +1,9 @@
 //! What stays of a queue while its takers are away.
-ghost use Rattle.std.specs.Prelude.{◌≡◌, ◌+◌, ◌<◌, ◌≤◌, IfOk};
+ghost use Rattle.std.specs.Prelude.{◌≡◌, ◌+◌, ◌<◌, ◌≤◌, ℕ, [], ◌∷◌, ◌++◌, length, IfOk};
+ghost use Rattle.std.specs.List.{sum_by};
+ghost use Rattle.drive_plan.specs.declared.task.Job.{Job as OfJob};
+ghost use Rattle.market_drive.specs.Jobs.{IsUnfed, taken_by};
+ghost use Rattle.market_drive.specs.Racks.{unfed};
 
 use drive_plan::{Job, PlannedJob};
 use job_queue::{Feeder, JobQueue, Taker};
@@ -24,14 +28,13 @@ impl Model for Ends {
 
     ghost Value = { OfEnds };
 
-    ghost view = { λ e. record { queue = e.feeder.queue; here = vec_len e.takers; room = vec_capacity e.takers } };
+    ghost view = { λ e. record { queue = e.feeder.queue; here = vec_len e.takers; room = vec_capacity e.takers; stored = e.feeder.stored; takers = e.takers.items } };
 
     ghost invariant = { λ e. (vec_len e.feeders ≡ 0) × (1 ≤ vec_capacity e.feeders) × All (λ (t : OfTaker Job). t.queue ≡ e.feeder.queue) e.takers.items };
 }
 
 impl Ends {
-    /// Stores a job in the queue of its arena's station, which has room for all of the arena's jobs: a job that it gave back
-    /// would be missing among the answers.
+    /// Stores a job in the queue of its arena's station, which has room for all of the arena's jobs.
     pub(crate) fn feed<R: Wait>(
         &mut self,
         rt: &R,
@@ -41,14 +44,18 @@ impl Ends {
     )
         requires queue { self.old.queue ≡ station.now.queue.id }
         requires own { planned.now.arena ≡ station.now.arena }
-        ensures { self.new ≡ self.old }
+        requires alone { self.old.queue.feeders ≡ 1 }
+        requires room { (length self.old.stored < station.now.queue.capacity) × (length self.old.stored < 1048576) }
+        ensures stored { self.new.stored ≡ self.old.stored ++ (record { number = number; task = planned.now.task }) ∷ [] }
+        ensures same { unfed self.new ≡ unfed self.old }
     {
-        if self.feeder.room() > 0 {
-            let job = Job {
-                number,
-                task: planned.task,
-            };
-            drop(station.queue.push(rt, &mut self.feeder, job));
+        let job = Job {
+            number,
+            task: planned.task,
+        };
+        match station.queue.push(rt, &mut self.feeder, job) {
+            Ok(()) => {}
+            Err(_) => unreachable!(),
         }
     }
 
@@ -56,8 +63,9 @@ impl Ends {
     pub(crate) fn take(&mut self) -> Taker<Job>
         requires { 0 < self.old.here }
         ensures taker { result.queue ≡ self.old.queue }
-        ensures same { (self.new.queue ≡ self.old.queue) × (self.new.room ≡ self.old.room) }
+        ensures same { (self.new.queue ≡ self.old.queue) × (self.new.room ≡ self.old.room) × (self.new.stored ≡ self.old.stored) }
         ensures left { self.new.here + 1 ≡ self.old.here }
+        ensures takers { self.old.takers ≡ self.new.takers ++ result ∷ [] }
     {
         let Some(taker) = self.takers.pop() else {
             unreachable!()
@@ -69,16 +77,19 @@ impl Ends {
     pub(crate) fn put(&mut self, taker: Taker<Job>)
         requires own { taker.queue ≡ self.old.queue }
         requires room { self.old.here < self.old.room }
-        ensures same { (self.new.queue ≡ self.old.queue) × (self.new.room ≡ self.old.room) }
+        ensures same { (self.new.queue ≡ self.old.queue) × (self.new.room ≡ self.old.room) × (self.new.stored ≡ self.old.stored) }
         ensures more { self.new.here ≡ self.old.here + 1 }
+        ensures takers { self.new.takers ≡ self.old.takers ++ taker ∷ [] }
     {
         self.takers.push_reserved(taker);
     }
 
-    /// The end of a queue whose takers are all here. A job that is left in it is missing among the answers.
+    /// The end of a queue whose takers are all here: they took no job that it was not fed with, and none twice. A job that is left
+    /// in it is missing among the answers.
     pub(crate) fn settle<R: Wait>(self, rt: &R, queue: JobQueue<Job>)
         requires queue { queue.id ≡ self.queue }
         requires all { (self.queue.feeders ≡ 1) × (self.here ≡ self.queue.takers) }
+        ensures once { (weigh : OfJob → ℕ) → sum_by weigh (taken_by self.takers) ≤ sum_by weigh self.stored }
     {
         let Ends {
             feeder,
@@ -101,6 +112,7 @@ pub(crate) fn open_queue(
     ensures capacity { IfOk result (λ q. q.0.capacity ≡ capacity) }
     ensures same { IfOk result (λ q. q.1.queue ≡ q.0.id) }
     ensures all { IfOk result (λ q. (q.1.queue.feeders ≡ 1) × (q.1.queue.takers ≡ workers) × (q.1.here ≡ workers) × (workers ≤ q.1.room)) }
+    ensures unused { IfOk result (λ q. IsUnfed q.1 × (taken_by q.1.takers ≡ [])) }
 {
     let (queue, mut feeders, takers) = JobQueue::new(alloc, capacity, 1, workers)?;
     let Some(feeder) = feeders.pop() else {

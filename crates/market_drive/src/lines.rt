@@ -1,7 +1,9 @@
 //! The queues of a plan.
-ghost use Rattle.std.specs.Prelude.{◌≡◌, ◌+◌, ◌<◌, ◌≤◌, ◌++◌, ◌∷◌, [], length, IfOk, AllPairs};
-ghost use Rattle.std.specs.List.{All};
-ghost use Rattle.market_drive.specs.Racks.{AreAway, IsFor};
+ghost use Rattle.std.specs.Prelude.{◌≡◌, ◌+◌, ◌<◌, ◌≤◌, ◌++◌, ◌∷◌, [], ℕ, length, map, IfOk, AllPairs};
+ghost use Rattle.std.specs.List.{All, sum_by};
+ghost use Rattle.drive_plan.specs.declared.task.Job.{Job};
+ghost use Rattle.market_drive.specs.Jobs.{AreFed, HaveRequestsOf, IsUnfed, fed_weight, numbered, taken_weight};
+ghost use Rattle.market_drive.specs.Racks.{AreAway, IsFor, unfed};
 ghost use Rattle.market_drive.specs.Lines.{queues_at};
 ghost use Rattle.market_drive.specs.Arenas.{HasRoomFor};
 ghost use Rattle.drive_plan.specs.Plans.{FitsJob};
@@ -81,7 +83,11 @@ impl Lines {
     fn feed<R: Wait>(self, rt: &R, jobs: &[PlannedJob]) -> Lines
         requires few { length jobs.now ≤ 65536 }
         requires fit { All (FitsJob (length self.stations)) jobs.now }
-        ensures { result ≡ self }
+        requires room { All (HasRoomFor jobs.now) self.stations }
+        requires unfed { All IsUnfed self.ends }
+        ensures same { (result.stations ≡ self.stations) × (map unfed result.ends ≡ map unfed self.ends) }
+        ensures fed { AreFed jobs.now result.stations result.ends }
+        ensures all { (weigh : Job → ℕ) → fed_weight weigh result.ends ≡ sum_by weigh (numbered jobs.now) }
     {
         let Lines { stations, mut ends } = self;
         for (index, planned) in jobs.iter().enumerate() {
@@ -91,10 +97,11 @@ impl Lines {
         Lines { stations, ends }
     }
 
-    /// The end of all queues, with the racks of all their workers.
+    /// The end of all queues, with the racks of all their workers: they took no job with which no queue was fed, and none twice.
     pub(crate) fn settle<R: Wait>(self, rt: &R, racks: Racks)
         requires racks { All (IsFor (queues_at self.stations)) racks }
         requires away { All (AreAway (length racks)) self.ends }
+        ensures once { (weigh : Job → ℕ) → taken_weight weigh racks ≤ fed_weight weigh self.ends }
     {
         let Lines {
             mut stations,
@@ -134,6 +141,10 @@ pub(crate) fn line_up<R: Wait>(
     ensures each { IfOk result (λ l. length l.1 ≡ workers) }
     ensures away { IfOk result (λ l. All (AreAway workers) l.0.ends) }
     ensures room { IfOk result (λ l. All (HasRoomFor plan.now.jobs) l.0.stations) }
+    ensures requests { IfOk result (λ l. HaveRequestsOf plan.now.arenas l.0.stations) }
+    ensures fed { IfOk result (λ l. AreFed plan.now.jobs l.0.stations l.0.ends) }
+    ensures all { IfOk result (λ l. (weigh : Job → ℕ) → fed_weight weigh l.0.ends ≡ sum_by weigh (numbered plan.now.jobs)) }
+    ensures unused { IfOk result (λ l. (weigh : Job → ℕ) → taken_weight weigh l.1 ≡ 0) }
 {
     let mut racks = Racks::new(alloc, workers)?;
     let Ok(mut lines) = Lines::new(alloc) else {

@@ -1,4 +1,5 @@
 //! Who opens a plan's market.
+ghost use Rattle.std.specs.Prelude.{◌≡◌, is_none};
 
 use edit_history::CallFault;
 use market_lock::{Office, Pass, Placed};
@@ -46,7 +47,10 @@ impl Task for Opener<'_> {
         caller
     }
 
-    fn lets_others_work(&self) -> bool {
+    /// Only where each command was answered.
+    fn lets_others_work(&self) -> bool
+        ensures { result ≡ is_none self.now.fault }
+    {
         self.fault.is_none()
     }
 }

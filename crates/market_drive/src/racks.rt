@@ -1,6 +1,8 @@
 //! The right to pop of each worker.
-ghost use Rattle.std.specs.Prelude.{◌≡◌, ◌++◌, ◌∷◌, [], ◌+◌, ◌<◌, ◌≤◌, List, length, vec_len, IfOk, IfSome, IfNone};
-ghost use Rattle.std.specs.List.{All};
+ghost use Rattle.std.specs.Prelude.{◌≡◌, ◌++◌, ◌∷◌, [], ◌+◌, ◌<◌, ◌≤◌, ℕ, List, length, vec_len, IfOk, IfSome, IfNone};
+ghost use Rattle.std.specs.List.{All, sum_by};
+ghost use Rattle.drive_plan.specs.declared.task.Job.{Job as OfJob};
+ghost use Rattle.market_drive.specs.Jobs.{taken_by, taken_weight};
 ghost use Rattle.job_queue.specs.Seen.{QueueId};
 ghost use Rattle.market_drive.specs.Racks.{IsFor, IsRoomy, OfRack, queues_of};
 
@@ -24,13 +26,14 @@ impl Model for Rack {
 
     ghost Value = { OfRack };
 
-    ghost view = { λ r. record { queues = queues_of r.takers.items; room = vec_capacity r.takers } };
+    ghost view = { λ r. record { queues = queues_of r.takers.items; room = vec_capacity r.takers; takers = r.takers.items } };
 }
 
 impl Rack {
     /// One that has room for a taker of every queue, and none yet.
     fn new(alloc: Global) -> Result<Rack, AllocError>
         ensures empty { IfOk result (IsFor []) }
+        ensures takers { IfOk result (λ rack. rack.takers ≡ []) }
         ensures room { IfOk result IsRoomy }
     {
         Ok(Rack {
@@ -40,14 +43,14 @@ impl Rack {
 
     /// Of these takers.
     pub(crate) fn of(takers: Vec<Taker<Job>>) -> Rack
-        ensures { result.queues ≡ queues_of takers.items }
+        ensures { (result.queues ≡ queues_of takers.items) × (result.takers ≡ takers.items) }
     {
         Rack { takers }
     }
 
     /// The takers.
     pub(crate) fn into_takers(self) -> Vec<Taker<Job>>
-        ensures { queues_of result.items ≡ self.queues }
+        ensures { (queues_of result.items ≡ self.queues) × (result.items ≡ self.takers) }
     {
         let Rack { takers } = self;
         takers
@@ -57,6 +60,7 @@ impl Rack {
     fn with(self, taker: Taker<Job>) -> Rack
         requires room { IsRoomy self × length self.queues < 64 }
         ensures next { result.queues ≡ self.queues ++ taker.queue ∷ [] }
+        ensures takers { result.takers ≡ self.takers ++ taker ∷ [] }
         ensures room { IsRoomy result }
     {
         let Rack { mut takers } = self;
@@ -67,7 +71,8 @@ impl Rack {
     /// Without the taker of the last queue, and this taker.
     fn without(self) -> (Rack, Taker<Job>)
         requires { 0 < length self.queues }
-        ensures { self.queues ≡ result.0.queues ++ result.1.queue ∷ [] }
+        ensures queues { self.queues ≡ result.0.queues ++ result.1.queue ∷ [] }
+        ensures takers { self.takers ≡ result.0.takers ++ result.1 ∷ [] }
     {
         let Rack { mut takers } = self;
         let Some(taker) = takers.pop() else {
@@ -78,6 +83,7 @@ impl Rack {
 
     fn destroy(self)
         requires { IsFor [] self }
+        ensures { self.takers ≡ [] }
     {
         let Rack { takers } = self;
         takers.destroy_empty();
@@ -119,6 +125,7 @@ impl Racks {
         requires { workers ≤ 16 }
         ensures each { IfOk result (λ racks. length racks ≡ workers) }
         ensures empty { IfOk result (All (IsFor [])) }
+        ensures unused { IfOk result (λ racks. (weigh : OfJob → ℕ) → taken_weight weigh racks ≡ 0) }
         ensures room { IfOk result (All IsRoomy) }
     {
         let mut racks = Racks::empty(alloc)?;
@@ -168,7 +175,8 @@ impl Racks {
         ensures next { (queues : List QueueId) → All (IsFor queues) self → All (IsFor (queues ++ ends.queue ∷ [])) result.0 }
         ensures room { All IsRoomy result.0 }
         ensures each { length result.0 ≡ length self }
-        ensures away { (result.1.queue ≡ ends.queue) × (result.1.here ≡ 0) × (result.1.room ≡ ends.room) }
+        ensures away { (result.1.queue ≡ ends.queue) × (result.1.here ≡ 0) × (result.1.room ≡ ends.room) × (result.1.stored ≡ ends.stored) }
+        ensures same { (weigh : OfJob → ℕ) → taken_weight weigh result.0 + sum_by weigh (taken_by result.1.takers) ≡ taken_weight weigh self + sum_by weigh (taken_by ends.takers) }
     {
         let Racks {
             full: mut left,
@@ -191,7 +199,8 @@ impl Racks {
         requires room { (ends.here ≡ 0) × (length self ≤ ends.room) }
         ensures others { (queues : List QueueId) → All (IsFor (queues ++ ends.queue ∷ [])) self → All (IsFor queues) result.0 }
         ensures each { length result.0 ≡ length self }
-        ensures here { (result.1.queue ≡ ends.queue) × (result.1.here ≡ length self) }
+        ensures here { (result.1.queue ≡ ends.queue) × (result.1.here ≡ length self) × (result.1.stored ≡ ends.stored) }
+        ensures same { (weigh : OfJob → ℕ) → taken_weight weigh result.0 + sum_by weigh (taken_by result.1.takers) ≡ taken_weight weigh self + sum_by weigh (taken_by ends.takers) }
     {
         let Racks {
             full: mut left,
@@ -213,6 +222,7 @@ impl Racks {
     /// Puts racks away that have no taker any more.
     pub(crate) fn destroy(self)
         requires { All (IsFor []) self }
+        ensures { (weigh : OfJob → ℕ) → taken_weight weigh self ≡ 0 }
     {
         let Racks {
             full: mut left,

@@ -1,13 +1,18 @@
 //! What the workers of a plan tell in the end.
-ghost use Rattle.std.specs.Prelude.{◌≡◌, ◌<◌, ◌++◌, ◌∷◌, [], IfErr, IfOk, OnOk};
+ghost use Rattle.std.specs.Prelude.{◌≡◌, ◌<◌, ◌++◌, ◌∷◌, [], ℕ, None, false, true, Err, IfErr, IfOk, OnOk};
 ghost use Rattle.drive_plan.specs.Outcome.{IsOutcome};
 ghost use Rattle.market_drive.specs.Driving.{IsLate};
+ghost use Rattle.market_drive.specs.Ending.{IsDueTo};
+ghost use Rattle.market_drive.specs.Reports.{told, untold};
+ghost use Rattle.market_drive.specs.declared.fault.DriveFault.TheVariants.{Memory};
+ghost use Rattle.worker_main.specs.declared.report.Ended.TheVariants.{Call};
 
 use crate::fault::DriveFault;
 use crate::gathering::gather_done;
 use drive_plan::{Done, Plan};
 use edit_history::CallFault;
 use std::alloc::{AllocError, Global};
+use std::marker::Model;
 use worker_main::Ended;
 
 /// The answers of all workers, and how each ended.
@@ -19,9 +24,19 @@ pub(crate) struct Reports {
     is_torn: bool,
 }
 
+impl Model for Reports {
+    ghost use Rattle.market_drive.specs.Reports.{OfReports};
+
+    ghost Value = { OfReports };
+
+    ghost view = { λ r. record { done = r.done.items; ended = r.ended.items; torn = r.is_torn } };
+}
+
 impl Reports {
     /// None yet.
-    pub(crate) fn new(alloc: Global) -> Reports {
+    pub(crate) fn new(alloc: Global) -> Reports
+        ensures { result ≡ untold }
+    {
         Reports {
             done: Vec::new(alloc),
             ended: Vec::new(alloc),
@@ -31,8 +46,8 @@ impl Reports {
 
     /// The first answers stay where they are, and others are put behind them at once.
     fn keep(&mut self, mut done: Vec<Done>, ended: Ended) -> Result<(), AllocError>
-        ensures done { OnOk result (self.new.done.items ≡ self.old.done.items ++ done.items) }
-        ensures ended { OnOk result (self.new.ended.items ≡ self.old.ended.items ++ ended ∷ []) }
+        ensures kept { OnOk result (self.old.torn ≡ false → self.new ≡ told self.old done.items ended) }
+        ensures torn { self.new.torn ≡ self.old.torn }
     {
         self.ended.push(ended)?;
         if self.done.is_empty() {
@@ -44,22 +59,28 @@ impl Reports {
     }
 
     /// With the answers of a worker that ended so.
-    pub(crate) fn add(&mut self, done: Vec<Done>, ended: Ended) {
+    pub(crate) fn add(&mut self, done: Vec<Done>, ended: Ended)
+        ensures kept { self.new.torn ≡ false → (self.old.torn ≡ false) × (self.new ≡ told self.old done.items ended) }
+    {
         if self.keep(done, ended).is_err() {
             self.is_torn = true;
         }
     }
 
     /// An opener's command was not answered.
-    pub(crate) fn add_fault(&mut self, fault: CallFault) {
+    pub(crate) fn add_fault(&mut self, fault: CallFault)
+        ensures kept { self.new.torn ≡ false → (self.old.torn ≡ false) × (self.new ≡ told self.old [] (Call fault)) }
+    {
         if self.ended.push(Ended::Call(fault)).is_err() {
             self.is_torn = true;
         }
     }
 
-    /// What all of it comes to.
+    /// What all of it comes to: `Memory` where something is missing, and else what the answers and the ends come to.
     pub(crate) fn gather(self, plan: &Plan) -> Result<Vec<Done>, DriveFault>
         ensures outcome { IfOk result (λ done. IsOutcome plan.now.jobs done.items) }
+        ensures torn { self.torn ≡ true → result ≡ Err Memory }
+        ensures fault { self.torn ≡ false → IfErr result (IsDueTo plan.now.jobs self.done self.ended) }
         ensures late { IfErr result IsLate }
     {
         if self.is_torn {

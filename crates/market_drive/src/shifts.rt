@@ -1,17 +1,20 @@
 //! All workers of a plan work, each in a thread of its own.
-ghost use Rattle.std.specs.Prelude.{◌≡◌, ◌+◌, ◌<◌, ◌≤◌, [], length, vec_len, vec_capacity, AllPairs, IfErr, IfOk, IfSome};
-ghost use Rattle.std.specs.List.{All};
+ghost use Rattle.std.specs.Prelude.{◌≡◌, ◌+◌, ◌<◌, ◌≤◌, ◌++◌, [], ℕ, false, length, vec_len, vec_capacity, AllPairs, IfOk, IfSome};
+ghost use Rattle.std.specs.List.{All, sum_by};
 ghost use Rattle.market_types.specs.State.{opening_to};
 ghost use Rattle.edit_history.specs.declared.keeping.Keeping.TheVariants.{Everything};
 ghost use Rattle.market_lock.specs.Headline.{IsGivenBy};
-ghost use Rattle.drive_plan.specs.Outcome.{IsOutcome};
-ghost use Rattle.market_drive.specs.Driving.{IsLate, IsOfficeOf};
-ghost use Rattle.market_drive.specs.Racks.{IsFor};
+ghost use Rattle.drive_plan.specs.declared.task.Job.{Job};
+ghost use Rattle.market_drive.specs.declared.opener.Opener.{Opener};
+ghost use Rattle.market_drive.specs.Driving.{IsOfficeOf};
+ghost use Rattle.market_drive.specs.Jobs.{taken_by, taken_weight};
+ghost use Rattle.market_drive.specs.Racks.{IsFor, OfRack};
+ghost use Rattle.market_drive.specs.Reports.{shown, untold, weight_if};
 ghost use Rattle.market_drive.specs.Lines.{queues_at};
 ghost use Rattle.worker_main.specs.Stations.{HaveOwnArenas};
+ghost use Rattle.worker_main.specs.declared.report.Ended.{Ended};
+ghost use Rattle.worker_main.specs.declared.report.Ended.TheVariants.{Call};
 
-use crate::driven::Driven;
-use crate::fault::DriveFault;
 use crate::opener::Opener;
 use crate::racks::Racks;
 use crate::reports::Reports;
@@ -40,6 +43,7 @@ fn man<'a, Y: Yard, G: Gate>(
     requires stations { queues_at stations.now ≡ Y.queues }
     requires apart { AllPairs HaveOwnArenas stations.now }
     requires racks { All (IsFor Y.queues) racks.old }
+    requires unused { All (λ (r : OfRack). taken_by r.takers ≡ []) racks.old }
     requires room { (vec_len workers.old ≡ 0) × (length racks.old ≤ vec_capacity workers.old) }
     ensures none { racks.new ≡ [] }
     ensures each { vec_len workers.new ≡ length racks.old }
@@ -49,7 +53,8 @@ fn man<'a, Y: Yard, G: Gate>(
     }
 }
 
-/// The racks of the workers, which leave their reports.
+/// The racks of the workers, which leave their reports: where there was memory for them, they tell each end, and of each job that was
+/// taken that it was answered or is kept back.
 fn relieve<Y: Yard, G: Gate>(
     workers: Vec<Worker<'_, G, Y>>,
     racks: Racks,
@@ -59,16 +64,35 @@ fn relieve<Y: Yard, G: Gate>(
     requires few { vec_len workers ≤ 16 }
     ensures racks { All (IsFor Y.queues) result }
     ensures each { length result ≡ vec_len workers.entry }
+    ensures whole { reports.new.torn ≡ false → reports.old.torn ≡ false }
+    ensures ends { reports.new.torn ≡ false → (weigh : Ended → ℕ) → sum_by weigh reports.new.ended ≡ sum_by weigh reports.old.ended + sum_by (weight_if weigh) workers.entry.items }
+    ensures shown { reports.new.torn ≡ false → (weigh : Job → ℕ) → sum_by weigh (shown reports.new) ≡ sum_by weigh (shown reports.old) + taken_weight weigh result }
 {
     let mut left = workers;
     let mut racks = racks;
     while let Some(worker) = left.pop() {
         let Shift { rack, done, ended } = worker.into_shift();
         racks = racks.with(rack);
-        reports.add(done, ended);
+        if let Some(ended) = ended {
+            reports.add(done, ended);
+        }
     }
     left.destroy_empty();
     racks
+}
+
+/// The openers tell the commands that were not answered.
+fn hear(openers: Vec<Opener<'_>>, reports: &mut Reports)
+    ensures whole { reports.new.torn ≡ false → reports.old.torn ≡ false }
+    ensures ends { reports.new.torn ≡ false → (weigh : Ended → ℕ) → sum_by weigh reports.new.ended ≡ sum_by weigh reports.old.ended + sum_by (λ (o : Opener). weight_if (λ fault. weigh (Call fault)) o.fault) openers.entry.items }
+    ensures shown { reports.new.torn ≡ false → (weigh : Job → ℕ) → sum_by weigh (shown reports.new) ≡ sum_by weigh (shown reports.old) }
+{
+    let mut left = openers;
+    while let Some(opener) = left.pop() {
+        if let Some(fault) = opener.fault {
+            reports.add_fault(fault);
+        }
+    }
 }
 
 /// Who gives the commands.
@@ -98,6 +122,8 @@ fn work_together<Y: Yard + Send + Sync, G: Gate + Sync, R: Threads + Wait + Sync
     ensures headline { IfSome result.1 (λ closed. IsGivenBy (opening_to terms.base terms.hard (vec_len openers.entry + vec_len workers.entry) terms.levels terms.last) closed.chronicle) }
     ensures calls { IfSome result.1 (λ closed. closed.calls ≡ length closed.chronicle.log) }
     ensures whole { terms.keeping ≡ Everything → IfSome result.1 (λ closed. closed.chronicle.from ≡ 0) }
+    ensures places { IfSome result.1 (λ closed. closed.chronicle.places ≡ terms.places) }
+    ensures shown { reports.new.torn ≡ false → (weigh : Job → ℕ) → sum_by weigh (shown reports.new) ≡ sum_by weigh (shown reports.old) + taken_weight weigh result.0 }
 {
     match meet(rt, alloc, terms, openers, workers) {
         Ok(meeting) => {
@@ -106,11 +132,7 @@ fn work_together<Y: Yard + Send + Sync, G: Gate + Sync, R: Threads + Wait + Sync
                 openers,
                 tasks,
             } = meeting;
-            for opener in openers {
-                if let Some(fault) = opener.fault {
-                    reports.add_fault(fault);
-                }
-            }
+            hear(openers, reports);
             (relieve(tasks, racks, reports), Some(closed))
         }
         Err(unmet) => {
@@ -125,7 +147,18 @@ fn work_together<Y: Yard + Send + Sync, G: Gate + Sync, R: Threads + Wait + Sync
     }
 }
 
-/// What a worker for each rack leaves of a plan, in the office that the commands open. The racks come back.
+/// What all have left of a plan.
+pub(crate) struct Shifts {
+    /// The racks of all workers.
+    pub(crate) racks: Racks,
+    /// What they and the opener told.
+    pub(crate) reports: Reports,
+    /// The office. `None` where there was no memory to open it.
+    pub(crate) closed: Option<Closed>,
+}
+
+/// A worker for each rack works at a plan, in the office that the commands open. Nobody has worked where there was no memory to
+/// begin.
 pub(crate) fn work_shifts<Y: Yard + Send + Sync, G: Gate + Sync, R: Threads + Wait + Sync>(
     rt: &R,
     alloc: Global,
@@ -134,22 +167,30 @@ pub(crate) fn work_shifts<Y: Yard + Send + Sync, G: Gate + Sync, R: Threads + Wa
     stations: &[Station],
     racks: Racks,
     gate: &G,
-) -> (Racks, Result<Driven, DriveFault>)
+) -> Shifts
     requires stations { queues_at stations.now ≡ Y.queues }
     requires apart { AllPairs HaveOwnArenas stations.now }
     requires racks { All (IsFor Y.queues) racks }
-    ensures racks { All (IsFor Y.queues) result.0 }
-    ensures each { length result.0 ≡ length racks }
-    ensures outcome { IfOk result.1 (λ driven. IsOutcome plan.now.jobs driven.done.items) }
-    ensures office { IfOk result.1 (λ driven. IsOfficeOf plan.now (length racks) driven.closed) }
-    ensures late { IfErr result.1 IsLate }
+    requires unused { (weigh : Job → ℕ) → taken_weight weigh racks ≡ 0 }
+    ensures racks { All (IsFor Y.queues) result.racks }
+    ensures each { length result.racks ≡ length racks }
+    ensures office { IfSome result.closed (IsOfficeOf plan.now (length racks)) }
+    ensures shown { result.reports.torn ≡ false → (weigh : Job → ℕ) → sum_by weigh (shown result.reports) ≡ taken_weight weigh result.racks }
 {
     let mut reports = Reports::new(alloc);
     let Ok(openers) = openers(alloc, cmds) else {
-        return (racks, Err(DriveFault::Memory));
+        return Shifts {
+            racks,
+            reports,
+            closed: None,
+        };
     };
     let Ok(mut workers) = Vec::with_capacity(alloc, racks.len()) else {
-        return (racks, Err(DriveFault::Memory));
+        return Shifts {
+            racks,
+            reports,
+            closed: None,
+        };
     };
     let mut racks = racks;
     man::<Y, G>(alloc, stations, gate, &mut racks, &mut workers);
@@ -162,11 +203,9 @@ pub(crate) fn work_shifts<Y: Yard + Send + Sync, G: Gate + Sync, R: Threads + Wa
         keeping: Keeping::Everything,
     };
     let (racks, closed) = work_together(rt, alloc, terms, openers, workers, racks, &mut reports);
-    let Some(closed) = closed else {
-        return (racks, Err(DriveFault::Memory));
-    };
-    match reports.gather(plan) {
-        Ok(done) => (racks, Ok(Driven { done, closed })),
-        Err(fault) => (racks, Err(fault)),
+    Shifts {
+        racks,
+        reports,
+        closed,
     }
 }

@@ -1,8 +1,10 @@
 //! A worker of a plan, in a place that a thread can borrow.
-ghost use Rattle.std.specs.Prelude.{◌≡◌, AllPairs};
+ghost use Rattle.std.specs.Prelude.{◌≡◌, [], None, IsSomeAnd, AllPairs};
 ghost use Rattle.market_lock.specs.Seen.{IsSamePass};
 ghost use Rattle.market_drive.specs.Racks.{IsFor};
 ghost use Rattle.market_drive.specs.Lines.{queues_at};
+ghost use Rattle.market_drive.specs.Jobs.{HasShown, taken_by};
+ghost use Rattle.market_drive.specs.Reports.{HasEndedSo};
 ghost use Rattle.worker_main.specs.Stations.{HaveOwnArenas};
 
 use crate::racks::Rack;
@@ -17,7 +19,11 @@ use std::sync::ledger::Ledger;
 use worker_main::{Ended, Gate, Report, Station, work};
 
 /// How often a worker asks a gate at most, before it gives up.
-const TURNS: u64 = 1_000_000;
+fn turns() -> u64
+    ensures { result ≡ 1000000 }
+{
+    1_000_000
+}
 
 /// Names the queues of one plan.
 pub(crate) trait Yard {
@@ -39,48 +45,54 @@ pub(crate) struct Worker<'a, G, Y: Yard> {
     gate: &'a G,
     rack: Option<Rack>,
     done: Vec<Done>,
-    ended: Ended,
+    /// How it ended: not yet, before it has worked.
+    ended: Option<Ended>,
     yard: PhantomData<Y>,
 }
 
 impl<'a, G, Y: Yard> Model for Worker<'a, G, Y> {
-    ghost use Rattle.std.specs.Prelude.{◌≡◌, ℕ, IsSomeAnd, AllPairs};
+    ghost use Rattle.std.specs.Prelude.{◌≡◌, Option, IsSomeAnd, AllPairs};
     ghost use Rattle.worker_main.specs.Stations.{HaveOwnArenas};
-    ghost use Rattle.market_drive.specs.Racks.{IsFor};
+    ghost use Rattle.worker_main.specs.declared.report.Ended.{Ended};
+    ghost use Rattle.market_drive.specs.Racks.{OfRack, IsFor};
     ghost use Rattle.market_drive.specs.Lines.{queues_at};
+    ghost use Rattle.market_drive.specs.Jobs.{HasShown};
 
-    ghost Value = { ℕ };
+    ghost Value = { Option Ended };
 
-    ghost view = { λ _. 0 };
+    ghost view = { λ w. w.ended };
 
-    ghost invariant = { λ w. IsSomeAnd w.rack (IsFor Y.queues) × (queues_at w.stations.now ≡ Y.queues) × AllPairs HaveOwnArenas w.stations.now };
+    ghost invariant = { λ w. IsSomeAnd w.rack (λ (r : OfRack). IsFor Y.queues r × HasShown r.takers w.done.items w.ended) × (queues_at w.stations.now ≡ Y.queues) × AllPairs HaveOwnArenas w.stations.now };
 }
 
 /// What a worker leaves.
 pub(crate) struct Shift {
     pub(crate) rack: Rack,
     pub(crate) done: Vec<Done>,
-    pub(crate) ended: Ended,
+    /// `None` where it has not worked.
+    pub(crate) ended: Option<Ended>,
 }
 
 impl<'a, G: Gate, Y: Yard> Worker<'a, G, Y> {
     /// With this rack.
     pub(crate) fn new(alloc: Global, stations: &'a [Station], gate: &'a G, rack: Rack) -> Self
         requires rack { IsFor Y.queues rack }
+        requires unused { taken_by rack.takers ≡ [] }
         requires stations { queues_at stations.now ≡ Y.queues }
         requires apart { AllPairs HaveOwnArenas stations.now }
+        ensures { result ≡ None }
     {
         Worker {
             stations,
             gate,
             rack: Some(rack),
             done: Vec::new(alloc),
-            ended: Ended::Idle,
+            ended: None,
             yard: PhantomData,
         }
     }
 
-    /// Works with this pass, and gives it back.
+    /// Works with this pass for the first time, and gives it back.
     fn work_with<C: Ledger, W: Ledger, R: Wait>(
         &mut self,
         rt: &R,
@@ -88,8 +100,10 @@ impl<'a, G: Gate, Y: Yard> Worker<'a, G, Y> {
         office: &Office<C, W>,
         pass: Pass<C, W>,
     ) -> Pass<C, W>
-        requires { pass.table ≡ office.now.table }
-        ensures { IsSamePass pass result }
+        requires office { pass.table ≡ office.now.table }
+        requires first { self.old ≡ None }
+        ensures same { IsSamePass pass result }
+        ensures ended { IsSomeAnd self.new (HasEndedSo pass result) }
     {
         let taken = self.rack.take();
         let Some(rack) = taken else { unreachable!() };
@@ -106,18 +120,20 @@ impl<'a, G: Gate, Y: Yard> Worker<'a, G, Y> {
             self.stations,
             rack.into_takers(),
             self.gate,
-            TURNS,
+            turns(),
         );
         let away = mem::replace(&mut self.rack, Some(Rack::of(takers)));
         let None = away else { unreachable!() };
         self.done = done;
-        self.ended = ended;
+        self.ended = Some(ended);
         pass
     }
 
     /// What is left of it.
     pub(crate) fn into_shift(self) -> Shift
-        ensures { IsFor Y.queues result.rack }
+        ensures rack { IsFor Y.queues result.rack }
+        ensures shown { HasShown result.rack.takers result.done.items result.ended }
+        ensures ended { result.ended ≡ self.entry }
     {
         let Worker {
             stations: _,
@@ -140,6 +156,9 @@ impl<'a, G: Gate, Y: Yard> Task for Worker<'a, G, Y> {
         office: &Office<C, W>,
         caller: Caller<Pass<C, W>, Placed<C, W>>,
     ) -> Caller<Pass<C, W>, Placed<C, W>> {
+        if self.ended.is_some() {
+            return caller;
+        }
         let pass = match caller {
             Caller::Free(pass) => pass,
             Caller::Working(placed) => office.leave(rt, placed),

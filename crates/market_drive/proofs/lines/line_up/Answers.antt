@@ -1,4 +1,4 @@
-use Rattle.std.proofs.Common.{◌≡◌, ◌≤◌, ◌+◌, ◌∙◌, ap, sym, subst, arith, List, All, length, max}
+use Rattle.std.proofs.Common.{rules, refl, get_or, ◌≡◌, ◌≤◌, ◌+◌, ◌∙◌, ap, sym, subst, arith, List, All, length, max}
 use Rattle.std.proofs.lemmas.List.Sums.{count_by-le-length}
 use Rattle.drive_plan.specs.declared.task.PlannedJob.{PlannedJob}
 use Rattle.market_drive.specs.Arenas.{count_of}
@@ -6,7 +6,10 @@ use Rattle.std.proofs.lemmas.List.Elements.{All-push}
 use Rattle.job_queue.specs.Seen.{QueueId}
 use Rattle.market_drive.specs.Racks.{AreAway, IsFor}
 use Rattle.market_drive.specs.Lines.{queues_at}
-use Rattle.market_drive.proofs.Queues.{long_more, queues_more, roomy_more}
+use Rattle.std.specs.List.{sum_by}
+use Rattle.market_drive.specs.Jobs.{IsUnfed}
+use Rattle.market_drive.proofs.Fed.{requests_more}
+use Rattle.market_drive.proofs.Queues.{all_unfed, long_more, queues_more, roomy_more}
 use Rattle.market_drive.proofs.lines.line_up.Goals as goal
 
 pub loop-place-preserved : goal.loop-place-preserved
@@ -28,7 +31,18 @@ loop-place-preserved g c =
       c.deal-dealt.ensures.room,
       rw c.with-lines.ensures.ends (All-push (AreAway c.args.workers) c.loop-place.lines.ends c.deal-dealt.result.1 i.4 (ap (λ (x : QueueId). x.feeders) away.0 ∙ all.0, ap (λ (x : QueueId). x.takers) away.0 ∙ all.1, away.1, omega arith)),
       roomy_more jobs c.with-lines.result.stations c.loop-place.lines.stations _ c.with-lines.ensures.stations i.5 (fits ∙ ap (λ n. max n 1) (count ∙ ap (count_of jobs) (sym c.new-number.ensures))),
+      requests_more c.args.plan.now.arenas c.loop-place.place c.arena-item.result c.with-lines.result.stations c.loop-place.lines.stations _ (search rules)
+          (c.arena-item.is ∙ ap (λ xs. get_or xs c.loop-place.place c.arena-item.result) c.arenas-arena-items.ensures.exact) c.with-lines.ensures.stations refl refl i.6,
+      rw c.with-lines.ensures.ends (All-push IsUnfed c.loop-place.lines.ends c.deal-dealt.result.1 i.7 (ap (λ (x : QueueId). x.feeders) away.0 ∙ all.0, away.3 ∙ c.in-Ok-open_queue.ensures.unused.0.1)),
+      λ weigh.
+          let same = c.deal-dealt.ensures.same weigh in
+          let none = ap (sum_by weigh) c.in-Ok-open_queue.ensures.unused.1 in
+          let before = i.8 weigh in
+          omega arith,
     )
+
+pub returns-clause-away : goal.returns-clause-away
+returns-clause-away g c = all_unfed (AreAway c.args.workers) c.loop-place.lines.ends c.feed.result.ends c.feed.ensures.same.1 c.loop-place.invariant.4
 
 pub open_queue-requires-clause-capacity : goal.open_queue-requires-clause-capacity
 open_queue-requires-clause-capacity g c =

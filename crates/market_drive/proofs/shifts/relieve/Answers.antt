@@ -1,7 +1,11 @@
-use Rattle.std.proofs.Common.{◌≡◌, ◌+◌, ◌∙◌, ◌∷◌, [], ap, arith, List, length, vec_len}
+use Rattle.std.proofs.Common.{◌≡◌, ◌+◌, ◌∙◌, ◌∷◌, [], ap, sym, arith, List, length, vec_len}
+use Rattle.std.specs.List.{sum_by}
 use Rattle.std.proofs.lemmas.List.{length-append}
 use Rattle.std.proofs.lemmas.List.Elements.{All-push}
+use Rattle.std.proofs.lemmas.List.Sums.{sum_by_push}
 use Rattle.market_drive.specs.Racks.{IsFor, OfRack}
+use Rattle.market_drive.specs.Reports.{OfReports, shown, weight_if}
+use Rattle.market_drive.proofs.Sums.{racks_more, shown_more, shown_none, shown_so}
 use Rattle.market_drive.proofs.shifts.relieve.Goals as goal
 
 pub loop-worker-preserved : goal.loop-worker-preserved
@@ -12,5 +16,43 @@ loop-worker-preserved g c =
     let long : length c.with-racks.result ≡ length c.loop-worker.racks + 1 = ap (λ (l : List OfRack). length l) c.with-racks.ensures ∙ length-append c.loop-worker.racks (c.into_shift-rack.result.rack ∷ []) in (
       omega arith,
       i.1,
-      rw c.with-racks.ensures (All-push (IsFor g.Y.Yard.queues) c.loop-worker.racks c.into_shift-rack.result.rack i.2 c.into_shift-rack.ensures),
+      rw c.with-racks.ensures (All-push (IsFor g.Y.Yard.queues) c.loop-worker.racks c.into_shift-rack.result.rack i.2 c.into_shift-rack.ensures.rack),
+      i.3,
+      λ whole weigh.
+          let rest = ap (sum_by (weight_if weigh)) c.in-Some.ensures.items ∙ sum_by_push (weight_if weigh) c.pop.new.self.items c.in-Some.worker in
+          let none = ap (weight_if weigh) (sym c.into_shift-rack.ensures.ended ∙ c.in_default-ended.is) in
+          let before = i.4 whole weigh in
+          omega arith,
+      λ whole weigh.
+          let more = racks_more weigh c.loop-worker.racks c.with-racks.result c.into_shift-rack.result.rack c.with-racks.ensures in
+          let none = shown_none weigh c.into_shift-rack.result.rack.takers c.into_shift-rack.result.done.items c.into_shift-rack.result.ended c.in_default-ended.is c.into_shift-rack.ensures.shown in
+          let before = i.5 whole weigh in
+          omega arith,
+    )
+
+pub loop-worker-preserved-in-Some-ended : goal.loop-worker-preserved-in-Some-ended
+loop-worker-preserved-in-Some-ended g c =
+    let i = c.loop-worker.invariant in
+    let all = i.0 in
+    let one : vec_len c.pop.new.self + 1 ≡ vec_len c.loop-worker.left = c.in-Some.ensures.cases in
+    let long : length c.with-racks.result ≡ length c.loop-worker.racks + 1 = ap (λ (l : List OfRack). length l) c.with-racks.ensures ∙ length-append c.loop-worker.racks (c.into_shift-rack.result.rack ∷ []) in (
+      omega arith,
+      i.1,
+      rw c.with-racks.ensures (All-push (IsFor g.Y.Yard.queues) c.loop-worker.racks c.into_shift-rack.result.rack i.2 c.into_shift-rack.ensures.rack),
+      λ whole. i.3 (c.add.ensures.kept whole).0,
+      λ whole weigh.
+          let kept = c.add.ensures.kept whole in
+          let rest = ap (sum_by (weight_if weigh)) c.in-Some.ensures.items ∙ sum_by_push (weight_if weigh) c.pop.new.self.items c.in-Some.worker in
+          let own = ap (weight_if weigh) (sym c.into_shift-rack.ensures.ended ∙ c.in-Some-ended.is) in
+          let told = ap (λ (r : OfReports). sum_by weigh r.ended) kept.1 ∙ sum_by_push weigh c.loop-worker.reports.ended c.in-Some-ended.ended in
+          let before = i.4 kept.0 weigh in
+          omega arith,
+      λ whole weigh.
+          let kept = c.add.ensures.kept whole in
+          let shift = c.into_shift-rack.result in
+          let more = racks_more weigh c.loop-worker.racks c.with-racks.result shift.rack c.with-racks.ensures in
+          let told = ap (λ (r : OfReports). sum_by weigh (shown r)) kept.1 ∙ shown_more weigh c.loop-worker.reports shift.done.items c.in-Some-ended.ended in
+          let own = shown_so weigh shift.rack.takers shift.done.items shift.ended c.in-Some-ended.ended c.in-Some-ended.is c.into_shift-rack.ensures.shown in
+          let before = i.5 kept.0 weigh in
+          omega arith,
     )

@@ -1,9 +1,11 @@
 use Rattle.std.proofs.Common.{◌∙◌, ap, sym, subst, arith, List, length, All, Some}
+use Rattle.std.specs.List.{sum_by}
 use Rattle.std.proofs.lemmas.List.Elements.{All-pop}
 use Rattle.job_queue.specs.Seen.{QueueId}
 use Rattle.market_drive.specs.Racks.{AreAway, IsFor}
 use Rattle.market_drive.specs.Lines.{queues_at}
 use Rattle.market_drive.proofs.Queues.{paired_last, queues_last}
+use Rattle.market_drive.proofs.Sums.{fed_more}
 use Rattle.market_drive.proofs.lines.Lines.settle.Goals as goal
 
 pub collect-left-requires-clause-last : goal.collect-left-requires-clause-last
@@ -42,4 +44,11 @@ loop-station-preserved g c =
       c.collect-left.ensures.others (queues_at ss) (subst (λ (qs : List QueueId). All (IsFor qs) c.loop-station.racks) q i.1),
       (All-pop (AreAway (length c.args.racks)) ends es (Some away) c.in-Some-pop.ensures.items i.2).0,
       c.collect-left.ensures.each ∙ i.3,
+      λ weigh.
+          let same = c.collect-left.ensures.same weigh in
+          let once = c.settle.ensures.once weigh in
+          let fed = fed_more weigh es ends away c.in-Some-pop.ensures.items in
+          let stored = ap (sum_by weigh) c.collect-left.ensures.here.2 in
+          let before = i.4 weigh in
+          omega arith,
     )

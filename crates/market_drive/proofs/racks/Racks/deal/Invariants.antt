@@ -1,5 +1,8 @@
-use Rattle.std.proofs.Common.{◌≡◌, ◌+◌, ◌≤◌, ◌<◌, [], ◌∷◌, ◌++◌, List, length, vec_len, vec_capacity, All}
+use Rattle.std.proofs.Common.{◌≡◌, ◌+◌, ◌≤◌, ◌<◌, [], ◌∷◌, ◌++◌, List, ℕ, length, vec_len, vec_capacity, All}
+use Rattle.std.specs.List.{sum_by}
 use Rattle.job_queue.specs.Seen.{QueueId}
+use Rattle.drive_plan.specs.declared.task.Job.{Job}
+use Rattle.market_drive.specs.Jobs.{taken_by, taken_weight}
 use Rattle.market_drive.specs.Racks.{IsFor, IsRoomy, OfRack}
 use Rattle.market_drive.proofs.racks.Racks.deal.Given as goal
 
@@ -16,6 +19,8 @@ invariant-loop-rack l =
     × All (λ (r : OfRack). length r.queues < 64) l.left.items
     × All IsRoomy l.dealt.items
     × ((queues : List QueueId) → All (IsFor queues) l.fn.self → All (IsFor queues) l.left.items × All (IsFor (queues ++ l.fn.ends.queue ∷ [])) l.dealt.items)
+    × ((weigh : Job → ℕ) → (taken_weight weigh l.left.items + taken_weight weigh l.dealt.items) + sum_by weigh (taken_by l.ends.takers) ≡ taken_weight weigh l.fn.self + sum_by weigh (taken_by l.fn.ends.takers))
+    × (l.ends.stored ≡ l.fn.ends.stored)
 
 abbrev pub decreases-loop-rack : goal.decreases-loop-rack
 decreases-loop-rack l = vec_len l.left

@@ -1,16 +1,23 @@
-use Rattle.std.proofs.Common.{◌∙◌, sym, subst}
+use Rattle.std.proofs.Common.{◌≡◌, ◌∙◌, ◌++◌, [], Some, ap, sym, subst, IsPermutation}
 use Rattle.std.specs.Option.{IsSomeAnd}
-use Rattle.market_drive.specs.Racks.{IsFor}
+use Rattle.worker_main.specs.Books.{results, kept_back}
+use Rattle.market_drive.specs.Racks.{IsFor, OfRack}
+use Rattle.market_drive.specs.Jobs.{HasShown, taken_by}
 use Rattle.market_drive.proofs.Queues.{takers_of, same_queues}
 use Rattle.market_drive.proofs.worker.Worker.work_with.Goals as goal
 
 pub work-pass-requires-clause-takers : goal.work-pass-requires-clause-takers
 work-pass-requires-clause-takers g c =
-    let own : IsFor g.Y.Yard.queues c.in-Some.rack = subst (λ o. IsSomeAnd o (IsFor g.Y.Yard.queues)) (sym c.in-Some.ensures.value) c.self.invariant.0 in
-    takers_of c.self.inside.stations.now c.into_takers.result.items (c.into_takers.ensures ∙ (own ∙ sym c.self.invariant.1))
+    let own = subst (λ o. IsSomeAnd o (λ (r : OfRack). IsFor g.Y.Yard.queues r × HasShown r.takers c.self.inside.done.items c.self.inside.ended)) (sym c.in-Some.ensures.value) c.self.invariant.0 in
+    takers_of c.self.inside.stations.now c.into_takers.result.items (c.into_takers.ensures.0 ∙ (own.0 ∙ sym c.self.invariant.1))
 
 pub invariant_of-self : goal.invariant_of-self
 invariant_of-self g c =
-    let own : IsFor g.Y.Yard.queues c.in-Some.rack = subst (λ o. IsSomeAnd o (IsFor g.Y.Yard.queues)) (sym c.in-Some.ensures.value) c.self.invariant.0 in
-    let back : IsFor g.Y.Yard.queues c.of.result = c.of.ensures ∙ (same_queues c.into_takers.result.items c.work-pass.result.takers.items c.work-pass.ensures.takers ∙ (c.into_takers.ensures ∙ own)) in
-    (subst (λ o. IsSomeAnd o (IsFor g.Y.Yard.queues)) (sym c.replace-away.ensures.after) back, c.self.invariant.1, c.self.invariant.2)
+    let own = subst (λ o. IsSomeAnd o (λ (r : OfRack). IsFor g.Y.Yard.queues r × HasShown r.takers c.self.inside.done.items c.self.inside.ended)) (sym c.in-Some.ensures.value) c.self.invariant.0 in
+    let report = c.work-pass.result in
+    let back : IsFor g.Y.Yard.queues c.of.result = c.of.ensures.0 ∙ (same_queues c.into_takers.result.items report.takers.items c.work-pass.ensures.takers ∙ (c.into_takers.ensures.0 ∙ own.0)) in
+    let unused : taken_by c.into_takers.result.items ≡ [] = ap taken_by c.into_takers.ensures.1 ∙ (subst (HasShown c.in-Some.rack.takers c.self.inside.done.items) (c.self.view_is ∙ c.requires.first) own.1).0 in
+    let jobs : IsPermutation (taken_by report.takers.items) (results report.done.items ++ kept_back report.ended) =
+    subst (λ l. IsPermutation (taken_by report.takers.items) (l ++ (results report.done.items ++ kept_back report.ended))) unused c.work-pass.ensures.jobs in
+    let shown : HasShown c.of.result.takers report.done.items (Some report.ended) = subst (λ ts. HasShown ts report.done.items (Some report.ended)) (sym c.of.ensures.1) jobs in
+    (subst (λ o. IsSomeAnd o (λ (r : OfRack). IsFor g.Y.Yard.queues r × HasShown r.takers report.done.items (Some report.ended))) (sym c.replace-away.ensures.after) (back, shown), c.self.invariant.1, c.self.invariant.2)
