@@ -94,13 +94,19 @@ impl Gate for SecondFirst {
     }
 }
 
-/// Lets every job through but one.
+/// Lets every job through but one, and counts the questions about that one.
 #[derive(Drop)]
-struct AllBut(u32);
+struct AllBut {
+    shut: u32,
+    asked: AtomicU64,
+}
 
 impl Gate for AllBut {
     fn before(&self, number: u32) -> bool {
-        number != self.0
+        if number == self.shut {
+            self.asked.fetch_add(1, Ordering::SeqCst);
+        }
+        number != self.shut
     }
 
     fn after(&self, number: u32) {
@@ -210,14 +216,12 @@ fn what_was_asked_for_is_given_back_at_once(rt: HostRuntime) {
 
 #[test]
 fn a_gate_that_stays_shut_leaves_the_plan_unfinished(rt: HostRuntime) {
-    is_refused(
-        &rt,
-        rt.alloc(),
-        TWO_JOBS,
-        2,
-        &AllBut(1),
-        DriveFault::Unfinished,
-    );
+    let gate = AllBut {
+        shut: 1,
+        asked: AtomicU64::new(0),
+    };
+    is_refused(&rt, rt.alloc(), TWO_JOBS, 2, &gate, DriveFault::Unfinished);
+    same(&rt, gate.asked.load(Ordering::SeqCst), 1_000_000);
 }
 
 #[test]
@@ -242,7 +246,12 @@ arena 2 2 normal 5 0
 job 1 sum 10
 ";
     let due = DriveFault::Unservable(ArenaId::new(1));
-    is_refused(&rt, rt.alloc(), text, 4, &AllBut(1), due);
+    let gate = AllBut {
+        shut: 1,
+        asked: AtomicU64::new(0),
+    };
+    is_refused(&rt, rt.alloc(), text, 4, &gate, due);
+    same(&rt, gate.asked.load(Ordering::SeqCst), 0);
 }
 
 #[test]

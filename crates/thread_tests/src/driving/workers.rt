@@ -88,6 +88,58 @@ impl Gate for Second {
     }
 }
 
+/// Lets a job through at the question of this number about it, and digests what it was asked and told, in order.
+#[derive(Drop)]
+struct Patient {
+    opens_at: u64,
+    asked: AtomicU64,
+    events: AtomicU64,
+}
+
+impl Patient {
+    fn new(opens_at: u64) -> Patient {
+        Patient {
+            opens_at,
+            asked: AtomicU64::new(0),
+            events: AtomicU64::new(0),
+        }
+    }
+
+    fn note(&self, event: u64) {
+        let events = self.events.load(Ordering::SeqCst);
+        self.events.store(with_event(events, event), Ordering::SeqCst);
+    }
+}
+
+impl Gate for Patient {
+    fn before(&self, number: u32) -> bool {
+        self.note(question_about(number));
+        let earlier = self.asked.fetch_add(1, Ordering::SeqCst);
+        let opens = earlier.wrapping_add(1) == self.opens_at;
+        if opens {
+            self.asked.store(0, Ordering::SeqCst);
+        }
+        opens
+    }
+
+    fn after(&self, number: u32) {
+        self.note(end_of(number));
+    }
+}
+
+fn question_about(number: u32) -> u64 {
+    u64::from(number) * 2
+}
+
+fn end_of(number: u32) -> u64 {
+    u64::from(number) * 2 + 1
+}
+
+/// The digest with one event more.
+fn with_event(events: u64, event: u64) -> u64 {
+    events.wrapping_mul(65_599).wrapping_add(event)
+}
+
 /// A queue of eight places with one feeder and one taker, made again where a growth was refused.
 fn new_queue(rt: &impl Abort, alloc: Global) -> (JobQueue<Job>, Vec<Feeder<Job>>, Vec<Taker<Job>>)
     ensures all { AreAllOf result.0.id result.1.items result.2.items }
@@ -423,6 +475,37 @@ fn each_job_is_told_once(rt: HostRuntime) {
     let left = left_by(&rt, rt.alloc(), 100, &gate);
     same(&rt, left.ended, Ended::Idle);
     same(&rt, gate.told.load(Ordering::SeqCst), 111);
+    drop(left);
+}
+
+/// A worker asks three times at most. This refuses one that asks once more or once less, about another job, or tells another's end.
+#[test]
+fn each_job_is_asked_about_until_it_may_run_and_then_told(rt: HostRuntime) {
+    let gate = Patient::new(3);
+    let left = left_by(&rt, rt.alloc(), 100, &gate);
+    same(&rt, left.ended, Ended::Idle);
+    let mut due = 0;
+    for number in 1..=3 {
+        for _ in 0..3 {
+            due = with_event(due, question_about(number));
+        }
+        due = with_event(due, end_of(number));
+    }
+    same(&rt, gate.events.load(Ordering::SeqCst), due);
+    drop(left);
+}
+
+#[test]
+fn a_gate_that_would_open_at_the_fourth_question_is_asked_three_times(rt: HostRuntime) {
+    let gate = Patient::new(4);
+    let left = left_by(&rt, rt.alloc(), 100, &gate);
+    same(&rt, left.ended, Ended::GateShut(FIRST));
+    same(&rt, gate.asked.load(Ordering::SeqCst), 3);
+    let mut due = 0;
+    for _ in 0..3 {
+        due = with_event(due, question_about(1));
+    }
+    same(&rt, gate.events.load(Ordering::SeqCst), due);
     drop(left);
 }
 

@@ -3,12 +3,14 @@ ghost use Rattle.std.specs.Prelude.{◌≡◌, length, vec_len};
 
 use crate::asserts::{holds, same};
 use edit_history::{Chronicle, Keeping};
+use market_lock::{Office, Pass, Placed};
 use market_types::{ArenaId, Cmd, LastNumber, Level, SeatNo, push_reply};
-use office_crew::{Meeting, Script, Terms, ask, meet};
+use office_crew::{Caller, Meeting, Script, Task, Terms, ask, meet};
 use std::alloc::Global;
 use std::process::Abort;
 use std::rt::HostRuntime;
 use std::sync::Wait;
+use std::sync::ledger::Ledger;
 use std::thread::Threads;
 
 const TERMS: Terms = Terms {
@@ -312,4 +314,98 @@ fn a_worker_visits_while_another_comes(rt: HostRuntime) {
         Cmd::Join,
     ];
     one_visits_and_one_stays(&rt, rt.alloc(), &cmds);
+}
+
+/// An opener that lets nobody work after it.
+#[derive(Drop)]
+struct Strict;
+
+impl Task for Strict {
+    fn work<C: Ledger, W: Ledger, R: Wait>(
+        &mut self,
+        rt: &R,
+        alloc: Global,
+        office: &Office<C, W>,
+        caller: Caller<Pass<C, W>, Placed<C, W>>,
+    ) -> Caller<Pass<C, W>, Placed<C, W>> {
+        let _ = rt;
+        let _ = alloc;
+        let _ = office;
+        caller
+    }
+
+    fn lets_others_work(&self) -> bool {
+        false
+    }
+}
+
+/// Two tasks come back that have not worked.
+fn are_sent_home<R: Threads + Wait + Sync + Abort>(rt: &R, alloc: Global) {
+    let mut openers = Vec::new(alloc);
+    holds(rt, openers.push(Strict).is_ok());
+    let tasks = scripts_of(rt, alloc, &[&[Cmd::Limit], &[Cmd::Limit]]);
+    holds(rt, openers.len() == 1 && tasks.len() == 2);
+    let Ok(meeting) = meet(rt, alloc, TERMS, openers, tasks) else {
+        panic!(rt; "no office");
+    };
+    same(rt, (meeting.openers.len(), meeting.tasks.len()), (1, 2));
+    holds(
+        rt,
+        meeting.tasks.iter().all(|script| script.told().is_empty()),
+    );
+    same(rt, (meeting.closed.calls, meeting.closed.workers), (0, 0));
+    drop(meeting);
+}
+
+#[test]
+fn nobody_works_where_an_opener_lets_nobody(rt: HostRuntime) {
+    are_sent_home(&rt, rt.alloc());
+}
+
+/// Six callers open an arena each, of as many slots as its seat's number and one. Each works once, and they come back in the order
+/// of their seats.
+fn each_works_once<R: Threads + Wait + Sync + Abort>(rt: &R, alloc: Global) {
+    let low = Level::from_index(2);
+    let cmds = [
+        [Cmd::Open(1, 1, low)],
+        [Cmd::Open(2, 1, low)],
+        [Cmd::Open(3, 1, low)],
+        [Cmd::Open(4, 1, low)],
+        [Cmd::Open(5, 1, low)],
+        [Cmd::Open(6, 1, low)],
+    ];
+    let openers = scripts_of(rt, alloc, &[&cmds[0], &cmds[1], &cmds[2]]);
+    let tasks = scripts_of(rt, alloc, &[&cmds[3], &cmds[4], &cmds[5]]);
+    holds(rt, openers.len() == 3 && tasks.len() == 3);
+    let Ok(meeting) = meet(rt, alloc, TERMS, openers, tasks) else {
+        panic!(rt; "no office");
+    };
+    let Meeting {
+        closed,
+        openers,
+        tasks,
+    } = meeting;
+    same(rt, closed.chronicle.len(), 6);
+    for entry in closed.chronicle.kept() {
+        let slots = u32::from(entry.call.seat.get()) + 1;
+        same(rt, entry.call.cmd, Cmd::Open(slots, 1, low));
+    }
+    // Openers are first, in the order of their seats; each script has its own seat's reply.
+    let order = [SeatNo::new(0), SeatNo::new(1), SeatNo::new(2)];
+    for (entry, seat) in closed.chronicle.kept().iter().zip(order.iter()) {
+        same(rt, entry.call.seat, *seat);
+    }
+    for (seat, script) in openers.iter().chain(tasks.iter()).enumerate() {
+        let told = told_in(rt, alloc, &closed.chronicle, SeatNo::new(seat as u8));
+        same(rt, script.told(), told.as_slice());
+        drop(told);
+    }
+    drop(tasks);
+    drop(openers);
+    drop(closed);
+}
+
+#[test]
+fn each_caller_works_once_and_comes_back_in_the_order_of_its_seat(rt: HostRuntime) {
+    each_works_once(&rt, rt.alloc());
 }
