@@ -1,13 +1,26 @@
 //! Who opens a plan's market.
-ghost use Rattle.std.specs.Prelude.{◌≡◌, is_none};
+ghost use Rattle.std.specs.Prelude.{◌≡◌, None, is_none, IfNone};
+ghost use Rattle.market_lock.specs.Seen.{IsSamePass};
+ghost use Rattle.office_crew.specs.Callers.{who_is};
+ghost use Rattle.market_drive.specs.Opening.{HasGiven, fault_in};
 
 use edit_history::CallFault;
 use market_lock::{Office, Pass, Placed};
-use market_types::Cmd;
+use market_types::{Cmd, Reply};
 use office_crew::{Asked, Caller, Task, ask};
 use std::alloc::Global;
 use std::sync::Wait;
 use std::sync::ledger::Ledger;
+
+/// Why a command was not answered, if it was asked and was not.
+fn fault_in(answer: &Option<Result<Reply, CallFault>>) -> Option<CallFault>
+    ensures { result ≡ fault_in answer.now }
+{
+    match answer {
+        Some(Err(fault)) => Some(*fault),
+        _ => None,
+    }
+}
 
 /// Gives the commands that make a plan's market, and stops at the first that is not answered.
 #[derive(Drop)]
@@ -19,19 +32,26 @@ pub(crate) struct Opener<'a> {
 
 impl<'a> Opener<'a> {
     /// With these commands.
-    pub(crate) fn new(cmds: &'a [Cmd]) -> Self {
+    pub(crate) fn new(cmds: &'a [Cmd]) -> Self
+        ensures { (result.cmds.now ≡ cmds.now) × (result.fault ≡ None) }
+    {
         Opener { cmds, fault: None }
     }
 }
 
 impl Task for Opener<'_> {
+    /// Where it tells no fault, each of its commands was answered, but for those that would move its seat.
     fn work<C: Ledger, W: Ledger, R: Wait>(
         &mut self,
         rt: &R,
         alloc: Global,
         office: &Office<C, W>,
         caller: Caller<Pass<C, W>, Placed<C, W>>,
-    ) -> Caller<Pass<C, W>, Placed<C, W>> {
+    ) -> Caller<Pass<C, W>, Placed<C, W>>
+        requires office { (who_is caller).table ≡ office.now.table }
+        ensures same { IsSamePass (who_is caller) (who_is result) }
+        ensures given { IfNone self.new.fault (HasGiven self.old.cmds.now (who_is caller) (who_is result)) }
+    {
         let mut caller = caller;
         for cmd in self.cmds {
             let Asked {
@@ -39,9 +59,9 @@ impl Task for Opener<'_> {
                 answer,
             } = ask(rt, alloc, office, caller, *cmd);
             caller = next;
-            if let Some(Err(fault)) = answer {
+            if let Some(fault) = fault_in(&answer) {
                 self.fault = Some(fault);
-                break;
+                return caller;
             }
         }
         caller
