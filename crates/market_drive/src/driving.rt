@@ -73,7 +73,7 @@ fn drive_plan_of<G: Gate + Sync, R: Threads + Wait + Sync>(
 ///
 /// `BadPlan` comes first, where the text is no plan; then `Unservable`, where an arena with jobs would never be allotted a worker.
 /// The others come only after the office was opened, with all workers back and the office closed: `Memory`, `Unfinished`,
-/// `Doubled`, `Missing`, in this order. `Memory` may come at any time.
+/// `Missing`, in this order. `Memory` may come at any time, and `Doubled` never does.
 pub fn drive_to_close<G: Gate + Sync, R: Threads + Wait + Sync>(
     rt: &R,
     alloc: Global,

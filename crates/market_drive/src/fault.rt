@@ -10,7 +10,8 @@ pub enum DriveFault {
     Unservable(ArenaId),
     /// G03: a worker ended on a gate that stayed shut, in an arena without a station, or where the history was full.
     Unfinished,
-    /// G04: the least number that more than one answer has, or one that is not that of a job of the plan.
+    /// G04: the least number that more than one answer has, or one that is not that of a job of the plan. It comes of
+    /// `gather_done` alone: no drive answers a job twice.
     Doubled(u32),
     /// G05: the least number of a job that no answer has.
     Missing(u32),
