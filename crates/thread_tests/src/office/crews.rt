@@ -395,10 +395,12 @@ fn each_works_once<R: Threads + Wait + Sync + Abort>(rt: &R, alloc: Global) {
     for (entry, seat) in closed.chronicle.kept().iter().zip(order.iter()) {
         same(rt, entry.call.seat, *seat);
     }
-    for (seat, script) in openers.iter().chain(tasks.iter()).enumerate() {
-        let told = told_in(rt, alloc, &closed.chronicle, SeatNo::new(seat as u8));
+    let mut seat = 0_u8;
+    for script in openers.iter().chain(tasks.iter()) {
+        let told = told_in(rt, alloc, &closed.chronicle, SeatNo::new(seat));
         same(rt, script.told(), told.as_slice());
         drop(told);
+        seat = seat.wrapping_add(1);
     }
     drop(tasks);
     drop(openers);
