@@ -107,7 +107,8 @@ impl Patient {
 
     fn note(&self, event: u64) {
         let events = self.events.load(Ordering::SeqCst);
-        self.events.store(with_event(events, event), Ordering::SeqCst);
+        self.events
+            .store(with_event(events, event), Ordering::SeqCst);
     }
 }
 
