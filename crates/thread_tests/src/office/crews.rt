@@ -362,20 +362,12 @@ fn nobody_works_where_an_opener_lets_nobody(rt: HostRuntime) {
     are_sent_home(&rt, rt.alloc());
 }
 
-/// Six callers open an arena each, of as many slots as its seat's number and one. Each works once, and they come back in the order
-/// of their seats.
-fn each_works_once<R: Threads + Wait + Sync + Abort>(rt: &R, alloc: Global) {
-    let low = Level::from_index(2);
-    let cmds = [
-        [Cmd::Open(1, 1, low)],
-        [Cmd::Open(2, 1, low)],
-        [Cmd::Open(3, 1, low)],
-        [Cmd::Open(4, 1, low)],
-        [Cmd::Open(5, 1, low)],
-        [Cmd::Open(6, 1, low)],
-    ];
-    let openers = scripts_of(rt, alloc, &[&cmds[0], &cmds[1], &cmds[2]]);
-    let tasks = scripts_of(rt, alloc, &[&cmds[3], &cmds[4], &cmds[5]]);
+/// Six callers give a command each. Each works once, openers in the order of their seats, and all come back in that order.
+fn each_works_once<R: Threads + Wait + Sync + Abort>(rt: &R, alloc: Global, cmds: &[Cmd])
+    requires { length cmds.now ≡ 6 }
+{
+    let openers = scripts_of(rt, alloc, &[&cmds[..1], &cmds[1..2], &cmds[2..3]]);
+    let tasks = scripts_of(rt, alloc, &[&cmds[3..4], &cmds[4..5], &cmds[5..]]);
     holds(rt, openers.len() == 3 && tasks.len() == 3);
     let Ok(meeting) = meet(rt, alloc, TERMS, openers, tasks) else {
         panic!(rt; "no office");
@@ -387,12 +379,11 @@ fn each_works_once<R: Threads + Wait + Sync + Abort>(rt: &R, alloc: Global) {
     } = meeting;
     same(rt, closed.chronicle.len(), 6);
     for entry in closed.chronicle.kept() {
-        let slots = u32::from(entry.call.seat.get()) + 1;
-        same(rt, entry.call.cmd, Cmd::Open(slots, 1, low));
+        let place = entry.call.seat.get() as usize;
+        holds(rt, place < 6 && entry.call.cmd == cmds[place]);
     }
-    // Openers are first, in the order of their seats; each script has its own seat's reply.
-    let order = [SeatNo::new(0), SeatNo::new(1), SeatNo::new(2)];
-    for (entry, seat) in closed.chronicle.kept().iter().zip(order.iter()) {
+    let first = [SeatNo::new(0), SeatNo::new(1), SeatNo::new(2)];
+    for (entry, seat) in closed.chronicle.kept().iter().zip(first.iter()) {
         same(rt, entry.call.seat, *seat);
     }
     let mut seat = 0_u8;
@@ -409,5 +400,14 @@ fn each_works_once<R: Threads + Wait + Sync + Abort>(rt: &R, alloc: Global) {
 
 #[test]
 fn each_caller_works_once_and_comes_back_in_the_order_of_its_seat(rt: HostRuntime) {
-    each_works_once(&rt, rt.alloc());
+    let low = Level::from_index(2);
+    let cmds = [
+        Cmd::Open(1, 1, low),
+        Cmd::Open(2, 1, low),
+        Cmd::Open(3, 1, low),
+        Cmd::Open(4, 1, low),
+        Cmd::Open(5, 1, low),
+        Cmd::Open(6, 1, low),
+    ];
+    each_works_once(&rt, rt.alloc(), &cmds);
 }
