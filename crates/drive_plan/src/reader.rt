@@ -6,7 +6,7 @@ ghost use Rattle.drive_plan.specs.Format.{MemoryAside, after_line, after_text, b
 
 use crate::line::{PlanLine, read_job_line, read_plan_line};
 use crate::plan::Plan;
-use line_engine::{LONGEST_INPUT, LineForm, LineTaker, take_text};
+use line_engine::{LONGEST_INPUT, LONGEST_LINE, LineForm, LineTaker, take_text};
 use std::alloc::{AllocError, Global};
 use std::mem;
 
@@ -195,7 +195,7 @@ impl LineTaker for Reader {
 
     type Fault = AllocError;
 
-    const LONGEST: u32 = 256;
+    const LONGEST: u32 = LONGEST_LINE;
 
     ghost LONGEST = { longest_line };
 

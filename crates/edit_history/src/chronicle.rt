@@ -24,8 +24,8 @@ use std::marker::Model;
 use std::mem;
 use std::snapshot::Snapshot;
 
-/// The most places that a history can have.
-const MOST_PLACES: u32 = 1_048_576;
+/// The most places that a history can have, so the most entries of it that are kept.
+pub const MOST_PLACES: u32 = 1_048_576;
 
 /// How long a history is at most whose entries are all forgotten or cut out: with all places after it, 64 bits still count its calls.
 pub const MOST_FORGOTTEN: u64 = u64::MAX - MOST_PLACES as u64;

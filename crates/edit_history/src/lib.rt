@@ -20,7 +20,7 @@ mod part;
 mod past;
 mod terms;
 
-pub use chronicle::{Chronicle, MOST_FORGOTTEN};
+pub use chronicle::{Chronicle, MOST_FORGOTTEN, MOST_PLACES};
 pub use fault::CallFault;
 pub use keeping::Keeping;
 pub use law::{

@@ -3,12 +3,13 @@ ghost use Rattle.std.specs.Prelude.{◌≡◌, ◌≤◌, ◌^◌};
 ghost use Rattle.journal_replay.specs.Journal.{fits_second, header_for};
 ghost use Rattle.journal_replay.specs.Verdicts.{is_full, longest_journal};
 
+use edit_history::MOST_PLACES;
 use line_engine::LONGEST_INPUT;
 use market_core::Market;
 use market_types::LastNumber;
 
 /// The most entries of a journal that is limited.
-const MOST_ENTRIES: u64 = 1_048_576;
+const MOST_ENTRIES: u64 = MOST_PLACES as u64;
 
 /// The most bytes of a journal that is endless.
 const MOST_COUNTED: u64 = 9_223_372_036_854_775_808;

@@ -20,5 +20,5 @@ pub use engine::take_lines;
 pub use fault::InputFault;
 pub use form::LineForm;
 pub use law::silence;
-pub use taker::{LONGEST_INPUT, LineTaker};
+pub use taker::{LONGEST_INPUT, LONGEST_LINE, LineTaker};
 pub use text::{Nowhere, take_text};

@@ -8,6 +8,9 @@ use crate::form::LineForm;
 /// The most bytes of an input where its taker names no other limit.
 pub const LONGEST_INPUT: u64 = 268_435_456;
 
+/// The most bytes of a line of commands: of a script, and of a plan.
+pub const LONGEST_LINE: u32 = 256;
+
 /// What takes the lines of an input one after the other, and answers each by a text, which may be empty.
 pub trait LineTaker: Drop {
     /// Why it takes no more lines.

@@ -20,7 +20,7 @@ use crate::racks::Racks;
 use crate::reports::Reports;
 use crate::worker::{Shift, Worker, Yard};
 use drive_plan::Plan;
-use edit_history::Keeping;
+use edit_history::{Keeping, MOST_PLACES};
 use market_lock::Closed;
 use market_types::{Cmd, LastNumber};
 use office_crew::{Meeting, Terms, Unmet, meet};
@@ -28,9 +28,6 @@ use std::alloc::{AllocError, Global};
 use std::sync::Wait;
 use std::thread::Threads;
 use worker_main::{Gate, Station};
-
-/// The most calls of a drive.
-const PLACES: u32 = 1_048_576;
 
 /// A worker for each rack.
 fn man<'a, Y: Yard, G: Gate>(
@@ -197,7 +194,7 @@ pub(crate) fn work_shifts<Y: Yard + Send + Sync, G: Gate + Sync, R: Threads + Wa
     let terms = Terms {
         base: plan.base(),
         hard: plan.hard(),
-        places: PLACES,
+        places: MOST_PLACES,
         levels: plan.levels(),
         last: LastNumber::USUAL,
         keeping: Keeping::Everything,

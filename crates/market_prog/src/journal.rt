@@ -11,14 +11,11 @@ use crate::fault::RunFault;
 use crate::options::MarketOptions;
 use crate::recording::RecordingSession;
 use byte_devices::{Sink, Source};
-use edit_history::{Chronicle, Keeping, Terms};
+use edit_history::{Chronicle, Keeping, MOST_PLACES, Terms};
 use journal_replay::write_journal;
 use line_engine::{silence, take_lines};
 use market_types::OpenFault;
 use std::alloc::Global;
-
-/// How many places the history of a script has.
-const PLACES: u32 = 1_048_576;
 
 /// A market with an empty history.
 fn open_chronicle(alloc: Global, options: MarketOptions) -> Result<Chronicle, OpenFault>
@@ -29,7 +26,7 @@ fn open_chronicle(alloc: Global, options: MarketOptions) -> Result<Chronicle, Op
         base: options.base,
         hard: options.hard,
         seats: options.seats,
-        places: PLACES,
+        places: MOST_PLACES,
         levels: options.levels,
         last: options.last,
         keeping: Keeping::Everything,

@@ -2,7 +2,7 @@
 ghost use Rattle.std.specs.Prelude.{◌≡◌};
 
 use crate::session::{Session, is_silent};
-use line_engine::{LONGEST_INPUT, LineForm, LineTaker};
+use line_engine::{LONGEST_INPUT, LONGEST_LINE, LineForm, LineTaker};
 use market_core::Market;
 use std::alloc::{AllocError, Global};
 
@@ -47,7 +47,7 @@ impl LineTaker for QuietSession {
 
     type Fault = AllocError;
 
-    const LONGEST: u32 = 256;
+    const LONGEST: u32 = LONGEST_LINE;
 
     ghost LONGEST = { longest_line };
 

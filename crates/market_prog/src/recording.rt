@@ -7,7 +7,7 @@ ghost use Rattle.market_prog.specs.Recording.{IsUnrecorded, lengthened};
 
 use crate::session::{call_in, is_silent};
 use edit_history::{CallFault, Chronicle};
-use line_engine::{LONGEST_INPUT, LineForm, LineTaker};
+use line_engine::{LONGEST_INPUT, LONGEST_LINE, LineForm, LineTaker};
 use market_types::{Cmd, SeatNo};
 use std::alloc::Global;
 
@@ -73,7 +73,7 @@ impl LineTaker for RecordingSession {
 
     type Fault = CallFault;
 
-    const LONGEST: u32 = 256;
+    const LONGEST: u32 = LONGEST_LINE;
 
     ghost LONGEST = { longest_line };
 

@@ -4,7 +4,7 @@ ghost use Rattle.market_types.specs.Reading.{line_reading};
 ghost use Rattle.market_types.specs.Script.{answer_to, is_silent};
 ghost use Rattle.market_prog.specs.Sessions.{answer_line, is_too_long};
 
-use line_engine::{LONGEST_INPUT, LineForm, LineTaker};
+use line_engine::{LONGEST_INPUT, LONGEST_LINE, LineForm, LineTaker};
 use market_core::Market;
 use market_types::{Cmd, Reply, SeatNo, push_reply, read_line};
 use std::alloc::{AllocError, Global};
@@ -118,7 +118,7 @@ impl LineTaker for Session {
 
     type Fault = AllocError;
 
-    const LONGEST: u32 = 256;
+    const LONGEST: u32 = LONGEST_LINE;
 
     ghost LONGEST = { longest_line };
 
