@@ -1,8 +1,9 @@
 //! Plans of jobs: [`read_plan`] reads one, and [`gather_done`] puts the answers to its jobs in order and tells where one
 //! is too many or none. A [`Job`] that is run gives a [`Done`], whose type keeps that its value is its task's.
 //!
-//! How a line reads is `specs/Reading`, which lines may follow one another `specs/Plans`, and which text is which plan
-//! `specs/Format`; the same in the words of the format is `specs/Sections` ([`plans_are_their_sections`]). What a task is worth is `specs/Values`, and what answers come to `specs/Outcome`.
+//! How a line reads is `specs/Reading`, which lines may follow one another `specs/Plans`, and which text is which plan `specs/Format`; the
+//! same in the words of the format is `specs/Sections` ([`plans_are_their_sections`]). What a task is worth is `specs/Values`, and what
+//! answers come to `specs/Outcome`.
 #![tactic(auto)]
 
 mod gather;

@@ -1,9 +1,9 @@
 //! The journal of a chronicle: its text, one JSON line for the opening and one for each call with its reply.
 //!
-//! [`write_journal`] writes it. Where the history is taken out in parts, [`write_header`] and then [`write_part`] for each of them
-//! write the same ([`header_and_parts_are_the_journal`]). What is written is `specs/Journal`, said over the history's plain list. [`check`] reads one
-//! and replays it, and so does [`check_source`] with what a source has left. How a line reads is `specs/Reading`, what is found of a text `specs/Verdicts`, and what that is in terms of
-//! histories `specs/Legality`.
+//! [`write_journal`] writes it. Where the history is taken out in parts, [`write_header`] and then [`write_part`] for each of them write
+//! the same ([`header_and_parts_are_the_journal`]). What is written is `specs/Journal`, said over the history's plain list. [`check`] reads
+//! one and replays it, and so does [`check_source`] with what a source has left. How a line reads is `specs/Reading`, what is found of a
+//! text `specs/Verdicts`, and what that is in terms of histories `specs/Legality`.
 #![tactic(auto)]
 
 mod checker;

@@ -13,8 +13,8 @@ use line_engine::take_lines;
 use market_core::Market;
 use std::alloc::Global;
 
-/// Runs a script over a new market, opened with these options: each of its lines is answered by a line, but for the empty ones and those that
-/// begin with `#`. The result is the number of lines that were unread.
+/// Runs a script over a new market, opened with these options: each of its lines is answered by a line, but for the empty ones and those
+/// that begin with `#`. The result is the number of lines that were unread.
 ///
 /// Before each read, all replies to the lines that have ended are handed over to the sink, so that a caller can write a
 /// line and wait for its reply. They are handed over once a piece, and in the middle of a piece where they are much. The

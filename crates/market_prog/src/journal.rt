@@ -34,8 +34,8 @@ fn open_chronicle(alloc: Global, options: MarketOptions) -> Result<Chronicle, Op
     Chronicle::on_terms(alloc, terms)
 }
 
-/// Gives a new market, opened with these options, the lines of a script, as `run_script` does, and then writes the journal of their calls, and no reply.
-/// A line that is silent or unread is no call. The result is the number of lines that were unread.
+/// Gives a new market, opened with these options, the lines of a script, as `run_script` does, and then writes the journal of their calls,
+/// and no reply. A line that is silent or unread is no call. The result is the number of lines that were unread.
 ///
 /// The history has 1,048,576 places. The memory is that of the market and of its history, and of two pieces of some 65,536
 /// bytes.
