@@ -20,8 +20,7 @@ fn place_one(rt: &HostRuntime, market: &mut Market) -> Result<()> {
         Cmd::Join,
     ];
     for cmd in commands {
-        // That each market has a seat 0 is what this call promises.
-        let _ = market.seats();
+        market.has_a_seat();
         let reply = market.apply(rt.alloc(), SeatNo::new(0), cmd)?;
         println!(rt; "{}", reply_text(rt.alloc(), &reply)?)?;
     }

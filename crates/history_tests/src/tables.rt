@@ -60,8 +60,7 @@ fn market_after(alloc: Global, levels: u32, cmds: &[Cmd]) -> Result<Market, Allo
         return Err(AllocError);
     };
     for cmd in cmds {
-        // That each market has a seat 0 is what this call promises.
-        let _ = market.seats();
+        market.has_a_seat();
         market.apply(alloc, SeatNo::new(0), *cmd)?;
     }
     Ok(market)

@@ -117,6 +117,15 @@ impl Market {
         self.roster.seats()
     }
 
+    /// A market has a seat 0. This does nothing: what it ensures holds wherever it is called.
+    #[inline(always)]
+    pub fn has_a_seat(&self)
+        ensures { 0 < length self.now.seats }
+    {
+        // The fact is the market's invariant, which a look at a field opens.
+        let _ = &self.roster;
+    }
+
     /// How many levels there are, 1 to 8. Each arena is at one of them.
     pub fn levels(&self) -> u32
         ensures exact { result ≡ self.now.levels }

@@ -34,8 +34,7 @@ fn give(alloc: Global, market: &mut Market, commands: &[Cmd]) -> Result<(), Allo
     ensures { OnOk result (market.new ≡ state_after market.old (calls_of_first commands.now)) }
 {
     for cmd in commands {
-        // That each market has a seat 0 is what this call promises.
-        let _ = market.seats();
+        market.has_a_seat();
         market.apply(alloc, SeatNo::new(0), *cmd)?;
     }
     Ok(())

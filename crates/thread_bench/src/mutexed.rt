@@ -9,8 +9,7 @@ use std::sync::{Mutex, Wait};
 /// Gives a command under the lock, and tells how many calls were answered: one or none.
 fn give<R: Wait>(rt: &R, alloc: Global, market: &Mutex<Market>, cmd: Cmd) -> u64 {
     let mut market = market.lock(rt);
-    // That each market has a seat 0 is what this call promises.
-    let _ = market.seats();
+    market.has_a_seat();
     u64::from(market.apply(alloc, SeatNo::new(0), cmd).is_ok())
 }
 
