@@ -39,7 +39,8 @@ pub record Moment (J : Type 0) : Type 0 where
 abbrev pub pushed : {J : Type 0} → Moment J → List (Fed J)
 pushed m = given m.pops ++ m.held
 
--- a moment that a queue of so many feeders and takers can have: only its feeders have pushed, each its jobs at the places 0, 1, 2 and so on, and only its takers have popped
+-- a moment that a queue of so many feeders and takers can have: only its feeders have pushed, each its jobs at the places 0, 1, 2 and so
+-- on, and only its takers have popped
 pub record IsMomentOf {J : Type 0} (feeders takers : ℕ) (m : Moment J) : Type 0 where
   pub pushes : All (λ (x : Fed J). x.feeder < feeders) (pushed m)
   pub places : (n : ℕ) → HavePlaces 0 (own n (pushed m))

@@ -288,8 +288,9 @@ impl LineTaker for Checker {
 /// What is found of a journal's text, of whatever length: whether its calls, replayed on a new market, get the replies that it tells, as
 /// `Legal` with the number of entries, or the first line at which they don't. Journals of versions 1, 2 and 3 are read; those of version 3
 /// alone may have more than 1,048,576 entries. What a line is as JSON is serde_json's reading of it, so that other spacing and another
-/// order of keys are accepted. It asks for no free places. It takes the memory of the market, and room that is kept from line to line, for
-/// texts whose escapes are undone and for the due reply, up to twice the longest of them. Out of memory is the `Err`.
+/// order of keys are accepted. It asks for no free places. It takes the memory of the market, and room that is kept from line to line: for
+/// each of a line's first three texts whose escapes are undone, and for the due reply, up to twice the longest that it held. Out of memory
+/// is the `Err`.
 pub fn check(alloc: Global, text: &[u8]) -> Result<Verdict, AllocError>
     ensures verdict { IfOk result (λ found. found ≡ verdict text.now) }
 {

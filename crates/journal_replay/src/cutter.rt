@@ -1,7 +1,7 @@
 //! Lines cut member by member. At each place what is written here is tried first, and only where it is missing white space is passed
 //! over: so a line that is spelled as ours is told by its places, and one that another tool wrote as soon as the two differ. What is
 //! cut is proved to be what the lexer of JSON finds there.
-ghost use Rattle.std.specs.Prelude.{◌≡◌, ◌<◌, ◌^◌, ◌++◌, ◌∷◌, [], true, length, Some, IfSome, decimal};
+ghost use Rattle.std.specs.Prelude.{◌≡◌, ◌<◌, ◌^◌, ◌∷◌, [], true, length, Some, IfSome, decimal};
 ghost use Rattle.std.specs.Bool.{OnTrue};
 ghost use Rattle.json.specs.Lex.{class, comma, operator, operator_lexeme, space, token};
 ghost use Rattle.json.specs.Token.{begin_object, number, string};
@@ -24,7 +24,7 @@ fn is_space(byte: u8) -> bool
     matches!(byte, b' ' | b'\t' | b'\r')
 }
 
-/// What follows the white space, one byte, that a text begins with.
+/// What follows the byte of white space with which a text begins.
 #[inline(always)]
 fn after_space(text: &[u8]) -> Option<&[u8]>
     ensures cut { IfSome result (λ rest. IsCut text.now rest.now []) }

@@ -82,6 +82,7 @@ fn push_plain(room: &mut Vec<u8>, text: &[u8]) -> Option<()>
 
 /// The text that stands inside of a string, its escapes undone in the room. None of one with other escapes than those of bytes of
 /// ASCII as `\u0020`, of one that is no text, and where the room gets no memory.
+// Apart, since nearly no text has an escape.
 #[inline(never)]
 fn undo<'a>(inside: &[u8], room: &'a mut Vec<u8>) -> Option<&'a [u8]>
     ensures { IfSome result (λ text. (tail : List ℕ) → IsInside (inside.now ++ tail) tail text.now) }

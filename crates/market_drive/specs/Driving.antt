@@ -20,8 +20,9 @@ IsServable text p = (plan_of text ≡ Ok p) × ((a : ℕ) → IsUnservable p a �
 abbrev pub IsDriven : List ℕ → List Done → Type 0
 IsDriven text ds = (p : Planned) × IsServable text p × IsOutcome p.jobs ds
 
--- the office is that of the plan's market, with a seat for who gives the plan's commands and one for each of so many workers: its market, with every reply, is what
--- its history gives, which has as many calls as the callers made, and of which every entry can be read; it had room for 1,048,576 entries
+-- the office is that of the plan's market, with a seat for who gives the plan's commands and one for each of so many workers: its market,
+-- with every reply, is what its history gives, which has as many calls as the callers made, and of which every entry can be read; it had
+-- room for 1,048,576 entries
 abbrev pub IsOfficeOf : Planned → ℕ → Closed → Type 0
 IsOfficeOf p workers closed =
     IsGivenBy (opening_to p.base p.hard (1 + workers) p.levels usual_last) closed.chronicle
@@ -33,7 +34,8 @@ IsOfficeOf p workers closed =
 abbrev pub IsOfficeOfText : List ℕ → ℕ → Closed → Type 0
 IsOfficeOfText text workers closed = (p : Planned) × (plan_of text ≡ Ok p) × IsOfficeOf p workers closed
 
--- a fault of the text or of its plan is due; all others come only where none of these is. No answer is ever doubled, and a missing one is that of a job of the plan
+-- a fault of the text or of its plan is due; all others come only where none of these is. No answer is ever doubled, and a missing one is
+-- that of a job of the plan
 abbrev pub IsDue : List ℕ → DriveFault → Type 0
 IsDue text (BadPlan line) = plan_of text ≡ Err (plan.BadPlan line)
 IsDue text (Unservable a) = (p : Planned) × (plan_of text ≡ Ok p) × IsLeastUnservable p a

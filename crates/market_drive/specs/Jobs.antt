@@ -15,10 +15,11 @@ use Rattle.market_drive.specs.Racks.{OfEnds, OfRack}
 abbrev pub job_of : ℕ × PlannedJob → Job
 job_of e = record { number = e.0; task = e.1.task }
 
--- the jobs of a plan, each with its number from 1 on; and those of one arena, in order
+-- the jobs of a plan, each with its number from 1 on
 abbrev pub numbered : List PlannedJob → List Job
 numbered jobs = map job_of (enumerate_from 1 jobs)
 
+-- those of one arena, in order, with their numbers
 abbrev pub jobs_for : ℕ → List PlannedJob → List Job
 jobs_for arena jobs = map job_of (filter (λ (e : ℕ × PlannedJob). e.1.arena == arena) (enumerate_from 1 jobs))
 

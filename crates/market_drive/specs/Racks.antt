@@ -1,4 +1,5 @@
--- Which queues a worker may pop from, and what stays of a queue while its takers are away. No clause of a public call has these words (own).
+-- Which queues a worker may pop from, and what stays of a queue while its takers are away. No clause of a public call has these words
+-- (own).
 use Rattle.std.specs.Prelude.{◌≡◌, ◌≤◌, ℕ, List, [], map}
 use Rattle.job_queue.specs.Seen.{QueueId, OfTaker}
 use Rattle.drive_plan.specs.declared.task.Job.{Job}
@@ -9,7 +10,8 @@ pub record OfRack : Type 0 where
   pub room : ℕ
   pub takers : List (OfTaker Job)
 
--- a queue's ends: of which queue, how many of its takers are here, and for how many there is room; the jobs that it was fed with, and what is known of the takers that are here
+-- a queue's ends: of which queue, how many of its takers are here, and for how many there is room; the jobs that it was fed with, and what
+-- is known of the takers that are here
 pub record OfEnds : Type 0 where
   pub queue : QueueId
   pub here : ℕ

@@ -1,5 +1,5 @@
 //! All workers of a plan work, each in a thread of its own.
-ghost use Rattle.std.specs.Prelude.{◌≡◌, ◌+◌, ◌<◌, ◌≤◌, ◌++◌, [], ℕ, false, length, vec_len, vec_capacity, AllPairs, IfOk, IfSome};
+ghost use Rattle.std.specs.Prelude.{◌≡◌, ◌+◌, ◌<◌, ◌≤◌, [], ℕ, false, length, vec_len, vec_capacity, AllPairs, IfOk, IfSome};
 ghost use Rattle.std.specs.List.{All, sum_by};
 ghost use Rattle.market_types.specs.State.{opening_to};
 ghost use Rattle.edit_history.specs.declared.keeping.Keeping.TheVariants.{Everything};
@@ -9,7 +9,7 @@ ghost use Rattle.market_drive.specs.declared.opener.Opener.{Opener};
 ghost use Rattle.market_drive.specs.Driving.{IsOfficeOf};
 ghost use Rattle.market_drive.specs.Jobs.{taken_by, taken_weight};
 ghost use Rattle.market_drive.specs.Racks.{IsFor, OfRack};
-ghost use Rattle.market_drive.specs.Reports.{shown, untold, weight_if};
+ghost use Rattle.market_drive.specs.Reports.{shown, weight_if};
 ghost use Rattle.market_drive.specs.Lines.{queues_at};
 ghost use Rattle.worker_main.specs.Stations.{HaveOwnArenas};
 ghost use Rattle.worker_main.specs.declared.report.Ended.{Ended};

@@ -19,11 +19,7 @@ use std::sync::ledger::Ledger;
 use worker_main::{Ended, Gate, Report, Station, work};
 
 /// How often a worker asks a gate at most, before it gives up.
-fn turns() -> u64
-    ensures { result ≡ 1000000 }
-{
-    1_000_000
-}
+const TURNS: u64 = 1_000_000;
 
 /// Names the queues of one plan.
 pub(crate) trait Yard {
@@ -45,7 +41,7 @@ pub(crate) struct Worker<'a, G, Y: Yard> {
     gate: &'a G,
     rack: Option<Rack>,
     done: Vec<Done>,
-    /// How it ended: not yet, before it has worked.
+    /// How it ended. `None` before it has worked.
     ended: Option<Ended>,
     yard: PhantomData<Y>,
 }
@@ -120,7 +116,7 @@ impl<'a, G: Gate, Y: Yard> Worker<'a, G, Y> {
             self.stations,
             rack.into_takers(),
             self.gate,
-            turns(),
+            TURNS,
         );
         let away = mem::replace(&mut self.rack, Some(Rack::of(takers)));
         let None = away else { unreachable!() };
@@ -156,6 +152,7 @@ impl<'a, G: Gate, Y: Yard> Task for Worker<'a, G, Y> {
         office: &Office<C, W>,
         caller: Caller<Pass<C, W>, Placed<C, W>>,
     ) -> Caller<Pass<C, W>, Placed<C, W>> {
+        // A worker works once: its answers are those of one pass of its takers.
         if self.ended.is_some() {
             return caller;
         }

@@ -46,8 +46,8 @@ pub record IsLook (workers demand : ℕ) (seats : List (Option ℕ)) (rows : Lis
   pub looked : visits + searches (staffed (Carried workers demand) seats before rows) ≤ more
   pub once : more ≤ visits + length rows
 
--- a search through rows, of which it looks at so many together at most: whom it found, and its visits, as those of a look, and
--- no more than so many for each row that is allotted a worker (private functions alone cite this)
+-- a search through rows, each with so many visits at most on its account: whom it found, and its visits, as those of a look, and no more
+-- than so many for each row that is allotted a worker (private functions alone cite this)
 pub record IsSearch (workers demand : ℕ) (seats : List (Option ℕ)) (rows : List Row × ℕ) (before visits more : ℕ) (found : Option ℕ) : Type 0 where
   pub found_is : found ≡ first_in_need (staffed (Carried workers demand) seats before rows.0)
   pub looked : visits + searches (staffed (Carried workers demand) seats before rows.0) ≤ more

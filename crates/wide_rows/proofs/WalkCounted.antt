@@ -5,7 +5,7 @@ use Rattle.std.proofs.lemmas.List.{append-nil}
 use Rattle.market_types.specs.declared.row.Row.{Row}
 use Rattle.prefix_tree.specs.Rows.{requests}
 use Rattle.prefix_tree.specs.Bits.{bits}
-use Rattle.wide_rows.specs.Passed.{IsPassed, AreQuadsPassed, AllQuadsPassed, AreRowsPassed, IsCounted, IsWithin, AreBegun, rows_left}
+use Rattle.wide_rows.specs.Passed.{IsPassed, AreQuadsPassed, AllQuadsPassed, AreRowsPassed, IsCounted, AreBegun, rows_left}
 use Rattle.wide_rows.proofs.Counted.{bits-ge, bits-le}
 use Rattle.wide_rows.proofs.Passing.{begun_in, no_pass}
 
@@ -178,6 +178,22 @@ in_later quads leaves leaf others next rest before first second after short some
     }
 
 -- ---- a walk on its way
+
+-- a walk that looks for the next rows: it passes over quads of the leaf that it is in; or it has come into a later leaf, where the
+-- demand is reached
+pub record IsWithin (workers demand : ℕ) (rows quads : List Row) (left : Option (List Row)) (carry before now : ℕ) (entered : Bool) : Type 0 where
+  pub still : entered ≡ false → (rows ≡ quads ++ rows_left left) × ((now ≡ before) × AreBegun quads left)
+  pub front : List Row
+  pub leaves : List Row
+  pub others : List Row
+  pub first : ℕ
+  pub rows_are : entered ≡ true → rows ≡ front ++ leaves
+  pub short : entered ≡ true → length front ≤ 12
+  pub over : entered ≡ true → AllQuadsPassed front before first
+  pub down : entered ≡ true → AreRowsPassed leaves quads others first now
+  pub left_are : entered ≡ true → left ≡ Some others
+  pub some : entered ≡ true → 0 < length quads
+  pub due : entered ≡ true → demand ≤ workers * requests quads + carry
 
 -- where a walk was, so far as it says
 pub record IsStill (rows quads : List Row) (left : Option (List Row)) (before now : ℕ) : Type 0 where

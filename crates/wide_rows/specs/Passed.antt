@@ -1,5 +1,5 @@
 -- Walks through rows, the newest first, that pass over some as a whole.
-use Rattle.std.specs.Prelude.{Option, None, Some, Box, Bool, true, false, ◌≡◌, ℕ, ◌+◌, ◌-◌, ◌*◌, ◌/◌, ◌<◌, ◌≤◌, min, List, [], ◌++◌, length, slice_index}
+use Rattle.std.specs.Prelude.{Option, None, Some, Box, ◌≡◌, ℕ, ◌+◌, ◌-◌, ◌*◌, ◌/◌, ◌<◌, ◌≤◌, min, List, [], ◌++◌, length, slice_index}
 use Rattle.market_types.specs.declared.row.Row.{Row}
 use Rattle.prefix_tree.specs.Rows.{requests}
 use Rattle.prefix_tree.specs.Bits.{bits}
@@ -109,23 +109,7 @@ abbrev pub AreBegun : List Row → Option (List Row) → Type 0
 AreBegun quads None = Unit {0}
 AreBegun quads (Some leaves) = length quads ≤ 12
 
--- a walk that looks for the next rows: it passes over quads of the leaf that it is in; or it has come into a later leaf, where the
--- demand is reached
-pub record IsWithin (workers demand : ℕ) (rows quads : List Row) (left : Option (List Row)) (carry before now : ℕ) (entered : Bool) : Type 0 where
-  pub still : entered ≡ false → (rows ≡ quads ++ rows_left left) × ((now ≡ before) × AreBegun quads left)
-  pub front : List Row
-  pub leaves : List Row
-  pub others : List Row
-  pub first : ℕ
-  pub rows_are : entered ≡ true → rows ≡ front ++ leaves
-  pub short : entered ≡ true → length front ≤ 12
-  pub over : entered ≡ true → AllQuadsPassed front before first
-  pub down : entered ≡ true → AreRowsPassed leaves quads others first now
-  pub left_are : entered ≡ true → left ≡ Some others
-  pub some : entered ≡ true → 0 < length quads
-  pub due : entered ≡ true → demand ≤ workers * requests quads + carry
-
--- the sums of the four quads of columns, of which so many are left; none of those is empty
+-- what those quads of columns ask for that are left, each sum at its quad's place; none of them is empty
 pub record AreQuads (columns : Columns) (sums : List ℕ) (left : ℕ) : Type 0 where
   pub tidy : IsTidy columns
   pub wide : length sums ≡ 4

@@ -47,6 +47,7 @@ pub(crate) fn is_let_through<G: Gate>(gate: &G, number: u32, turns: u64) -> bool
     ensures passed { result ≡ true → G.passed gate.now number }
     ensures refused { result ≡ false → 0 < turns → G.refused gate.now number }
 {
+    // The loop's invariant names the count.
     for asked in 0..turns {
         let _ = asked;
         if gate.before(number) {

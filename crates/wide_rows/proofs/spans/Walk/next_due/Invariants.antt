@@ -1,5 +1,6 @@
 use Rattle.std.proofs.Common.{Bool, ◌^◌, ◌<◌, ◌++◌, length}
-use Rattle.wide_rows.specs.Passed.{IsPassed, IsWithin, rows_left}
+use Rattle.wide_rows.specs.Passed.{IsPassed, rows_left}
+use Rattle.wide_rows.proofs.WalkCounted.{IsWithin}
 use Rattle.wide_rows.proofs.spans.Walk.next_due.Given as goal
 
 abbrev pub invariant-loop-quad : goal.invariant-loop-quad
