@@ -6,7 +6,7 @@ use Rattle.std.proofs.lemmas.List.{append-nil}
 use Rattle.market_types.specs.declared.row.Row.{Row}
 use Rattle.market_types.specs.Allotment.{is_just}
 use Rattle.prefix_tree.specs.Rows.{requests}
-use Rattle.prefix_tree.proofs.Readings.{requests-append}
+use Rattle.prefix_tree.proofs.Readings.{requests-append, requests-cons}
 use Rattle.prefix_tree.specs.Bits.{bits}
 use Rattle.wide_rows.specs.Passed.{IsPassed, IsCounted}
 use Rattle.recall_hire.specs.declared.rows.Staffing.{Staffing}
@@ -155,3 +155,31 @@ search-goes-on k d seats rows next rest h c e after v u w end found p f g =
       once = omega (arith, f.once, g.once, p.counted.once);
       most = omega (arith, f.once, g.most, p.counted.most, p.high, ways, mul-le-mul_left h some);
     }
+
+-- ---- one row alone
+
+-- no row is passed over
+pub none-passed : (k d : ℕ) (rows : List Row) (c : ℕ) → IsPassed k d rows rows c c
+none-passed k d rows c = record { passed = []; rows_are = refl; carried = omega arith; below = λ l. l; none = λ _. refl }
+
+-- the only row comes next where a worker is due to it
+pub next-only : (k d : ℕ) (x : Row) (v : ℕ) → 0 < d → d ≤ k * x.request → IsNext k d (x ∷ []) (x ∷ []) [] (2 * bits 1) 0 0 v v
+next-only k d x v low due = record {
+  low;
+  passed = none-passed k d (x ∷ []) 0;
+  due = omega (arith, due, ap (λ n. k * n) (requests-cons x []));
+  counted = record { more = omega arith; once = omega arith; most = omega arith };
+  high = omega arith;
+}
+
+-- too little is due to it
+pub only-idle : (k d : ℕ) (seats : List (Option ℕ)) (x : Row) (v : ℕ) → 0 < d → k * x.request < d → IsSearch k d seats (x ∷ [], 2 * bits 1) 0 v v None
+only-idle k d seats x v low less =
+    search-ends k d seats (x ∷ []) (2 * bits 1) 0 (k * x.request) v low (none-due k d (x ∷ []) 0 (k * x.request) (omega (arith, ap (λ n. k * n) (requests-cons x []))) less)
+
+-- it has enough
+pub only-ends : (k d : ℕ) (seats : List (Option ℕ)) (x : Row) (after v w : ℕ) → IsNext k d (x ∷ []) (x ∷ []) [] (2 * bits 1) 0 0 v v
+    → IsLook k d seats (x ∷ []) 0 after v w None → IsSearch k d seats (x ∷ [], 2 * bits 1) 0 v w None
+only-ends k d seats x after v w next look =
+    search-goes-on k d seats (x ∷ []) (x ∷ []) [] (2 * bits 1) 0 0 after v v w w None next look
+    (search-ends k d seats [] (2 * bits 1) after after w (look.below refl) (none-passed k d [] after))

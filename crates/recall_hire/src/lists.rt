@@ -37,11 +37,16 @@ pub fn list(
     ensures once { IfOk result (λ visits. visits ≤ length rows.now.0) }
     ensures succeeds { counts_in (staffed sharing roster.now 0 rows.now.0) ≡ record { recalls = []; hires = [] } → IsOk result }
 {
+    let listing = Listing { roster, sharing };
+    // A market with one arena needs no walk.
+    if let Some(row) = rows.only() {
+        listing.add(row, 0, unmet, lists)?;
+        return Ok(1);
+    }
     let mut visits = 0;
     let Some(walk) = rows.walk() else {
         return Ok(visits);
     };
-    let listing = Listing { roster, sharing };
     let mut rest = walk;
     let mut carry = 0;
     while let Some(quad) = listing.next(&mut rest, &mut carry, *unmet, &mut visits) {

@@ -1,6 +1,6 @@
 //! A walk through a level's arenas in order, with the carry going along. It passes over those that ask for too little for any of
 //! them to be allotted a worker, and looks at the others four by four.
-ghost use Rattle.std.specs.Prelude.{◌≡◌, ℕ, None, ◌+◌, ◌*◌, ◌^◌, ◌<◌, ◌≤◌, length};
+ghost use Rattle.std.specs.Prelude.{◌≡◌, ℕ, None, ◌+◌, ◌*◌, ◌^◌, ◌<◌, ◌≤◌, [], ◌∷◌, length};
 ghost use Rattle.std.specs.Bool.{OnTrue, OnFalse};
 ghost use Rattle.std.specs.List.{count_by};
 ghost use Rattle.market_types.specs.Allotment.{is_just};
@@ -37,20 +37,25 @@ pub fn first_in_need(
     if workers == 0 {
         return (None, 0);
     }
-    let Some(walk) = rows.walk() else {
-        return (None, 0);
-    };
-    let asked = rows.requests();
-    let mut visits = 0;
-    if workers == demand {
-        let found = first_short(roster, walk, asked, &mut visits);
-        return (found, visits);
-    }
     let search = Search {
         roster,
         workers,
         demand,
     };
+    let mut visits = 0;
+    // A market with one arena needs no walk.
+    if let Some(row) = rows.only() {
+        let found = search.only_needing(row, &mut visits);
+        return (found, visits);
+    }
+    let Some(walk) = rows.walk() else {
+        return (None, 0);
+    };
+    let asked = rows.requests();
+    if workers == demand {
+        let found = first_short(roster, walk, asked, &mut visits);
+        return (found, visits);
+    }
     let found = search.first_needing(walk, workers * asked, &mut visits);
     (found, visits)
 }
@@ -64,6 +69,25 @@ struct Search<'a> {
 }
 
 impl Search<'_> {
+    /// The only arena of a level, where it is allotted more workers than it has. Looks at it only where it is allotted one.
+    #[inline(always)]
+    fn only_needing(&self, row: Row, visits: &mut u32) -> Option<ArenaId>
+        requires shared { CanShare self.now.workers self.now.demand 0 }
+        requires part { row.request ≤ self.now.demand }
+        requires few { visits.old < 2 ^ 30 }
+        ensures { IsSearch self.now.workers self.now.demand self.now.roster.now (with_height (row ∷ [])) 0 visits.old visits.new result }
+    {
+        if self.workers * u64::from(row.request) < self.demand {
+            return None;
+        }
+        *visits += 1;
+        let mut carry = 0;
+        if self.lacks(row, &mut carry) {
+            return Some(row.arena);
+        }
+        None
+    }
+
     /// The first arena of a level that is allotted more workers than it has. Looks at four only where one of them is allotted a
     /// worker, and ends as soon as none of those left is: `due` says what is due to all of them, as many parts of a worker as the
     /// demand has.

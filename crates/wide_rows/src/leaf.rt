@@ -1,5 +1,5 @@
 //! The leaf, and its calls.
-ghost use Rattle.std.specs.Prelude.{◌≡◌, ℕ, ◌+◌, ◌-◌, ◌*◌, ◌<◌, ◌≤◌, [], ◌∷◌, ◌++◌, length, slice_get, is_some, All, IfSome};
+ghost use Rattle.std.specs.Prelude.{◌≡◌, ◌≢◌, ℕ, ◌+◌, ◌-◌, ◌*◌, ◌<◌, ◌≤◌, [], ◌∷◌, ◌++◌, length, slice_get, is_some, All, IfNone, IfSome};
 ghost use Rattle.std.specs.Bool.{OnTrue};
 ghost use Rattle.prefix_tree.specs.Rows.{IsNewestFirst, HasLowRequests, requests, requests_above, first_mandated, row_at, without, set_row};
 
@@ -103,6 +103,19 @@ impl Leaf {
         }
     }
 
+    /// The row of a leaf that has one. None where it has none, or several.
+    #[inline(always)]
+    pub(crate) fn only(&self) -> Option<Row>
+        ensures some { IfSome result (λ row. self.now ≡ row ∷ []) }
+        ensures none { IfNone result (length self.now ≢ 1) }
+    {
+        if self.columns.count == 1 {
+            Some(self.columns.row(0))
+        } else {
+            None
+        }
+    }
+
     /// The first mandated row of the list.
     #[inline]
     pub fn first_mandated(&self) -> Option<Row>
@@ -186,14 +199,6 @@ impl Leaf {
         ensures { result ≡ self.now }
     {
         Quads::new(&self.columns)
-    }
-
-    /// The same of a leaf that is all of a level.
-    #[inline(always)]
-    pub(crate) fn quads_alone(&self) -> Quads<'_>
-        ensures { result ≡ self.now }
-    {
-        Quads::alone(&self.columns)
     }
 
     /// None of its rows.

@@ -10,7 +10,7 @@
 //! A row that finds the one leaf full opens a second beside it, and both stand on a shelf. A row that goes from the last but one
 //! leaf gives the shelf up again, and the last row of a leaf its leaf. Boxes come from the spare ones and go back to them, so
 //! nothing here takes memory.
-ghost use Rattle.std.specs.Prelude.{◌≡◌, ℕ, ◌+◌, ◌*◌, ◌^◌, ◌<◌, ◌≤◌, [], ◌∷◌, length, slice_get, Some, All, IfNone, IfSome};
+ghost use Rattle.std.specs.Prelude.{◌≡◌, ◌≢◌, ℕ, ◌+◌, ◌*◌, ◌^◌, ◌<◌, ◌≤◌, [], ◌∷◌, length, slice_get, Some, All, IfNone, IfSome};
 ghost use Rattle.prefix_tree.specs.Rows.{requests, requests_above, first_mandated, row_at, without, set_row};
 ghost use Rattle.prefix_tree.specs.Bits.{bits};
 ghost use Rattle.wide_rows.specs.Leveled.{IsLevel, HasFewBoxes};
@@ -125,6 +125,18 @@ impl Level {
         }
     }
 
+    /// The row of a level that has one. None where it has none, or several.
+    #[inline(always)]
+    pub(crate) fn only(&self) -> Option<Row>
+        ensures some { IfSome result (λ row. self.now.rows ≡ row ∷ []) }
+        ensures none { IfNone result (length self.now.rows ≢ 1) }
+    {
+        match &self.form {
+            Form::Leaf(leaf) => leaf.only(),
+            Form::Empty | Form::Shelf(_) => None,
+        }
+    }
+
     /// A walk through its rows. None where there are none.
     #[inline(always)]
     pub(crate) fn walk(&self) -> Option<Walk<'_>>
@@ -133,7 +145,7 @@ impl Level {
     {
         match &self.form {
             Form::Empty => None,
-            Form::Leaf(leaf) => Some(Walk::of_leaf(leaf.quads_alone())),
+            Form::Leaf(leaf) => Some(Walk::of_leaf(leaf.quads())),
             Form::Shelf(shelf) => Some(shelf.walk()),
         }
     }

@@ -167,23 +167,6 @@ impl<'a> Quads<'a> {
         }
     }
 
-    /// All rows of a leaf that is all of a level.
-    #[inline(always)]
-    pub(crate) fn alone(columns: &'a Columns) -> Quads<'a>
-        requires leaf { IsLeaf columns.now }
-        ensures { result ≡ rows_in columns.now }
-    {
-        // The only row is read alone, which saves a market with one arena the vectors.
-        if columns.count == 1 {
-            return Quads {
-                columns,
-                sums: [columns.requests[0], 0, 0, 0],
-                left: 1,
-            };
-        }
-        Quads::new(columns)
-    }
-
     /// No rows of a leaf.
     #[inline(always)]
     pub(crate) fn none(columns: &'a Columns) -> Quads<'a>

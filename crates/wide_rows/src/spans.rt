@@ -14,7 +14,7 @@
 //! of k keys. From one row that is looked at to the next it passes over quads, leaves, blocks, leaves and quads, at most, and goes
 //! on only where something more is due: so it counts no more than a way down from the top, twice the binary digits of the number of
 //! rows (`IsCounted`).
-ghost use Rattle.std.specs.Prelude.{◌≡◌, ℕ, ◌+◌, ◌*◌, ◌^◌, ◌<◌, ◌≤◌, List, [], ◌++◌, length, IfNone, IfSome};
+ghost use Rattle.std.specs.Prelude.{◌≡◌, ◌≢◌, ℕ, ◌+◌, ◌*◌, ◌^◌, ◌<◌, ◌≤◌, List, [], ◌∷◌, ◌++◌, length, IfNone, IfSome};
 ghost use Rattle.std.specs.Bool.{OnTrue, OnFalse};
 ghost use Rattle.prefix_tree.specs.Rows.{requests};
 ghost use Rattle.prefix_tree.specs.Bits.{bits};
@@ -28,6 +28,7 @@ use crate::level::Level;
 use crate::quads::{Quad, Quads};
 use crate::storeys::Storeys;
 use crate::visits::pass_over;
+use market_types::Row;
 use std::marker::Model;
 
 /// Counts what was passed over from so many leaves down to one: leaves of the block where it began, whole blocks, and leaves of the
@@ -39,6 +40,10 @@ fn count_leaves(left: usize, at: usize, visits: &mut u32)
     requires room { visits.old < 2 ^ 31 }
     ensures { AreLeavesPassed left at visits.old visits.new }
 {
+    // Most often the next leaf is the one, and nothing was passed over.
+    if at + 1 == left {
+        return;
+    }
     if at / 16 == (left - 1) / 16 {
         pass_over(left - 1 - at, visits);
     } else {
@@ -332,6 +337,15 @@ impl<'a> Span<'a> {
         ensures exact { result ≡ requests self.now.0 }
     {
         u64::from(self.level.total())
+    }
+
+    /// The row of a level that has one, which needs no walk. None where it has none, or several.
+    #[inline(always)]
+    pub fn only(&self) -> Option<Row>
+        ensures some { IfSome result (λ row. self.now.0 ≡ row ∷ []) }
+        ensures none { IfNone result (length self.now.0 ≢ 1) }
+    {
+        self.level.only()
     }
 
     /// A walk through its rows. None where there are none.
