@@ -165,7 +165,7 @@ none-passed k d rows c = record { passed = []; rows_are = refl; carried = omega 
 -- the only row comes next where a worker is due to it
 pub next-only : (k d : ℕ) (x : Row) (v : ℕ) → 0 < d → d ≤ k * x.request → IsNext k d (x ∷ []) (x ∷ []) [] (2 * bits 1) 0 0 v v
 next-only k d x v low due = record {
-  low;
+  low = low;
   passed = none-passed k d (x ∷ []) 0;
   due = omega (arith, due, ap (λ n. k * n) (requests-cons x []));
   counted = record { more = omega arith; once = omega arith; most = omega arith };

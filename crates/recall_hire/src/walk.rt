@@ -81,9 +81,10 @@ impl Search<'_> {
             return None;
         }
         *visits += 1;
+        let arena = row.arena;
         let mut carry = 0;
         if self.lacks(row, &mut carry) {
-            return Some(row.arena);
+            return Some(arena);
         }
         None
     }

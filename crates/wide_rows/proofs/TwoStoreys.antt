@@ -8,7 +8,7 @@ use Rattle.std.proofs.lemmas.List.Elements.{All-nil, All-cons}
 use Rattle.market_types.specs.declared.row.Row.{Row}
 use Rattle.prefix_tree.specs.Rows.{requests}
 use Rattle.wide_rows.specs.Joined.{joined_below, IsAt}
-use Rattle.wide_rows.specs.Storeys.{has_mandated, IsStorey, IsPlace, IsChange, block_of, block_rows, lanes, blocks_for, block_at, IsBlock, IsIndexed, WasIndexed}
+use Rattle.wide_rows.specs.Storeys.{has_mandated, IsStorey, IsPlace, IsChange, block_of, block_rows, lanes, blocks_for, block_at, IsBlock, IsIndexed, IsKnown, WasIndexed}
 use Rattle.wide_rows.specs.declared.index.Index.{Index}
 use Rattle.wide_rows.specs.declared.index.Change.{Change}
 use Rattle.wide_rows.specs.declared.storeys.Storeys.{Storeys}
@@ -279,3 +279,11 @@ block_behind x r t n m g p q h =
 -- a block behind those of an indexed list, and of one that has others
 pub beyond : (m : Storeys) (r t : ℕ → List Row) (n k g : ℕ) → IsIndexed m r n → n ≤ k + 1 → k / 16 < g → g < 10 → IsBlock (block_at m.blocks g) t k g
 beyond m r t n k g d l p q = block_behind (block_at m.blocks g) r t n k g (omega (arith, l, p)) (omega (arith, p)) (d.blocks g q)
+
+-- what is known where both storeys say what the rows are
+pub known : (m : Storeys) (r : ℕ → List Row) (n : ℕ) → IsIndexed m r n → IsKnown m r n
+known m r n d = record { indexed = λ _. d; wide = d.wide; unused = λ g l q. d.blocks g q }
+
+-- a block behind those in use, where other rows come to stand
+pub unused : (m : Storeys) (r t : ℕ → List Row) (n k g : ℕ) → IsKnown m r n → n ≤ k + 1 → n ≤ 15 → k / 16 < g → g < 10 → IsBlock (block_at m.blocks g) t k g
+unused m r t n k g d l few p q = block_behind (block_at m.blocks g) r t n k g (omega (arith, l, p)) (omega (arith, p)) (d.unused g (omega (arith, l, p, few)) q)

@@ -89,6 +89,12 @@ pub record IsIndexed (storeys : Storeys) (rows : ℕ → List Row) (count : ℕ)
   pub top : IsStorey storeys.top (block_rows rows) (blocks_for count)
   pub same : (block : ℕ) → block < blocks_for count → slice_index storeys.top.oldest block ≡ slice_index (block_at storeys.blocks block).oldest 0
 
+-- both storeys say what the rows are where they stand at two places or more, and blocks behind those in use have no entries
+pub record IsKnown (storeys : Storeys) (rows : ℕ → List Row) (count : ℕ) : Type 0 where
+  pub indexed : 1 < count → IsIndexed storeys rows count
+  pub wide : length storeys.blocks ≡ 10
+  pub unused : (block : ℕ) → count / 16 < block → block < 10 → IsBlock (block_at storeys.blocks block) rows count block
+
 -- what was known of the rows before one place changed; they ask for less than 2 ^ 31, then and now
 pub record WasIndexed (storeys : Storeys) (now : ℕ → List Row) (count place : ℕ) (change : Change) : Type 0 where
   pub rows : ℕ → List Row

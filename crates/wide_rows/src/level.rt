@@ -266,13 +266,13 @@ fn open_shelf(form: &mut Form, row: &Row, spare: &mut Spare, visits: &mut u32)
     let Form::Leaf(leaf) = mem::replace(form, Form::Empty) else {
         unreachable!()
     };
-    let mut shelf = spare.take_shelf();
-    // That a leaf has at most 16 rows is a fact of every leaf.
+    // That the rows of a leaf stand in order is a fact of every leaf.
     let _rows = leaf.len();
-    shelf.begin(leaf);
-    shelf.push_newest(row, &mut spare.leaves, visits);
-    // That its leaves stay few is a fact of every shelf.
-    let _leaves = shelf.len();
+    let mut newer = spare.take_leaf();
+    newer.push_newest(row);
+    enter(1, visits);
+    let mut shelf = spare.take_shelf();
+    shelf.begin(leaf, newer);
     *form = Form::Shelf(shelf);
 }
 

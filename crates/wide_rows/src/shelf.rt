@@ -223,7 +223,7 @@ impl Shelf {
 
     /// Adds a row that is newer than all others.
     pub(crate) fn push_newest(&mut self, row: &Row, spare: &mut Vec<Box<Leaf>>, visits: &mut u32)
-        requires begun { 0 < self.old.leaves }
+        requires some { 1 < self.old.leaves }
         requires room { length self.old.rows < 1024 }
         requires request { row.now.request ≤ 65535 }
         requires newest { All (λ other. other.stamp < row.now.stamp) self.old.rows }
@@ -234,7 +234,6 @@ impl Shelf {
         ensures boxes { length spare.new.items + self.new.leaves ≡ length spare.old.items + self.old.leaves }
         ensures at_most_one { self.new.leaves ≤ self.old.leaves + 1 }
         ensures none_less { self.old.leaves ≤ self.new.leaves }
-        ensures opened { self.old.leaves ≡ 1 → 16 ≤ length self.old.rows → self.new.leaves ≡ 2 }
         ensures blank { All (λ (leaf : Box (List Row) Global). leaf.value ≡ []) spare.new.items }
         ensures capacity { vec_capacity spare.new ≡ vec_capacity spare.old }
         ensures entered { visits.old + 1 ≤ visits.new }
@@ -304,7 +303,7 @@ impl Shelf {
 
     /// A walk through its rows.
     pub(crate) fn walk(&self) -> Walk<'_>
-        requires some { 0 < self.now.leaves }
+        requires some { 1 < self.now.leaves }
         ensures { result ≡ self.now.rows }
     {
         Walk::of_leaves(
@@ -324,14 +323,20 @@ impl Shelf {
         self.leaves.len()
     }
 
-    /// The first leaf, of an empty shelf.
-    pub(crate) fn begin(&mut self, leaf: Box<Leaf>)
+    /// The first two leaves, of an empty shelf.
+    pub(crate) fn begin(&mut self, older: Box<Leaf>, newer: Box<Leaf>)
         requires empty { self.old ≡ record { rows = []; leaves = 0 } }
-        requires some { 0 < length leaf.value }
-        ensures { self.new ≡ record { rows = leaf.value; leaves = 1 } }
+        requires some { 0 < length older.value }
+        requires some_newer { 0 < length newer.value }
+        requires apart { 12 < length older.value + length newer.value }
+        requires newest { IsNewestFirst (newer.value ++ older.value) }
+        ensures { self.new ≡ record { rows = newer.value ++ older.value; leaves = 2 } }
     {
-        let _count = leaf.len();
-        self.leaves.push_reserved(leaf);
+        // What holds of the rows of each leaf.
+        let _older = older.len();
+        let _newer = newer.len();
+        self.leaves.push_reserved(older);
+        self.leaves.push_reserved(newer);
         self.storeys.rebuild(&self.leaves, 0);
     }
 
@@ -344,7 +349,6 @@ impl Shelf {
         let Some(leaf) = self.leaves.pop() else {
             unreachable!()
         };
-        self.storeys.rebuild(&self.leaves, 0);
         leaf
     }
 }

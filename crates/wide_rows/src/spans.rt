@@ -344,6 +344,7 @@ impl<'a> Span<'a> {
     pub fn only(&self) -> Option<Row>
         ensures some { IfSome result (λ row. self.now.0 ≡ row ∷ []) }
         ensures none { IfNone result (length self.now.0 ≢ 1) }
+        ensures height { self.now.1 ≡ 2 * bits (length self.now.0) }
     {
         self.level.only()
     }

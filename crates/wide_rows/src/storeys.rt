@@ -14,7 +14,7 @@ ghost use Rattle.prefix_tree.specs.Bits.{bits};
 ghost use Rattle.prefix_tree.specs.Rows.{requests};
 ghost use Rattle.wide_rows.specs.Joined.{IsAt};
 ghost use Rattle.wide_rows.specs.Shelves.{leaf_at, AreLeaves};
-ghost use Rattle.wide_rows.specs.Storeys.{IsBlock, IsIndexed, WasIndexed, block_at, blocks_for, has_mandated};
+ghost use Rattle.wide_rows.specs.Storeys.{IsBlock, IsIndexed, IsKnown, WasIndexed, block_at, blocks_for, has_mandated};
 
 use crate::index::{Change, Entry, Index};
 use crate::leaf::Leaf;
@@ -163,7 +163,8 @@ impl Storeys {
         self.top.change(at, change, mandated);
     }
 
-    /// The blocks from one on, as far as there are leaves, and the top are written anew.
+    /// The blocks from one on, as far as there are leaves, and the top are written anew. A leaf that is left alone needs none of
+    /// them, since it is given up with its shelf.
     #[cold]
     #[inline(never)]
     pub(crate) fn rebuild(&mut self, leaves: &Vec<Box<Leaf>>, from: usize)
@@ -172,9 +173,12 @@ impl Storeys {
         requires wide { length self.old.blocks ≡ 10 }
         requires kept { (block : ℕ) → block < from → IsBlock (block_at self.old.blocks block) (leaf_at leaves.now.items) (length leaves.now.items) block }
         requires beyond { (block : ℕ) → length leaves.now.items / 16 < block → block < 10 → IsBlock (block_at self.old.blocks block) (leaf_at leaves.now.items) (length leaves.now.items) block }
-        ensures { IsIndexed self.new (leaf_at leaves.now.items) (length leaves.now.items) }
+        ensures { IsKnown self.new (leaf_at leaves.now.items) (length leaves.now.items) }
     {
         let count = leaves.len();
+        if count < 2 {
+            return;
+        }
         for block in from..count / 16 + 1 {
             self.blocks[block] = block_of(leaves, block);
         }

@@ -9,7 +9,7 @@ use Rattle.wide_rows.specs.Shelves.{Shelved, rows_of, leaf_at, AreLeaves}
 use Rattle.wide_rows.specs.Storeys.{WasIndexed, IsBlock, block_at}
 use Rattle.wide_rows.proofs.OfShelves.{leaf_there, few_leaves}
 use Rattle.wide_rows.proofs.Edits.{was_put}
-use Rattle.wide_rows.proofs.TwoStoreys.{beyond}
+use Rattle.wide_rows.proofs.TwoStoreys.{beyond, known}
 use Rattle.wide_rows.proofs.Grown.{newest_in_last, visits_more, rows_grown, leaves_grown, change_grown, rows_behind, leaves_behind, kept_behind}
 use Rattle.wide_rows.proofs.shelf.Shelf.push_newest.Goals as goal
 
@@ -18,12 +18,12 @@ push_newest-requires-clause-newest c =
     let m = c.self.inside.storeys in
     let xs = c.self.inside.leaves.items in
     let h = c.self.invariant.leaves in
-    let d = c.self.invariant.indexed in
+    let d = c.self.invariant.known.indexed (omega (arith, c.requires.some, ap (λ (v : Shelved). v.leaves) c.self.view_is)) in
     let x = c.args.row.now in
     let newest : All (λ (row : Row). row.stamp < x.stamp) (rows_of xs) = subst (λ (v : Shelved). All (λ (row : Row). row.stamp < x.stamp) v.rows) (sym c.self.view_is) c.requires.newest in
     let low = c.requires.request in
     let room : length (rows_of xs) < 1024 = omega (arith, c.requires.room, ap (λ (v : Shelved). length v.rows) c.self.view_is) in
-    let some : 0 < length xs = omega (arith, c.requires.begun, ap (λ (v : Shelved). v.leaves) c.self.view_is) in
+    let some : 0 < length xs = omega (arith, c.requires.some, ap (λ (v : Shelved). v.leaves) c.self.view_is) in
     let last : c.len-last.result ≡ length xs = c.len-last.ensures ∙ c.self.inside.leaves.ok.0 in
     let at : c.len-last.result - 1 ≡ length xs - 1 = ap (λ k. k - 1) last in
     let leaf = c.deref_mut.ensures.value ∙ leaf_there xs (c.len-last.result - 1) c.index_mut.result.now c.index_mut.result.now (omega (arith, some, last)) c.index_mut.ensures.value ∙ ap (leaf_at xs) at in
@@ -34,12 +34,12 @@ note-requires c =
     let m = c.self.inside.storeys in
     let xs = c.self.inside.leaves.items in
     let h = c.self.invariant.leaves in
-    let d = c.self.invariant.indexed in
+    let d = c.self.invariant.known.indexed (omega (arith, c.requires.some, ap (λ (v : Shelved). v.leaves) c.self.view_is)) in
     let x = c.args.row.now in
     let newest : All (λ (row : Row). row.stamp < x.stamp) (rows_of xs) = subst (λ (v : Shelved). All (λ (row : Row). row.stamp < x.stamp) v.rows) (sym c.self.view_is) c.requires.newest in
     let low = c.requires.request in
     let room : length (rows_of xs) < 1024 = omega (arith, c.requires.room, ap (λ (v : Shelved). length v.rows) c.self.view_is) in
-    let some : 0 < length xs = omega (arith, c.requires.begun, ap (λ (v : Shelved). v.leaves) c.self.view_is) in
+    let some : 0 < length xs = omega (arith, c.requires.some, ap (λ (v : Shelved). v.leaves) c.self.view_is) in
     let last : c.len-last.result ≡ length xs = c.len-last.ensures ∙ c.self.inside.leaves.ok.0 in
     let at : c.len-last.result - 1 ≡ length xs - 1 = ap (λ k. k - 1) last in
     let leaf = c.deref_mut.ensures.value ∙ leaf_there xs (c.len-last.result - 1) c.index_mut.result.now c.index_mut.result.now (omega (arith, some, last)) c.index_mut.ensures.value ∙ ap (leaf_at xs) at in
@@ -55,12 +55,12 @@ invariant_of-self c =
     let m = c.self.inside.storeys in
     let xs = c.self.inside.leaves.items in
     let h = c.self.invariant.leaves in
-    let d = c.self.invariant.indexed in
+    let d = c.self.invariant.known.indexed (omega (arith, c.requires.some, ap (λ (v : Shelved). v.leaves) c.self.view_is)) in
     let x = c.args.row.now in
     let newest : All (λ (row : Row). row.stamp < x.stamp) (rows_of xs) = subst (λ (v : Shelved). All (λ (row : Row). row.stamp < x.stamp) v.rows) (sym c.self.view_is) c.requires.newest in
     let low = c.requires.request in
     let room : length (rows_of xs) < 1024 = omega (arith, c.requires.room, ap (λ (v : Shelved). length v.rows) c.self.view_is) in
-    let some : 0 < length xs = omega (arith, c.requires.begun, ap (λ (v : Shelved). v.leaves) c.self.view_is) in
+    let some : 0 < length xs = omega (arith, c.requires.some, ap (λ (v : Shelved). v.leaves) c.self.view_is) in
     let last : c.len-last.result ≡ length xs = c.len-last.ensures ∙ c.self.inside.leaves.ok.0 in
     let at : c.len-last.result - 1 ≡ length xs - 1 = ap (λ k. k - 1) last in
     let leaf = c.deref_mut.ensures.value ∙ leaf_there xs (c.len-last.result - 1) c.index_mut.result.now c.index_mut.result.now (omega (arith, some, last)) c.index_mut.ensures.value ∙ ap (leaf_at xs) at in
@@ -68,7 +68,7 @@ invariant_of-self c =
     let is : b.value ≡ x ∷ leaf_at xs (length xs - 1) = c.push_newest.ensures ∙ ap (λ l. x ∷ l) leaf in
     record {
       leaves = subst (λ (i : ℕ). AreLeaves (set xs i b)) (sym at) (leaves_grown xs h x newest low room some b is);
-      indexed = c.note.ensures;
+      known = known _ _ _ c.note.ensures;
       room = c.self.invariant.room;
     }
 
@@ -77,12 +77,12 @@ push_reserved-requires c =
     let m = c.self.inside.storeys in
     let xs = c.self.inside.leaves.items in
     let h = c.self.invariant.leaves in
-    let d = c.self.invariant.indexed in
+    let d = c.self.invariant.known.indexed (omega (arith, c.requires.some, ap (λ (v : Shelved). v.leaves) c.self.view_is)) in
     let x = c.args.row.now in
     let newest : All (λ (row : Row). row.stamp < x.stamp) (rows_of xs) = subst (λ (v : Shelved). All (λ (row : Row). row.stamp < x.stamp) v.rows) (sym c.self.view_is) c.requires.newest in
     let low = c.requires.request in
     let room : length (rows_of xs) < 1024 = omega (arith, c.requires.room, ap (λ (v : Shelved). length v.rows) c.self.view_is) in
-    let some : 0 < length xs = omega (arith, c.requires.begun, ap (λ (v : Shelved). v.leaves) c.self.view_is) in
+    let some : 0 < length xs = omega (arith, c.requires.some, ap (λ (v : Shelved). v.leaves) c.self.view_is) in
     let last : c.len-last.result ≡ length xs = c.len-last.ensures ∙ c.self.inside.leaves.ok.0 in
     let at : c.len-last.result - 1 ≡ length xs - 1 = ap (λ k. k - 1) last in
     omega (arith, c.self.inside.leaves.ok.0, (few_leaves xs h).1, c.self.invariant.room)
@@ -92,12 +92,12 @@ rebuild-requires-clause-leaves c =
     let m = c.self.inside.storeys in
     let xs = c.self.inside.leaves.items in
     let h = c.self.invariant.leaves in
-    let d = c.self.invariant.indexed in
+    let d = c.self.invariant.known.indexed (omega (arith, c.requires.some, ap (λ (v : Shelved). v.leaves) c.self.view_is)) in
     let x = c.args.row.now in
     let newest : All (λ (row : Row). row.stamp < x.stamp) (rows_of xs) = subst (λ (v : Shelved). All (λ (row : Row). row.stamp < x.stamp) v.rows) (sym c.self.view_is) c.requires.newest in
     let low = c.requires.request in
     let room : length (rows_of xs) < 1024 = omega (arith, c.requires.room, ap (λ (v : Shelved). length v.rows) c.self.view_is) in
-    let some : 0 < length xs = omega (arith, c.requires.begun, ap (λ (v : Shelved). v.leaves) c.self.view_is) in
+    let some : 0 < length xs = omega (arith, c.requires.some, ap (λ (v : Shelved). v.leaves) c.self.view_is) in
     let last : c.len-last.result ≡ length xs = c.len-last.ensures ∙ c.self.inside.leaves.ok.0 in
     let at : c.len-last.result - 1 ≡ length xs - 1 = ap (λ k. k - 1) last in
     let count : c.len-count.result ≡ length (leaf_at xs (length xs - 1)) =
@@ -114,12 +114,12 @@ rebuild-requires-clause-kept c =
     let m = c.self.inside.storeys in
     let xs = c.self.inside.leaves.items in
     let h = c.self.invariant.leaves in
-    let d = c.self.invariant.indexed in
+    let d = c.self.invariant.known.indexed (omega (arith, c.requires.some, ap (λ (v : Shelved). v.leaves) c.self.view_is)) in
     let x = c.args.row.now in
     let newest : All (λ (row : Row). row.stamp < x.stamp) (rows_of xs) = subst (λ (v : Shelved). All (λ (row : Row). row.stamp < x.stamp) v.rows) (sym c.self.view_is) c.requires.newest in
     let low = c.requires.request in
     let room : length (rows_of xs) < 1024 = omega (arith, c.requires.room, ap (λ (v : Shelved). length v.rows) c.self.view_is) in
-    let some : 0 < length xs = omega (arith, c.requires.begun, ap (λ (v : Shelved). v.leaves) c.self.view_is) in
+    let some : 0 < length xs = omega (arith, c.requires.some, ap (λ (v : Shelved). v.leaves) c.self.view_is) in
     let last : c.len-last.result ≡ length xs = c.len-last.ensures ∙ c.self.inside.leaves.ok.0 in
     let at : c.len-last.result - 1 ≡ length xs - 1 = ap (λ k. k - 1) last in
     let count : c.len-count.result ≡ length (leaf_at xs (length xs - 1)) =
@@ -135,7 +135,7 @@ rebuild-requires-clause-kept c =
 pub rebuild-requires-clause-beyond : goal.rebuild-requires-clause-beyond
 rebuild-requires-clause-beyond c = λ g l q.
     let longer = c.push_reserved.ensures.len in
-    beyond c.self.inside.storeys (leaf_at c.self.inside.leaves.items) (leaf_at c.push_reserved.new.self.items) (length c.self.inside.leaves.items) (length c.push_reserved.new.self.items) g c.self.invariant.indexed
+    beyond c.self.inside.storeys (leaf_at c.self.inside.leaves.items) (leaf_at c.push_reserved.new.self.items) (length c.self.inside.leaves.items) (length c.push_reserved.new.self.items) g (c.self.invariant.known.indexed (omega (arith, c.requires.some, ap (λ (v : Shelved). v.leaves) c.self.view_is)))
     (omega (arith, longer, c.self.inside.leaves.ok.0, c.push_reserved.new.self.ok.0)) l q
 
 pub invariant_of-self-in-Some : goal.invariant_of-self-in-Some
@@ -143,12 +143,12 @@ invariant_of-self-in-Some c =
     let m = c.self.inside.storeys in
     let xs = c.self.inside.leaves.items in
     let h = c.self.invariant.leaves in
-    let d = c.self.invariant.indexed in
+    let d = c.self.invariant.known.indexed (omega (arith, c.requires.some, ap (λ (v : Shelved). v.leaves) c.self.view_is)) in
     let x = c.args.row.now in
     let newest : All (λ (row : Row). row.stamp < x.stamp) (rows_of xs) = subst (λ (v : Shelved). All (λ (row : Row). row.stamp < x.stamp) v.rows) (sym c.self.view_is) c.requires.newest in
     let low = c.requires.request in
     let room : length (rows_of xs) < 1024 = omega (arith, c.requires.room, ap (λ (v : Shelved). length v.rows) c.self.view_is) in
-    let some : 0 < length xs = omega (arith, c.requires.begun, ap (λ (v : Shelved). v.leaves) c.self.view_is) in
+    let some : 0 < length xs = omega (arith, c.requires.some, ap (λ (v : Shelved). v.leaves) c.self.view_is) in
     let last : c.len-last.result ≡ length xs = c.len-last.ensures ∙ c.self.inside.leaves.ok.0 in
     let at : c.len-last.result - 1 ≡ length xs - 1 = ap (λ k. k - 1) last in
     let count : c.len-count.result ≡ length (leaf_at xs (length xs - 1)) =
@@ -158,19 +158,19 @@ invariant_of-self-in-Some c =
     let blank = (All-pop (λ (leaf : Box (List Row) Global). leaf.value ≡ []) _ _ (Some c.in-Some.leaf) c.in-Some.ensures.items c.requires.blank).1 in
     let is : b.value ≡ x ∷ [] = c.push_newest-in-Some.ensures ∙ ap (λ l. x ∷ l) (c.deref_mut-in-Some.ensures.value ∙ blank) in
     let full : 16 ≤ length (leaf_at xs (length xs - 1)) = omega (arith, count, c.if-count-lt-MOST_ROWS.false) in
-    record { leaves = subst AreLeaves (sym c.push_reserved.ensures.items) (leaves_behind xs h x newest low room some b is full); indexed = c.rebuild.ensures; room = c.push_reserved.ensures.capacity ∙ c.self.invariant.room }
+    record { leaves = subst AreLeaves (sym c.push_reserved.ensures.items) (leaves_behind xs h x newest low room some b is full); known = c.rebuild.ensures; room = c.push_reserved.ensures.capacity ∙ c.self.invariant.room }
 
 pub returns-then-count-lt-MOST_ROWS-clause-rows : goal.returns-then-count-lt-MOST_ROWS-clause-rows
 returns-then-count-lt-MOST_ROWS-clause-rows c =
     let m = c.self.inside.storeys in
     let xs = c.self.inside.leaves.items in
     let h = c.self.invariant.leaves in
-    let d = c.self.invariant.indexed in
+    let d = c.self.invariant.known.indexed (omega (arith, c.requires.some, ap (λ (v : Shelved). v.leaves) c.self.view_is)) in
     let x = c.args.row.now in
     let newest : All (λ (row : Row). row.stamp < x.stamp) (rows_of xs) = subst (λ (v : Shelved). All (λ (row : Row). row.stamp < x.stamp) v.rows) (sym c.self.view_is) c.requires.newest in
     let low = c.requires.request in
     let room : length (rows_of xs) < 1024 = omega (arith, c.requires.room, ap (λ (v : Shelved). length v.rows) c.self.view_is) in
-    let some : 0 < length xs = omega (arith, c.requires.begun, ap (λ (v : Shelved). v.leaves) c.self.view_is) in
+    let some : 0 < length xs = omega (arith, c.requires.some, ap (λ (v : Shelved). v.leaves) c.self.view_is) in
     let last : c.len-last.result ≡ length xs = c.len-last.ensures ∙ c.self.inside.leaves.ok.0 in
     let at : c.len-last.result - 1 ≡ length xs - 1 = ap (λ k. k - 1) last in
     let leaf = c.deref_mut.ensures.value ∙ leaf_there xs (c.len-last.result - 1) c.index_mut.result.now c.index_mut.result.now (omega (arith, some, last)) c.index_mut.ensures.value ∙ ap (leaf_at xs) at in
@@ -183,12 +183,12 @@ returns-then-count-lt-MOST_ROWS-clause-visits c =
     let m = c.self.inside.storeys in
     let xs = c.self.inside.leaves.items in
     let h = c.self.invariant.leaves in
-    let d = c.self.invariant.indexed in
+    let d = c.self.invariant.known.indexed (omega (arith, c.requires.some, ap (λ (v : Shelved). v.leaves) c.self.view_is)) in
     let x = c.args.row.now in
     let newest : All (λ (row : Row). row.stamp < x.stamp) (rows_of xs) = subst (λ (v : Shelved). All (λ (row : Row). row.stamp < x.stamp) v.rows) (sym c.self.view_is) c.requires.newest in
     let low = c.requires.request in
     let room : length (rows_of xs) < 1024 = omega (arith, c.requires.room, ap (λ (v : Shelved). length v.rows) c.self.view_is) in
-    let some : 0 < length xs = omega (arith, c.requires.begun, ap (λ (v : Shelved). v.leaves) c.self.view_is) in
+    let some : 0 < length xs = omega (arith, c.requires.some, ap (λ (v : Shelved). v.leaves) c.self.view_is) in
     let last : c.len-last.result ≡ length xs = c.len-last.ensures ∙ c.self.inside.leaves.ok.0 in
     let at : c.len-last.result - 1 ≡ length xs - 1 = ap (λ k. k - 1) last in
     let count : c.len-count.result ≡ length (leaf_at xs (length xs - 1)) =
@@ -201,12 +201,12 @@ returns-in-Some-clause-rows c =
     let m = c.self.inside.storeys in
     let xs = c.self.inside.leaves.items in
     let h = c.self.invariant.leaves in
-    let d = c.self.invariant.indexed in
+    let d = c.self.invariant.known.indexed (omega (arith, c.requires.some, ap (λ (v : Shelved). v.leaves) c.self.view_is)) in
     let x = c.args.row.now in
     let newest : All (λ (row : Row). row.stamp < x.stamp) (rows_of xs) = subst (λ (v : Shelved). All (λ (row : Row). row.stamp < x.stamp) v.rows) (sym c.self.view_is) c.requires.newest in
     let low = c.requires.request in
     let room : length (rows_of xs) < 1024 = omega (arith, c.requires.room, ap (λ (v : Shelved). length v.rows) c.self.view_is) in
-    let some : 0 < length xs = omega (arith, c.requires.begun, ap (λ (v : Shelved). v.leaves) c.self.view_is) in
+    let some : 0 < length xs = omega (arith, c.requires.some, ap (λ (v : Shelved). v.leaves) c.self.view_is) in
     let last : c.len-last.result ≡ length xs = c.len-last.ensures ∙ c.self.inside.leaves.ok.0 in
     let at : c.len-last.result - 1 ≡ length xs - 1 = ap (λ k. k - 1) last in
     let count : c.len-count.result ≡ length (leaf_at xs (length xs - 1)) =

@@ -11,7 +11,7 @@ use Rattle.wide_rows.specs.Shelves.{Shelved, leaf_at}
 use Rattle.wide_rows.proofs.OfShelves.{leaf_there}
 use Rattle.wide_rows.proofs.WayDown.{way_down}
 use Rattle.wide_rows.proofs.Edits.{was_put, found_here, rows_without, change_take}
-use Rattle.wide_rows.proofs.TwoStoreys.{beyond}
+use Rattle.wide_rows.proofs.TwoStoreys.{beyond, known}
 use Rattle.wide_rows.proofs.Fewer.{leaves_alone, leaves_merged, kept_merged, rows_merged, newest_pair, leaves_same, indexed_same}
 use Rattle.wide_rows.proofs.shelf.Shelf.take.Goals as goal
 
@@ -20,7 +20,7 @@ invariant_of-self c =
     let m = c.self.inside.storeys in
     let xs = c.self.inside.leaves.items in
     let h = c.self.invariant.leaves in
-    let d = c.self.invariant.indexed in
+    let d = c.self.invariant.known.indexed (omega (arith, c.requires.some, ap (λ (v : Shelved). v.leaves) c.self.view_is)) in
     let s = c.args.stamp in
     let i = c.find-place.result in
     let at = c.find-place.ensures.at in
@@ -29,14 +29,14 @@ invariant_of-self c =
     let leaf : c.deref_mut.result.now ≡ leaf_at xs i = c.deref_mut.ensures.value ∙ leaf_there xs i c.index_mut.result.now c.index_mut.result.now there c.index_mut.ensures.value in
     let is : b.value ≡ without s (leaf_at xs i) = c.take.ensures.rows ∙ ap (without s) leaf in
     let missing : row_at s (leaf_at xs i) ≡ None = ap (row_at s) (sym leaf) ∙ sym c.in_err-row.ensures.taken in
-    record { leaves = leaves_same xs h i b there s is missing; indexed = indexed_same xs h i b there s is missing m d; room = c.self.invariant.room }
+    record { leaves = leaves_same xs h i b there s is missing; known = known _ _ _ (indexed_same xs h i b there s is missing m d); room = c.self.invariant.room }
 
 pub returns-in_err-row-clause-taken : goal.returns-in_err-row-clause-taken
 returns-in_err-row-clause-taken c =
     let m = c.self.inside.storeys in
     let xs = c.self.inside.leaves.items in
     let h = c.self.invariant.leaves in
-    let d = c.self.invariant.indexed in
+    let d = c.self.invariant.known.indexed (omega (arith, c.requires.some, ap (λ (v : Shelved). v.leaves) c.self.view_is)) in
     let s = c.args.stamp in
     let i = c.find-place.result in
     let at = c.find-place.ensures.at in
@@ -52,7 +52,7 @@ returns-in_err-row-clause-rows c =
     let m = c.self.inside.storeys in
     let xs = c.self.inside.leaves.items in
     let h = c.self.invariant.leaves in
-    let d = c.self.invariant.indexed in
+    let d = c.self.invariant.known.indexed (omega (arith, c.requires.some, ap (λ (v : Shelved). v.leaves) c.self.view_is)) in
     let s = c.args.stamp in
     let i = c.find-place.result in
     let at = c.find-place.ensures.at in
@@ -67,7 +67,7 @@ returns-in_err-row-clause-visits c =
     omega (
       arith,
       c.find-place.ensures.visits,
-      way_down c.self.inside.storeys c.self.inside.leaves.items c.self.invariant.leaves c.self.invariant.indexed (omega (arith, c.requires.some, ap (λ (v : Shelved). v.leaves) c.self.view_is)),
+      way_down c.self.inside.storeys c.self.inside.leaves.items c.self.invariant.leaves (c.self.invariant.known.indexed (omega (arith, c.requires.some, ap (λ (v : Shelved). v.leaves) c.self.view_is))) (omega (arith, c.requires.some, ap (λ (v : Shelved). v.leaves) c.self.view_is)),
       ap (λ (v : Shelved). bits (length v.rows)) c.self.view_is,
     )
 
@@ -76,7 +76,7 @@ returns-in-Some-clause-visits c =
     omega (
       arith,
       c.find-place.ensures.visits,
-      way_down c.self.inside.storeys c.self.inside.leaves.items c.self.invariant.leaves c.self.invariant.indexed (omega (arith, c.requires.some, ap (λ (v : Shelved). v.leaves) c.self.view_is)),
+      way_down c.self.inside.storeys c.self.inside.leaves.items c.self.invariant.leaves (c.self.invariant.known.indexed (omega (arith, c.requires.some, ap (λ (v : Shelved). v.leaves) c.self.view_is))) (omega (arith, c.requires.some, ap (λ (v : Shelved). v.leaves) c.self.view_is)),
       ap (λ (v : Shelved). bits (length v.rows)) c.self.view_is,
     )
 
@@ -85,7 +85,7 @@ returns-in-None-clause-visits c =
     omega (
       arith,
       c.find-place.ensures.visits,
-      way_down c.self.inside.storeys c.self.inside.leaves.items c.self.invariant.leaves c.self.invariant.indexed (omega (arith, c.requires.some, ap (λ (v : Shelved). v.leaves) c.self.view_is)),
+      way_down c.self.inside.storeys c.self.inside.leaves.items c.self.invariant.leaves (c.self.invariant.known.indexed (omega (arith, c.requires.some, ap (λ (v : Shelved). v.leaves) c.self.view_is))) (omega (arith, c.requires.some, ap (λ (v : Shelved). v.leaves) c.self.view_is)),
       ap (λ (v : Shelved). bits (length v.rows)) c.self.view_is,
     )
 
@@ -94,7 +94,7 @@ merge-gone-requires-clause-newest c =
     let m = c.self.inside.storeys in
     let xs = c.self.inside.leaves.items in
     let h = c.self.invariant.leaves in
-    let d = c.self.invariant.indexed in
+    let d = c.self.invariant.known.indexed (omega (arith, c.requires.some, ap (λ (v : Shelved). v.leaves) c.self.view_is)) in
     let s = c.args.stamp in
     let i = c.find-place.result in
     let at = c.find-place.ensures.at in
@@ -113,7 +113,7 @@ rebuild-requires-clause-leaves c =
     let m = c.self.inside.storeys in
     let xs = c.self.inside.leaves.items in
     let h = c.self.invariant.leaves in
-    let d = c.self.invariant.indexed in
+    let d = c.self.invariant.known.indexed (omega (arith, c.requires.some, ap (λ (v : Shelved). v.leaves) c.self.view_is)) in
     let s = c.args.stamp in
     let i = c.find-place.result in
     let at = c.find-place.ensures.at in
@@ -134,7 +134,7 @@ rebuild-requires-clause-kept c =
     let m = c.self.inside.storeys in
     let xs = c.self.inside.leaves.items in
     let h = c.self.invariant.leaves in
-    let d = c.self.invariant.indexed in
+    let d = c.self.invariant.known.indexed (omega (arith, c.requires.some, ap (λ (v : Shelved). v.leaves) c.self.view_is)) in
     let s = c.args.stamp in
     let i = c.find-place.result in
     let at = c.find-place.ensures.at in
@@ -155,14 +155,14 @@ rebuild-requires-clause-beyond c = λ g l q.
     let xs = c.self.inside.leaves.items in
     let b = with_value c.index_mut.result.now c.take.new.self in
     let ts = c.merge-gone.new.leaves.items in
-    beyond c.self.inside.storeys (leaf_at xs) (leaf_at ts) (length xs) (length ts) g c.self.invariant.indexed (omega (arith, c.merge-gone.ensures.len, length-set xs c.find-place.result b)) l q
+    beyond c.self.inside.storeys (leaf_at xs) (leaf_at ts) (length xs) (length ts) g (c.self.invariant.known.indexed (omega (arith, c.requires.some, ap (λ (v : Shelved). v.leaves) c.self.view_is))) (omega (arith, c.merge-gone.ensures.len, length-set xs c.find-place.result b)) l q
 
 pub invariant_of-self-in-Some : goal.invariant_of-self-in-Some
 invariant_of-self-in-Some c =
     let m = c.self.inside.storeys in
     let xs = c.self.inside.leaves.items in
     let h = c.self.invariant.leaves in
-    let d = c.self.invariant.indexed in
+    let d = c.self.invariant.known.indexed (omega (arith, c.requires.some, ap (λ (v : Shelved). v.leaves) c.self.view_is)) in
     let s = c.args.stamp in
     let i = c.find-place.result in
     let at = c.find-place.ensures.at in
@@ -176,14 +176,14 @@ invariant_of-self-in-Some c =
     let fit = c.in-Some.ensures in
     let ts = c.merge-gone.new.leaves.items in
     let g = c.merge-gone.ensures in
-    record { leaves = leaves_merged xs h i b there s at is x found p fit ts g.len g.before g.here g.behind; indexed = c.rebuild.ensures; room = g.capacity ∙ c.self.invariant.room }
+    record { leaves = leaves_merged xs h i b there s at is x found p fit ts g.len g.before g.here g.behind; known = c.rebuild.ensures; room = g.capacity ∙ c.self.invariant.room }
 
 pub note-requires : goal.note-requires
 note-requires c =
     let m = c.self.inside.storeys in
     let xs = c.self.inside.leaves.items in
     let h = c.self.invariant.leaves in
-    let d = c.self.invariant.indexed in
+    let d = c.self.invariant.known.indexed (omega (arith, c.requires.some, ap (λ (v : Shelved). v.leaves) c.self.view_is)) in
     let s = c.args.stamp in
     let i = c.find-place.result in
     let at = c.find-place.ensures.at in
@@ -200,7 +200,7 @@ invariant_of-self-in-None c =
     let m = c.self.inside.storeys in
     let xs = c.self.inside.leaves.items in
     let h = c.self.invariant.leaves in
-    let d = c.self.invariant.indexed in
+    let d = c.self.invariant.known.indexed (omega (arith, c.requires.some, ap (λ (v : Shelved). v.leaves) c.self.view_is)) in
     let s = c.args.stamp in
     let i = c.find-place.result in
     let at = c.find-place.ensures.at in
@@ -208,14 +208,14 @@ invariant_of-self-in-None c =
     let b = with_value c.index_mut.result.now c.take.new.self in
     let leaf : c.deref_mut.result.now ≡ leaf_at xs i = c.deref_mut.ensures.value ∙ leaf_there xs i c.index_mut.result.now c.index_mut.result.now there c.index_mut.ensures.value in
     let is : b.value ≡ without s (leaf_at xs i) = c.take.ensures.rows ∙ ap (without s) leaf in
-    record { leaves = leaves_alone xs h i b there s at is c.in-None.ensures; indexed = c.note.ensures; room = c.self.invariant.room }
+    record { leaves = leaves_alone xs h i b there s at is c.in-None.ensures; known = known _ _ _ c.note.ensures; room = c.self.invariant.room }
 
 pub returns-in-Some-clause-taken : goal.returns-in-Some-clause-taken
 returns-in-Some-clause-taken c =
     let m = c.self.inside.storeys in
     let xs = c.self.inside.leaves.items in
     let h = c.self.invariant.leaves in
-    let d = c.self.invariant.indexed in
+    let d = c.self.invariant.known.indexed (omega (arith, c.requires.some, ap (λ (v : Shelved). v.leaves) c.self.view_is)) in
     let s = c.args.stamp in
     let i = c.find-place.result in
     let at = c.find-place.ensures.at in
@@ -232,7 +232,7 @@ returns-in-None-clause-taken c =
     let m = c.self.inside.storeys in
     let xs = c.self.inside.leaves.items in
     let h = c.self.invariant.leaves in
-    let d = c.self.invariant.indexed in
+    let d = c.self.invariant.known.indexed (omega (arith, c.requires.some, ap (λ (v : Shelved). v.leaves) c.self.view_is)) in
     let s = c.args.stamp in
     let i = c.find-place.result in
     let at = c.find-place.ensures.at in
@@ -249,7 +249,7 @@ returns-in-Some-clause-rows c =
     let m = c.self.inside.storeys in
     let xs = c.self.inside.leaves.items in
     let h = c.self.invariant.leaves in
-    let d = c.self.invariant.indexed in
+    let d = c.self.invariant.known.indexed (omega (arith, c.requires.some, ap (λ (v : Shelved). v.leaves) c.self.view_is)) in
     let s = c.args.stamp in
     let i = c.find-place.result in
     let at = c.find-place.ensures.at in
@@ -270,7 +270,7 @@ returns-in-None-clause-rows c =
     let m = c.self.inside.storeys in
     let xs = c.self.inside.leaves.items in
     let h = c.self.invariant.leaves in
-    let d = c.self.invariant.indexed in
+    let d = c.self.invariant.known.indexed (omega (arith, c.requires.some, ap (λ (v : Shelved). v.leaves) c.self.view_is)) in
     let s = c.args.stamp in
     let i = c.find-place.result in
     let at = c.find-place.ensures.at in

@@ -7,6 +7,7 @@ use Rattle.wide_rows.specs.Shelves.{Shelved, rows_of}
 use Rattle.wide_rows.proofs.OfShelves.{leaf_there}
 use Rattle.wide_rows.proofs.WayDown.{way_down}
 use Rattle.wide_rows.proofs.Edits.{was_put, rows_set, leaves_set, change_set}
+use Rattle.wide_rows.proofs.TwoStoreys.{known}
 use Rattle.wide_rows.proofs.shelf.Shelf.update.Goals as goal
 
 pub note-requires : goal.note-requires
@@ -14,7 +15,7 @@ note-requires c =
     let m = c.self.inside.storeys in
     let xs = c.self.inside.leaves.items in
     let h = c.self.invariant.leaves in
-    let d = c.self.invariant.indexed in
+    let d = c.self.invariant.known.indexed (omega (arith, c.requires.some, ap (λ (v : Shelved). v.leaves) c.self.view_is)) in
     let i = c.find_near-place.result in
     let s = c.args.row.now.stamp in
     let q = c.args.request in
@@ -30,7 +31,7 @@ invariant_of-self c =
     let m = c.self.inside.storeys in
     let xs = c.self.inside.leaves.items in
     let h = c.self.invariant.leaves in
-    let d = c.self.invariant.indexed in
+    let d = c.self.invariant.known.indexed (omega (arith, c.requires.some, ap (λ (v : Shelved). v.leaves) c.self.view_is)) in
     let i = c.find_near-place.result in
     let s = c.args.row.now.stamp in
     let q = c.args.request in
@@ -39,14 +40,14 @@ invariant_of-self c =
     let b = with_value c.index_mut.result.now c.set.new.self in
     let is = c.set.ensures ∙ ap (set_row s q w) (c.deref_mut.ensures.value ∙ leaf_there xs i c.index_mut.result.now c.index_mut.result.now at.there c.index_mut.ensures.value) in
     let found : row_at s (rows_of xs) ≡ Some c.args.row.now = ap (λ (v : Shelved). row_at s v.rows) c.self.view_is ∙ c.requires.there in
-    record { leaves = leaves_set xs h i b at.there s at q w c.requires.request c.args.row.now found is; indexed = c.note.ensures; room = c.self.invariant.room }
+    record { leaves = leaves_set xs h i b at.there s at q w c.requires.request c.args.row.now found is; known = known _ _ _ c.note.ensures; room = c.self.invariant.room }
 
 pub returns-clause-changed : goal.returns-clause-changed
 returns-clause-changed c =
     let m = c.self.inside.storeys in
     let xs = c.self.inside.leaves.items in
     let h = c.self.invariant.leaves in
-    let d = c.self.invariant.indexed in
+    let d = c.self.invariant.known.indexed (omega (arith, c.requires.some, ap (λ (v : Shelved). v.leaves) c.self.view_is)) in
     let i = c.find_near-place.result in
     let s = c.args.row.now.stamp in
     let q = c.args.request in
@@ -64,6 +65,6 @@ returns-clause-visits c =
     omega (
       arith,
       c.find_near-place.ensures.visits,
-      way_down c.self.inside.storeys c.self.inside.leaves.items c.self.invariant.leaves c.self.invariant.indexed (omega (arith, c.requires.some, ap (λ (v : Shelved). v.leaves) c.self.view_is)),
+      way_down c.self.inside.storeys c.self.inside.leaves.items c.self.invariant.leaves (c.self.invariant.known.indexed (omega (arith, c.requires.some, ap (λ (v : Shelved). v.leaves) c.self.view_is))) (omega (arith, c.requires.some, ap (λ (v : Shelved). v.leaves) c.self.view_is)),
       ap (λ (v : Shelved). bits (length v.rows)) c.self.view_is,
     )

@@ -6,6 +6,7 @@ use Rattle.wide_rows.specs.Storeys.{IsStorey, IsBlock, block_at, block_of, block
 use Rattle.wide_rows.specs.declared.index.Index.{Index}
 use Rattle.wide_rows.proofs.Gathered.{block_low, block_few, next_block, gathered}
 use Rattle.wide_rows.proofs.OfShelves.{leaf_past, few_leaves, asked_low, rows_few}
+use Rattle.wide_rows.proofs.TwoStoreys.{known}
 use Rattle.wide_rows.proofs.storeys.Storeys.rebuild.Goals as goal
 
 pub loop-block-preserved : goal.loop-block-preserved
@@ -95,5 +96,6 @@ returns c =
     let h = c.requires.leaves in
     let i = c.loop-at.invariant in
     let all : c.loop-at.at ≡ blocks_for (length leaves) = omega (arith, c.loop-at-test.false, c.loop-at.auto.at-end, c.len-count.ensures) in
-    gathered c.loop-at.self.blocks (leaf_at leaves) (length leaves) (omega (arith, (few_leaves leaves h).1)) (leaf_past leaves) h.some i.written (asked_low leaves h) (rows_few leaves h)
-    c.loop-at.self.top i.wide (subst (λ (n : ℕ). IsStorey c.loop-at.self.top (block_rows (leaf_at leaves)) n) all i.storey) (λ k l. i.same k (omega (arith, l, all)))
+    known c.loop-at.self (leaf_at leaves) (length leaves)
+    (gathered c.loop-at.self.blocks (leaf_at leaves) (length leaves) (omega (arith, (few_leaves leaves h).1)) (leaf_past leaves) h.some i.written (asked_low leaves h) (rows_few leaves h)
+    c.loop-at.self.top i.wide (subst (λ (n : ℕ). IsStorey c.loop-at.self.top (block_rows (leaf_at leaves)) n) all i.storey) (λ k l. i.same k (omega (arith, l, all))))
