@@ -94,8 +94,8 @@ fn a_thousand_arenas_share_all_workers(rt: HostRuntime) {
 }
 
 /// Of 1,024 arenas that ask for one worker each, 64 are allotted one: each sixteenth in order, newest first. A Join finds
-/// the next of them past those that are filled, and makes at most ten visits for each: it looks at no more than four arenas,
-/// and passes over the others by six sums.
+/// the next of them past those that are filled, and makes at most six visits for each: it looks at no more than four arenas, and
+/// passes over the others of their leaf by three sums, which are counted as the two digits of their number.
 #[test]
 fn joins_pass_over_idle_arenas(rt: HostRuntime) {
     let mut market = opened(&rt, rt.alloc(), 65, 64, 64);
@@ -122,7 +122,7 @@ fn joins_pass_over_idle_arenas(rt: HostRuntime) {
             matches!(&reply, Reply::Placed(arena) if arena.get() == due),
         );
         let passed = u64::from(joined) + 1;
-        holds(&rt, visits >= passed && visits <= 10 * passed);
+        holds(&rt, visits >= passed && visits <= 6 * passed);
     }
     let lists = answer(&rt, rt.alloc(), &mut market, Cmd::Lists);
     holds(
