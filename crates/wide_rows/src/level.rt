@@ -270,7 +270,7 @@ fn open_shelf(form: &mut Form, row: &Row, spare: &mut Spare, visits: &mut u32)
     let _rows = leaf.len();
     let mut newer = spare.take_leaf();
     newer.push_newest(row);
-    enter(1, visits);
+    enter(newer.len(), visits);
     let mut shelf = spare.take_shelf();
     shelf.begin(leaf, newer);
     *form = Form::Shelf(shelf);
