@@ -63,8 +63,8 @@ up_to f (suc (suc (suc (suc n)))) l free =
     ∙ omega (arith, requests-cons (f 3) (rows_below f 3), requests-cons (f 2) (rows_below f 2), requests-cons (f 1) (rows_below f 1), requests-cons (f 0) [])
 
 -- what a quad asks for
-pub quaquad_sum_asks : (c : Columns) (q : ℕ) → IsTidy c → q < 4 → quad_sum c.requests q ≡ requests (quad_rows c q)
-quaquad_sum_asks c q t l =
+pub quad_asks : (c : Columns) (q : ℕ) → IsTidy c → q < 4 → quad_sum c.requests q ≡ requests (quad_rows c q)
+quad_asks c q t l =
     ap (λ k. get_or c.requests k 0 + get_or c.requests (4 * q + 1) 0 + get_or c.requests (4 * q + 2) 0 + get_or c.requests (4 * q + 3) 0) (let e : 4 * q ≡ 4 * q + 0 = omega arith in e)
     ∙ sym (up_to (λ i. lane c (4 * q + i)) (quad_len c q) (omega arith) (λ i g m. t.requests (4 * q + i) (omega arith)))
 
@@ -76,7 +76,7 @@ pub record IsLastQuad (c : Columns) (sums : List ℕ) (left : ℕ) : Type 0 wher
 pub last_of_quads : (c : Columns) (sums : List ℕ) (all left : ℕ) → AreQuads c sums all → 0 < left → left ≤ all → IsLastQuad c sums left
 last_of_quads c sums all left h some within = record {
   rows_are = ap (rows_of_quads c) (let e : left ≡ left - 1 + 1 = omega arith in e) ∙ last_quad c (left - 1) (omega (arith, h.some));
-  asks = h.asked (left - 1) (omega (arith, some, within)) ∙ quaquad_sum_asks c (left - 1) h.tidy (omega (arith, h.some, h.tidy.room));
+  asks = h.asked (left - 1) (omega (arith, some, within)) ∙ quad_asks c (left - 1) h.tidy (omega (arith, h.some, h.tidy.room));
 }
 
 -- ---- what comes next
@@ -160,7 +160,7 @@ last_asks c first count some =
 
 -- what a quad asks for that comes next
 pub quad_sum_asks : (c : Columns) (sums : List ℕ) (all to : ℕ) → AreQuads c sums all → to < all → get_or sums to 0 ≡ requests (quad_rows c to)
-quad_sum_asks c sums all to h l = h.asked to l ∙ quaquad_sum_asks c to h.tidy (omega (arith, l, h.some, h.tidy.room))
+quad_sum_asks c sums all to h l = h.asked to l ∙ quad_asks c to h.tidy (omega (arith, l, h.some, h.tidy.room))
 
 quads_long : (c : Columns) (quads : ℕ) → length (rows_of_quads c quads) ≡ min c.count (4 * quads)
 quads_long c quads = length-rows (lane c) (min c.count (4 * quads))

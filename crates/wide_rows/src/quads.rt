@@ -7,7 +7,6 @@
 //!   left        0 and 1: the rows of quad 2 come next, then those of quad 0
 //! ```
 ghost use Rattle.std.specs.Prelude.{◌≡◌, ℕ, ◌+◌, ◌-◌, ◌*◌, ◌^◌, ◌<◌, ◌≤◌, List, [], ◌∷◌, length, IfNone, IfSome};
-ghost use Rattle.std.specs.Bool.{OnTrue, OnFalse};
 ghost use Rattle.wide_rows.specs.Leaves.{IsLeaf, rows_in};
 ghost use Rattle.wide_rows.specs.Passed.{IsPassed, IsDue, AreQuads, AreQuadsPassed, AllQuadsPassed, quad_rows, rows_of_quads};
 ghost use Rattle.prefix_tree.specs.Bits.{bits};
@@ -113,8 +112,8 @@ impl<'a> Model for Quads<'a> {
     ghost invariant = { λ a. AreQuads a.columns.now a.sums a.left };
 }
 
-/// Goes on to the next quad where the demand is reached. False where there is none. The sums that it passes over are counted as
-/// a node of so many keys.
+/// Goes on to the next quad where the demand is reached, and gives what it asks for. None where there is none. The sums that it
+/// passes over are counted as a node of so many keys.
 #[inline(always)]
 fn pass(
     columns: &Columns,
@@ -124,33 +123,35 @@ fn pass(
     demand: u64,
     carry: &mut u64,
     visits: &mut u32,
-) -> bool
+) -> Option<u32>
     requires quads { AreQuads columns.now sums.now left.old }
     requires few { workers < 2 ^ 31 }
     requires small { demand < 2 ^ 32 }
     requires low { carry.old < 2 ^ 32 }
     requires room { visits.old < 2 ^ 31 }
-    ensures due { OnTrue result (IsDue workers demand (rows_of_quads columns.now left.old) (quad_rows columns.now left.new) (rows_of_quads columns.now left.new) carry.old carry.new) }
-    ensures left { OnTrue result (left.new < left.old) }
-    ensures none { OnFalse result (IsPassed workers demand (rows_of_quads columns.now left.old) [] carry.old carry.new) }
-    ensures empty { OnFalse result (left.new ≡ 0) }
+    ensures due { IfSome result (λ _. IsDue workers demand (rows_of_quads columns.now left.old) (quad_rows columns.now left.new) (rows_of_quads columns.now left.new) carry.old carry.new) }
+    ensures left { IfSome result (λ _. left.new < left.old) }
+    ensures asked { IfSome result (λ sum. sum ≡ requests (quad_rows columns.now left.new)) }
+    ensures none { IfNone result (IsPassed workers demand (rows_of_quads columns.now left.old) [] carry.old carry.new) }
+    ensures empty { IfNone result (left.new ≡ 0) }
     ensures low { carry.new < 2 ^ 32 }
-    ensures counted { OnTrue result (visits.new ≡ visits.old + bits (left.old - 1 - left.new)) }
-    ensures counted_all { OnFalse result (visits.new ≡ visits.old + bits left.old) }
+    ensures counted { IfSome result (λ _. visits.new ≡ visits.old + bits (left.old - 1 - left.new)) }
+    ensures counted_all { IfNone result (visits.new ≡ visits.old + bits left.old) }
 {
     let _ = &columns.count;
     let all = *left;
     while *left > 0 {
         *left -= 1;
-        let due = workers * u64::from(sums[*left as usize]) + *carry;
+        let sum = sums[*left as usize];
+        let due = workers * u64::from(sum) + *carry;
         if due >= demand {
             pass_over((all - 1 - *left) as usize, visits);
-            return true;
+            return Some(sum);
         }
         *carry = due;
     }
     pass_over(all as usize, visits);
-    false
+    None
 }
 
 impl<'a> Quads<'a> {
@@ -214,9 +215,9 @@ impl<'a> Quads<'a> {
             visits,
         );
         self.left = left;
-        if !found {
+        let Some(asked) = found else {
             return None;
-        }
-        Some(Quad::new(self.columns, left, self.sums[left as usize]))
+        };
+        Some(Quad::new(self.columns, left, asked))
     }
 }

@@ -1,6 +1,6 @@
 use Rattle.std.proofs.Common.{◌-◌, refl, arith}
 use Rattle.wide_rows.specs.Passed.{quad_rows, rows_of_quads}
-use Rattle.wide_rows.proofs.Passing.{last_of_quads, due_here, past_here}
+use Rattle.wide_rows.proofs.Passing.{last_of_quads, due_here, past_here, quad_sum_asks}
 use Rattle.wide_rows.proofs.quads.pass.Goals as goal
 
 pub returns-then-due-demand-clause-due : goal.returns-then-due-demand-clause-due
@@ -35,3 +35,6 @@ pass_over-requires-2 c = record { few = omega (arith, c.requires.quads.some, c.r
 
 pub returns-clause-counted_all : goal.returns-clause-counted_all
 returns-clause-counted_all c = omega (arith, c.pass_over-2.ensures.counted, c.loop-left.invariant.none)
+
+pub returns-then-due-demand-clause-asked : goal.returns-then-due-demand-clause-asked
+returns-then-due-demand-clause-asked c = quad_sum_asks c.args.columns.now c.args.sums.now c.args.left.now (c.loop-left.left - 1) c.requires.quads (omega (arith, c.loop-left.invariant.within))
