@@ -40,10 +40,6 @@ fn count_leaves(left: usize, at: usize, visits: &mut u32)
     requires room { visits.old < 2 ^ 31 }
     ensures { AreLeavesPassed left at visits.old visits.new }
 {
-    // Most often the next leaf is the one, and nothing was passed over.
-    if at + 1 == left {
-        return;
-    }
     if at / 16 == (left - 1) / 16 {
         pass_over(left - 1 - at, visits);
     } else {
