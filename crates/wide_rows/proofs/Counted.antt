@@ -5,7 +5,7 @@ use Rattle.std.proofs.lemmas.Bool.{cases_lt}
 use Rattle.std.proofs.lemmas.Int.Digits.{length-digits_of_step, length-digits_of-le}
 use Rattle.std.proofs.lemmas.Nat.{leading_top}
 use Rattle.prefix_tree.specs.Bits.{bits}
-use Rattle.wide_rows.specs.Storeys.{blocks_for}
+use Rattle.wide_rows.specs.Storeys.{blocks_for, lanes}
 
 half_ge : (p n : ℕ) → 2 * p ≤ n → p ≤ n / 2
 half_ge p n l = omega arith
@@ -54,4 +54,11 @@ way leaves rows two most many = elim (cases_lt leaves 4) [
     | inl few ↦ omega (arith, bits-le 1 (blocks_for leaves) (omega arith), bits-le 4 (min 16 leaves) (omega arith), bits-ge 4 rows (omega arith))
     | inr more ↦ omega (arith, bits-le 4 (blocks_for leaves) (omega arith), bits-le 5 (min 16 leaves) (omega arith), bits-ge 6 rows (omega arith))
   ]
+]
+
+-- and no less: the top has two blocks, or the block has two leaves
+pub way_least : (leaves block leaf : ℕ) → 1 < leaves → block < blocks_for leaves → 0 < leaf → 4 ≤ bits (blocks_for leaves) + bits (lanes leaves block) + bits leaf
+way_least leaves block leaf two there some = elim (cases_lt leaves 17) [
+  | inl one ↦ omega (arith, bits-ge 0 (blocks_for leaves) (omega arith), bits-ge 1 (lanes leaves block) (omega arith), bits-ge 0 leaf (omega arith))
+  | inr more ↦ omega (arith, bits-ge 1 (blocks_for leaves) (omega arith), bits-ge 0 (lanes leaves block) (omega arith), bits-ge 0 leaf (omega arith))
 ]

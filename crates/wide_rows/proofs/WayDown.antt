@@ -1,7 +1,7 @@
 -- What a way down a shelf reads, against its rows, and how many visits it takes.
 use Rattle.std.specs.List.{slice_get}
 use Rattle.std.specs.declared.alloc.Global.{Global}
-use Rattle.std.proofs.Common.{◌≡◌, ℕ, ◌+◌, ◌*◌, ◌^◌, ◌<◌, ◌≤◌, min, false, is_some, List, Option, Some, None, length, Box, refl, sym, ap, ◌∙◌, arith}
+use Rattle.std.proofs.Common.{◌≡◌, ℕ, ◌+◌, ◌*◌, ◌/◌, ◌^◌, ◌<◌, ◌≤◌, min, false, is_some, List, Option, Some, None, IfSome, length, Box, refl, sym, ap, ◌∙◌, arith}
 use Rattle.std.proofs.lemmas.Option.{slice_get_past}
 use Rattle.market_types.specs.declared.row.Row.{Row}
 use Rattle.prefix_tree.specs.Rows.{requests, requests_above, first_mandated}
@@ -12,7 +12,7 @@ use Rattle.wide_rows.specs.Joined.{joined_below}
 use Rattle.wide_rows.specs.Shelves.{rows_of, leaf_at, AreLeaves}
 use Rattle.wide_rows.specs.Storeys.{has_mandated, IsPlace, block_of, block_rows, lanes, blocks_for, block_at, IsIndexed}
 use Rattle.wide_rows.specs.declared.storeys.Storeys.{Storeys}
-use Rattle.wide_rows.proofs.Counted.{bits-ge, bits-le, bits-mono, way}
+use Rattle.wide_rows.proofs.Counted.{bits-ge, bits-le, bits-mono, way, way_least}
 use Rattle.wide_rows.proofs.OfShelves.{rows_joined, few_leaves, asked_low}
 use Rattle.wide_rows.proofs.OfStoreys.{total_sums, above_is}
 use Rattle.wide_rows.proofs.TwoStoreys.{block_is, blocks_are, block_part}
@@ -24,6 +24,11 @@ no_first l e = none (first_mandated l) e
     none : (o : Option Row) → is_some o ≡ false → o ≡ None
     none None e = refl
     none (Some x) e = cc
+
+-- what holds in any case holds where there is a row
+pub if_some : (o : Option Row) {P : Type 0} → P → IfSome o (λ _. P)
+if_some None p = tt
+if_some (Some x) p = p
 
 module _ (m : Storeys) (leaves : List (Box (List Row) Global)) (h : AreLeaves leaves) (d : IsIndexed m (leaf_at leaves) (length leaves)) where
   abbrev r : ℕ → List Row
@@ -111,3 +116,9 @@ module _ (m : Storeys) (leaves : List (Box (List Row) Global)) (h : AreLeaves le
 
     pub in_leaf : (b leaf : ℕ) → b < blocks_for n → leaf ≤ 16 → bits m.top.len + bits (block_at m.blocks b).len + bits leaf ≤ 2 * bits (length (rows_of leaves))
     in_leaf b leaf l few = omega (arith, ap bits d.top.len, ap bits (d.blocks b (omega (arith, d.room))).storey.len, bits-mono (lanes n b) (min 16 n) (omega arith), bits-le 5 leaf (omega arith), way_down)
+
+    pub down_to : (b leaf : ℕ) → b < blocks_for n → 0 < leaf → 4 ≤ bits m.top.len + bits (block_at m.blocks b).len + bits leaf
+    down_to b leaf l some = omega (arith, way_least n b leaf two l some, ap bits d.top.len, ap bits (d.blocks b (omega (arith, d.room))).storey.len)
+
+    pub down_at : (k : ℕ) → k < n → 4 ≤ bits (blocks_for n) + bits (lanes n (k / 16)) + bits (length (r k))
+    down_at k l = way_least n (k / 16) (length (r k)) two (omega arith) (h.some k l)

@@ -8,3 +8,4 @@ pub mod Passed
 pub mod Shelves
 pub mod Spares
 pub mod Storeys
+pub mod Ways

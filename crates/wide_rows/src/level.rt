@@ -15,6 +15,7 @@ ghost use Rattle.prefix_tree.specs.Rows.{requests, requests_above, first_mandate
 ghost use Rattle.prefix_tree.specs.Bits.{bits};
 ghost use Rattle.wide_rows.specs.Leveled.{IsLevel, HasFewBoxes};
 ghost use Rattle.wide_rows.specs.Forms.{leveled, IsFullLeaf, IsIdle};
+ghost use Rattle.wide_rows.specs.Ways.{least_way};
 
 use crate::leaf::Leaf;
 use crate::shelf::Shelf;
@@ -78,7 +79,8 @@ impl Level {
     pub(crate) fn sum_above(&self, stamp: u32, visits: &mut u32) -> u32
         requires few { visits.old < 2 ^ 31 }
         ensures exact { result ≡ requests_above stamp self.now.rows }
-        ensures entered { 0 < length self.now.rows → visits.old + 1 ≤ visits.new }
+        ensures least { visits.old + least_way (length self.now.rows) ≤ visits.new }
+        ensures alone { length self.now.rows ≤ 12 → visits.new ≡ visits.old + bits (length self.now.rows) }
         ensures visits { visits.new ≤ visits.old + 2 * bits (length self.now.rows) }
     {
         match &self.form {
@@ -96,6 +98,8 @@ impl Level {
         requires few { visits.old < 2 ^ 31 }
         ensures exact { result ≡ slice_get self.now.rows index }
         ensures entered { 0 < length self.now.rows → visits.old + 1 ≤ visits.new }
+        ensures least { IfSome result (λ _. visits.old + least_way (length self.now.rows) ≤ visits.new) }
+        ensures alone { length self.now.rows ≤ 12 → visits.new ≡ visits.old + bits (length self.now.rows) }
         ensures visits { visits.new ≤ visits.old + 2 * bits (length self.now.rows) }
     {
         match &self.form {
@@ -113,6 +117,8 @@ impl Level {
         requires few { visits.old < 2 ^ 31 }
         ensures exact { result ≡ first_mandated self.now.rows }
         ensures entered { 0 < length self.now.rows → visits.old + 1 ≤ visits.new }
+        ensures least { IfSome result (λ _. visits.old + least_way (length self.now.rows) ≤ visits.new) }
+        ensures alone { length self.now.rows ≤ 12 → visits.new ≡ visits.old + bits (length self.now.rows) }
         ensures visits { visits.new ≤ visits.old + 2 * bits (length self.now.rows) }
     {
         match &self.form {
@@ -167,6 +173,7 @@ impl Level {
         ensures changed { self.new ≡ record self.old { rows = set_row row.now.stamp request mandated self.old.rows } }
         ensures sound { IsLevel self.new }
         ensures entered { visits.old + 1 ≤ visits.new }
+        ensures alone { length self.old.rows ≤ 12 → visits.new ≡ visits.old + bits (length self.old.rows) }
         ensures visits { visits.new ≤ visits.old + 2 * bits (length self.old.rows) }
     {
         self.total = self.total - row.request + request;
@@ -196,6 +203,7 @@ impl Level {
         ensures made_shelves { spare.new.made_shelves ≡ spare.old.made_shelves }
         ensures sound { IsLevel self.new }
         ensures entered { visits.old + 1 ≤ visits.new }
+        ensures alone { length self.old.rows ≤ 12 → visits.new ≡ visits.old + bits (length self.old.rows + 1) }
         ensures visits { visits.new ≤ visits.old + 2 * bits (length self.old.rows) + 1 }
     {
         self.total += row.request;
@@ -234,7 +242,8 @@ impl Level {
         ensures made_leaves { spare.new.made_leaves ≡ spare.old.made_leaves }
         ensures made_shelves { spare.new.made_shelves ≡ spare.old.made_shelves }
         ensures sound { IsLevel self.new }
-        ensures entered { 0 < length self.old.rows → visits.old + 1 ≤ visits.new }
+        ensures least { visits.old + least_way (length self.old.rows) ≤ visits.new }
+        ensures alone { length self.old.rows ≤ 12 → visits.new ≡ visits.old + bits (length self.old.rows) }
         ensures visits { visits.new ≤ visits.old + 2 * bits (length self.old.rows) }
     {
         let row = take_from(&mut self.form, stamp, spare, visits)?;
@@ -290,7 +299,8 @@ fn take_from(form: &mut Form, stamp: u32, spare: &mut Spare, visits: &mut u32) -
     ensures shelves { spare.new.shelves + (leveled form.new).shelves ≡ spare.old.shelves + (leveled form.old).shelves }
     ensures made_leaves { spare.new.made_leaves ≡ spare.old.made_leaves }
     ensures made_shelves { spare.new.made_shelves ≡ spare.old.made_shelves }
-    ensures entered { 0 < length (leveled form.old).rows → visits.old + 1 ≤ visits.new }
+    ensures least { visits.old + least_way (length (leveled form.old).rows) ≤ visits.new }
+    ensures alone { length (leveled form.old).rows ≤ 12 → visits.new ≡ visits.old + bits (length (leveled form.old).rows) }
     ensures visits { visits.new ≤ visits.old + 2 * bits (length (leveled form.old).rows) }
 {
     match form {

@@ -23,12 +23,13 @@
 //!   use, and as many shelves as they can. So a leaf is always spare. A row that finds its level's one leaf full needs a shelf:
 //!   that level counts among those with 13 rows and has none yet, so a shelf is spare too.
 //! - A promoted row is out for a moment: n - 1 rows need no more than n.
-ghost use Rattle.std.specs.Prelude.{◌≡◌, ℕ, ◌+◌, ◌*◌, ◌<◌, ◌≤◌, [], ◌∷◌, length, replicate, slice_get, slice_set, Some, All, IsSome, IfOk, OnOk, OnErr};
+ghost use Rattle.std.specs.Prelude.{◌≡◌, ℕ, ◌+◌, ◌*◌, ◌<◌, ◌≤◌, [], ◌∷◌, length, replicate, slice_get, slice_set, Some, All, IsSome, IfOk, IfSome, OnOk, OnErr};
 ghost use Rattle.market_types.specs.declared.row.Row.{Row};
 ghost use Rattle.prefix_tree.specs.Rows.{IsNewestFirst, requests, requests_above, first_mandated, row_at, without, set_row};
 ghost use Rattle.prefix_tree.specs.Bits.{bits};
 ghost use Rattle.wide_rows.specs.Leveled.{rows_at, total_rows, with_first, without_at};
 ghost use Rattle.wide_rows.specs.Passed.{with_height};
+ghost use Rattle.wide_rows.specs.Ways.{least_way};
 
 use crate::level::Level;
 use crate::spans::Span;
@@ -41,7 +42,9 @@ use std::marker::Model;
 /// level's rows, newest first, level 1 at index 0.
 ///
 /// A call that searches a level of `n` rows makes at most twice as many visits as `n` has binary digits, and one more where it
-/// puts a row in. The last part of its answer is their number.
+/// puts a row in. The last part of its answer is their number. Up to 12 rows stand in one leaf, so that the number of rows alone
+/// says what a call counts: `alone`. More may stand in two leaves or more, and then a way down to a row is through three nodes,
+/// which count 4 or more: `least`. Only a row that is put in, or changed in the leaf that is looked at first, costs no way down.
 #[derive(Drop)]
 pub struct Levels {
     levels: [Level; 8],
@@ -119,7 +122,8 @@ impl Levels {
     pub fn before(&self, level: usize, stamp: u32) -> (u64, u32)
         requires level { level < 8 }
         ensures exact { result.0 ≡ requests_above stamp (rows_at level self.now) }
-        ensures entered { 0 < length (rows_at level self.now) → 1 ≤ result.1 }
+        ensures least { least_way (length (rows_at level self.now)) ≤ result.1 }
+        ensures alone { length (rows_at level self.now) ≤ 12 → result.1 ≡ bits (length (rows_at level self.now)) }
         ensures visits { result.1 ≤ 2 * bits (length (rows_at level self.now)) }
     {
         let mut visits = 0;
@@ -132,6 +136,8 @@ impl Levels {
         requires level { level < 8 }
         ensures exact { result.0 ≡ slice_get (rows_at level self.now) index }
         ensures entered { 0 < length (rows_at level self.now) → 1 ≤ result.1 }
+        ensures least { IfSome result.0 (λ _. least_way (length (rows_at level self.now)) ≤ result.1) }
+        ensures alone { length (rows_at level self.now) ≤ 12 → result.1 ≡ bits (length (rows_at level self.now)) }
         ensures visits { result.1 ≤ 2 * bits (length (rows_at level self.now)) }
     {
         let mut visits = 0;
@@ -144,6 +150,8 @@ impl Levels {
         requires level { level < 8 }
         ensures exact { result.0 ≡ first_mandated (rows_at level self.now) }
         ensures entered { 0 < length (rows_at level self.now) → 1 ≤ result.1 }
+        ensures least { IfSome result.0 (λ _. least_way (length (rows_at level self.now)) ≤ result.1) }
+        ensures alone { length (rows_at level self.now) ≤ 12 → result.1 ≡ bits (length (rows_at level self.now)) }
         ensures visits { result.1 ≤ 2 * bits (length (rows_at level self.now)) }
     {
         let mut visits = 0;
@@ -170,6 +178,7 @@ impl Levels {
         ensures rows { self.new ≡ slice_set self.old level (set_row row.stamp request mandated (rows_at level self.old)) }
         ensures newest_first { IsNewestFirst (rows_at level self.new) }
         ensures entered { 1 ≤ result }
+        ensures alone { length (rows_at level self.old) ≤ 12 → result ≡ bits (length (rows_at level self.old)) }
         ensures visits { result ≤ 2 * bits (length (rows_at level self.old)) }
     {
         let mut visits = 0;
@@ -187,6 +196,7 @@ impl Levels {
         ensures pushed { OnOk result (self.new ≡ with_first level row self.old) }
         ensures unchanged { OnErr result (self.new ≡ self.old) }
         ensures newest_first { OnOk result (IsNewestFirst (rows_at level self.new)) }
+        ensures alone { length (rows_at level self.old) ≤ 12 → IfOk result (λ visits. visits ≡ bits (length (rows_at level self.old) + 1)) }
         ensures visits { IfOk result (λ visits. (1 ≤ visits) × (visits ≤ 2 * bits (length (rows_at level self.old)) + 1)) }
     {
         self.spare.reserve(alloc, self.rows + 1)?;
@@ -202,7 +212,8 @@ impl Levels {
         ensures taken { result.0 ≡ row_at stamp (rows_at level self.old) }
         ensures rows { self.new ≡ without_at level stamp self.old }
         ensures newest_first { IsNewestFirst (rows_at level self.new) }
-        ensures entered { 0 < length (rows_at level self.old) → 1 ≤ result.1 }
+        ensures least { least_way (length (rows_at level self.old)) ≤ result.1 }
+        ensures alone { length (rows_at level self.old) ≤ 12 → result.1 ≡ bits (length (rows_at level self.old)) }
         ensures visits { result.1 ≤ 2 * bits (length (rows_at level self.old)) }
     {
         let mut visits = 0;
@@ -225,7 +236,9 @@ impl Levels {
             → self.new ≡ with_first to (record row { stamp = newest }) (without_at from stamp self.old) }
         ensures newest_first_from { IsNewestFirst (rows_at from self.new) }
         ensures newest_first_to { IsNewestFirst (rows_at to self.new) }
-        ensures entered { 2 ≤ result }
+        ensures least { least_way (length (rows_at from self.old)) + 1 ≤ result }
+        ensures alone { length (rows_at from self.old) ≤ 12 → length (rows_at to (without_at from stamp self.old)) ≤ 12
+            → result ≡ bits (length (rows_at from self.old)) + bits (length (rows_at to (without_at from stamp self.old)) + 1) }
         ensures visits { result ≤ 2 * bits (length (rows_at from self.old)) + 2 * bits (length (rows_at to (without_at from stamp self.old))) + 1 }
     {
         let mut visits = 0;

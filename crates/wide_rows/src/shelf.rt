@@ -11,7 +11,7 @@
 //!
 //! A visit is one binary digit of the number of keys of a node that is entered: a way down enters the top, a block and a leaf,
 //! which is at most twice the binary digits of the number of rows.
-ghost use Rattle.std.specs.Prelude.{◌≡◌, ℕ, ◌+◌, ◌*◌, ◌/◌, ◌^◌, ◌<◌, ◌≤◌, List, [], ◌∷◌, ◌++◌, length, slice_get, Some, All, IfOk, MatchOption, Box, true, false};
+ghost use Rattle.std.specs.Prelude.{◌≡◌, ℕ, ◌+◌, ◌*◌, ◌/◌, ◌^◌, ◌<◌, ◌≤◌, List, [], ◌∷◌, ◌++◌, length, slice_get, Some, All, IfOk, IfSome, MatchOption, Box, true, false};
 ghost use Rattle.market_types.specs.declared.row.Row.{Row};
 ghost use Rattle.std.specs.Vec.{vec_capacity};
 ghost use Rattle.std.specs.declared.alloc.Global.{Global};
@@ -140,7 +140,7 @@ impl Shelf {
         requires some { 1 < self.now.leaves }
         requires few { visits.old < 2 ^ 31 }
         ensures exact { result ≡ requests_above stamp self.now.rows }
-        ensures entered { visits.old + 1 ≤ visits.new }
+        ensures least { visits.old + 4 ≤ visits.new }
         ensures visits { visits.new ≤ visits.old + 2 * bits (length self.now.rows) }
     {
         let top = &self.storeys.top;
@@ -159,6 +159,7 @@ impl Shelf {
         requires few { visits.old < 2 ^ 31 }
         ensures exact { result ≡ slice_get self.now.rows index }
         ensures entered { visits.old + 1 ≤ visits.new }
+        ensures least { IfSome result (λ _. visits.old + 4 ≤ visits.new) }
         ensures visits { visits.new ≤ visits.old + 2 * bits (length self.now.rows) }
     {
         enter(self.storeys.top.len(), visits);
@@ -177,6 +178,7 @@ impl Shelf {
         requires few { visits.old < 2 ^ 31 }
         ensures exact { result ≡ first_mandated self.now.rows }
         ensures entered { visits.old + 1 ≤ visits.new }
+        ensures least { IfSome result (λ _. visits.old + 4 ≤ visits.new) }
         ensures visits { visits.new ≤ visits.old + 2 * bits (length self.now.rows) }
     {
         enter(self.storeys.top.len(), visits);
@@ -276,7 +278,7 @@ impl Shelf {
         ensures some { 0 < self.new.leaves }
         ensures blank { All (λ (leaf : Box (List Row) Global). leaf.value ≡ []) spare.new.items }
         ensures capacity { vec_capacity spare.new ≡ vec_capacity spare.old }
-        ensures entered { visits.old + 1 ≤ visits.new }
+        ensures least { visits.old + 4 ≤ visits.new }
         ensures visits { visits.new ≤ visits.old + 2 * bits (length self.old.rows) }
     {
         let place = self.storeys.find(&self.leaves, stamp, visits);

@@ -14,7 +14,7 @@ ghost use Rattle.prefix_tree.specs.Bits.{bits};
 ghost use Rattle.prefix_tree.specs.Rows.{requests};
 ghost use Rattle.wide_rows.specs.Joined.{IsAt};
 ghost use Rattle.wide_rows.specs.Shelves.{leaf_at, AreLeaves};
-ghost use Rattle.wide_rows.specs.Storeys.{IsBlock, IsIndexed, IsKnown, WasIndexed, block_at, blocks_for, has_mandated};
+ghost use Rattle.wide_rows.specs.Storeys.{IsBlock, IsIndexed, IsKnown, WasIndexed, block_at, blocks_for, has_mandated, lanes};
 
 use crate::index::{Change, Entry, Index};
 use crate::leaf::Leaf;
@@ -110,7 +110,7 @@ impl Storeys {
         requires some { 0 < length leaves.now.items }
         requires few { visits.old < 2 ^ 31 }
         ensures at { IsAt stamp (leaf_at leaves.now.items) (length leaves.now.items) result }
-        ensures entered { visits.old + 1 ≤ visits.new }
+        ensures counted { visits.new ≡ visits.old + bits (blocks_for (length leaves.now.items)) + bits (lanes (length leaves.now.items) (result / 16)) + bits (length (leaf_at leaves.now.items result)) }
         ensures visits { visits.new ≤ visits.old + bits (blocks_for (length leaves.now.items)) + bits (min 16 (length leaves.now.items)) + 5 }
     {
         enter(self.top.len(), visits);
@@ -137,7 +137,7 @@ impl Storeys {
         requires some { 0 < length leaves.now.items }
         requires few { visits.old < 2 ^ 31 }
         ensures at { IsAt stamp (leaf_at leaves.now.items) (length leaves.now.items) result }
-        ensures entered { visits.old + 1 ≤ visits.new }
+        ensures entered { visits.old + bits (length (leaf_at leaves.now.items result)) ≤ visits.new }
         ensures visits { visits.new ≤ visits.old + bits (blocks_for (length leaves.now.items)) + bits (min 16 (length leaves.now.items)) + 5 }
     {
         if near < leaves.len() {

@@ -47,5 +47,23 @@ returns-then-len-lt-MOST_ROWS-clause-visits c =
     omega (arith, c.len-then-len-lt-MOST_ROWS.ensures.exact, ap length c.deref-then-len-lt-MOST_ROWS.ensures, ap length c.push_newest-then-len-lt-MOST_ROWS.ensures, ap length c.deref_mut-then-len-lt-MOST_ROWS.ensures.value, ap length same) in
     omega (arith, c.enter-then-len-lt-MOST_ROWS.ensures.counted, ap bits more, bits-next (length c.args.self.now.rows))
 
+pub returns-then-len-lt-MOST_ROWS-clause-alone : goal.returns-then-len-lt-MOST_ROWS-clause-alone
+returns-then-len-lt-MOST_ROWS-clause-alone c few =
+    let rows : (leveled c.self.inside.form).rows ≡ c.in-Leaf.leaf.value = ap (λ form. (leveled form).rows) c.in-Leaf.is in
+    let same : c.args.self.now.rows ≡ c.in-Leaf.leaf.value = ap (λ level. level.rows) (sym c.self.view_is) ∙ rows in
+    let more : c.len-then-len-lt-MOST_ROWS.result ≡ length c.args.self.now.rows + 1 =
+    omega (arith, c.len-then-len-lt-MOST_ROWS.ensures.exact, ap length c.deref-then-len-lt-MOST_ROWS.ensures, ap length c.push_newest-then-len-lt-MOST_ROWS.ensures, ap length c.deref_mut-then-len-lt-MOST_ROWS.ensures.value, ap length same) in
+    omega (arith, c.enter-then-len-lt-MOST_ROWS.ensures.counted, ap bits more)
+
+pub returns-else-len-lt-MOST_ROWS-clause-alone : goal.returns-else-len-lt-MOST_ROWS-clause-alone
+returns-else-len-lt-MOST_ROWS-clause-alone c few =
+    let rows : (leveled c.self.inside.form).rows ≡ c.in-Leaf.leaf.value = ap (λ form. (leveled form).rows) c.in-Leaf.is in
+    let same : c.args.self.now.rows ≡ c.in-Leaf.leaf.value = ap (λ level. level.rows) (sym c.self.view_is) ∙ rows in
+    absurd (omega (arith, few, c.if-len-lt-MOST_ROWS.false, c.len.ensures.exact, ap length c.deref.ensures, ap length same))
+
+pub returns-in-Shelf-clause-alone : goal.returns-in-Shelf-clause-alone
+returns-in-Shelf-clause-alone c few =
+    absurd (omega (arith, few, c.self.invariant.sound.boxes.shelves, ap (λ form. (leveled form).shelves) c.in-Shelf.is, ap (λ level. length level.rows) c.self.view_is))
+
 pub returns-in-Shelf-clause-sound : goal.returns-in-Shelf-clause-sound
 returns-in-Shelf-clause-sound c = sound (goal.at.returns-in-Shelf-clause-sound c).After-len-leaves

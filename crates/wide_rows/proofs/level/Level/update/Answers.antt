@@ -1,4 +1,5 @@
-use Rattle.std.proofs.Common.{◌≡◌, ◌+◌, ◌-◌, refl, arith, Some}
+use Rattle.std.proofs.Common.{◌≡◌, ◌+◌, ◌-◌, length, refl, ap, arith, Some}
+use Rattle.prefix_tree.specs.Bits.{bits}
 use Rattle.prefix_tree.specs.Rows.{row_at, set_row}
 use Rattle.prefix_tree.proofs.Updates.{set-requests, request-within}
 use Rattle.wide_rows.specs.Leveled.{IsLevel}
@@ -43,3 +44,17 @@ invariant_of-self c =
 
 pub returns-clause-sound : goal.returns-clause-sound
 returns-clause-sound c = sound c
+
+-- what a leaf counts, where it has all rows
+pub returns-clause-alone : goal.returns-clause-alone
+returns-clause-alone c few =
+    let same : length (leveled c.self.inside.form).rows ≡ length c.args.self.now.rows = ap (λ level. length level.rows) c.self.view_is in
+    elim c.match-self.branch [
+      | in-Empty w ↦
+          let none : length c.args.self.now.rows ≡ 0 = omega (arith, same, ap (λ form. length (leveled form).rows) w.in-Empty.is) in
+          omega (arith, ap bits none, w.visits-is)
+      | in-Leaf w ↦
+          let long : w.len.result ≡ length c.args.self.now.rows = omega (arith, same, w.len.ensures.exact, ap length w.deref.ensures, ap (λ form. length (leveled form).rows) w.in-Leaf.is) in
+          omega (arith, w.enter.ensures.counted, ap bits long, w.visits-is)
+      | in-Shelf w ↦ absurd (omega (arith, few, same, c.self.invariant.sound.boxes.shelves, ap (λ form. (leveled form).shelves) w.in-Shelf.is))
+    ]

@@ -1,10 +1,11 @@
-use Rattle.std.proofs.Common.{◌+◌, ◌*◌, ◌<◌, length, ap, sym, ◌∙◌, arith}
+use Rattle.std.proofs.Common.{◌+◌, ◌*◌, ◌<◌, List, length, ap, sym, ◌∙◌, arith}
 use Rattle.prefix_tree.specs.Rows.{first_mandated}
+use Rattle.market_types.specs.declared.row.Row.{Row}
 use Rattle.prefix_tree.specs.Bits.{bits}
 use Rattle.wide_rows.specs.Shelves.{Shelved, leaf_at}
 use Rattle.wide_rows.specs.Storeys.{block_of, block_rows, lanes, blocks_for}
 use Rattle.wide_rows.proofs.OfShelves.{leaf_there}
-use Rattle.wide_rows.proofs.WayDown.{no_mandate, first_in, no_first_in, in_top, in_block, in_leaf}
+use Rattle.wide_rows.proofs.WayDown.{no_mandate, first_in, no_first_in, in_top, in_block, in_leaf, down_to, if_some}
 use Rattle.wide_rows.proofs.shelf.Shelf.first_mandated.Goals as goal
 
 pub returns-in_err-at-clause-exact : goal.returns-in_err-at-clause-exact
@@ -96,3 +97,29 @@ returns-clause-visits c =
       in_leaf m leaves h d two c.in_ok-at.at c.len-3.result up.0 (omega (arith, c.len-3.ensures.exact, c.len-3.ensures.most)),
       rows,
     )
+
+pub returns-clause-least : goal.returns-clause-least
+returns-clause-least c =
+    let m = c.self.inside.storeys in
+    let leaves = c.self.inside.leaves.items in
+    let h = c.self.invariant.leaves in
+    let d = c.self.invariant.known.indexed (omega (arith, c.requires.some, ap (λ (v : Shelved). v.leaves) c.self.view_is)) in
+    let r = leaf_at leaves in
+    let n = length leaves in
+    let b = c.in_ok-at.at in
+    let k = b * 16 + c.in_ok-place.place in
+    let up = c.in_ok-at.ensures (block_rows r) (blocks_for n) d.top in
+    let inner = c.in_ok-place.ensures (block_of r b) (lanes n b) (d.blocks b (omega (arith, up.0, d.room))).storey in
+    let there : k < length leaves = omega (arith, inner.0) in
+    let leaf = leaf_there leaves k c.index-leaf.result.now c.index-leaf.result.now there c.index-leaf.ensures in
+    let two : 1 < length leaves = omega (arith, c.requires.some, ap (λ (v : Shelved). v.leaves) c.self.view_is) in
+    let some : 0 < c.len-3.result = omega (arith, c.len-3.ensures.exact, ap (λ (rows : List Row). length rows) (c.deref.ensures ∙ leaf), h.some k there) in
+    if_some c.first_mandated.result (omega (
+      arith,
+      c.enter.ensures.counted,
+      c.enter-2.ensures.counted,
+      c.enter-3.ensures.counted,
+      ap bits c.len.ensures,
+      ap bits c.len-2.ensures,
+      down_to m leaves h d two b c.len-3.result up.0 some,
+    ))

@@ -9,7 +9,7 @@ use Rattle.prefix_tree.specs.Bits.{bits}
 use Rattle.market_types.specs.declared.row.Row.{Row}
 use Rattle.wide_rows.specs.Shelves.{Shelved, leaf_at}
 use Rattle.wide_rows.proofs.OfShelves.{leaf_there}
-use Rattle.wide_rows.proofs.WayDown.{way_down}
+use Rattle.wide_rows.proofs.WayDown.{way_down, down_at}
 use Rattle.wide_rows.proofs.Edits.{was_put, found_here, rows_without, change_take}
 use Rattle.wide_rows.proofs.TwoStoreys.{beyond, known}
 use Rattle.wide_rows.proofs.Fewer.{leaves_alone, leaves_merged, kept_merged, rows_merged, newest_pair, leaves_same, indexed_same}
@@ -61,6 +61,30 @@ returns-in_err-row-clause-rows c =
     let leaf : c.deref_mut.result.now ≡ leaf_at xs i = c.deref_mut.ensures.value ∙ leaf_there xs i c.index_mut.result.now c.index_mut.result.now there c.index_mut.ensures.value in
     let is : b.value ≡ without s (leaf_at xs i) = c.take.ensures.rows ∙ ap (without s) leaf in
     rows_without xs h i b there s at is ∙ ap (λ (v : Shelved). without s v.rows) c.self.view_is
+
+pub returns-in_err-row-clause-least : goal.returns-in_err-row-clause-least
+returns-in_err-row-clause-least c =
+    omega (
+      arith,
+      c.find-place.ensures.counted,
+      down_at c.self.inside.storeys c.self.inside.leaves.items c.self.invariant.leaves (c.self.invariant.known.indexed (omega (arith, c.requires.some, ap (λ (v : Shelved). v.leaves) c.self.view_is))) (omega (arith, c.requires.some, ap (λ (v : Shelved). v.leaves) c.self.view_is)) c.find-place.result c.find-place.ensures.at.there,
+    )
+
+pub returns-in-Some-clause-least : goal.returns-in-Some-clause-least
+returns-in-Some-clause-least c =
+    omega (
+      arith,
+      c.find-place.ensures.counted,
+      down_at c.self.inside.storeys c.self.inside.leaves.items c.self.invariant.leaves (c.self.invariant.known.indexed (omega (arith, c.requires.some, ap (λ (v : Shelved). v.leaves) c.self.view_is))) (omega (arith, c.requires.some, ap (λ (v : Shelved). v.leaves) c.self.view_is)) c.find-place.result c.find-place.ensures.at.there,
+    )
+
+pub returns-in-None-clause-least : goal.returns-in-None-clause-least
+returns-in-None-clause-least c =
+    omega (
+      arith,
+      c.find-place.ensures.counted,
+      down_at c.self.inside.storeys c.self.inside.leaves.items c.self.invariant.leaves (c.self.invariant.known.indexed (omega (arith, c.requires.some, ap (λ (v : Shelved). v.leaves) c.self.view_is))) (omega (arith, c.requires.some, ap (λ (v : Shelved). v.leaves) c.self.view_is)) c.find-place.result c.find-place.ensures.at.there,
+    )
 
 pub returns-in_err-row-clause-visits : goal.returns-in_err-row-clause-visits
 returns-in_err-row-clause-visits c =

@@ -3,8 +3,9 @@ use Rattle.std.proofs.Common.{◌≡◌, Some, length, ap, ◌∙◌, arith}
 use Rattle.std.proofs.lemmas.List.{length-set}
 use Rattle.prefix_tree.specs.Rows.{row_at, set_row}
 use Rattle.prefix_tree.specs.Bits.{bits}
-use Rattle.wide_rows.specs.Shelves.{Shelved, rows_of}
+use Rattle.wide_rows.specs.Shelves.{Shelved, rows_of, leaf_at}
 use Rattle.wide_rows.proofs.OfShelves.{leaf_there}
+use Rattle.wide_rows.proofs.NodeDigits.{bits-some}
 use Rattle.wide_rows.proofs.WayDown.{way_down}
 use Rattle.wide_rows.proofs.Edits.{was_put, rows_set, leaves_set, change_set}
 use Rattle.wide_rows.proofs.TwoStoreys.{known}
@@ -59,6 +60,12 @@ returns-clause-changed c =
     let rows = rows_set xs h i b at.there s at q w c.requires.request c.args.row.now found is ∙ ap (λ (v : Shelved). set_row s q w v.rows) c.self.view_is in
     let count = length-set xs i b ∙ ap (λ (v : Shelved). v.leaves) c.self.view_is in
     λ k. record { rows = rows k; leaves = count k }
+
+pub returns-clause-entered : goal.returns-clause-entered
+returns-clause-entered c =
+    let leaves = c.self.inside.leaves.items in
+    let k = c.find_near-place.result in
+    omega (arith, c.find_near-place.ensures.entered, bits-some (length (leaf_at leaves k)) (c.self.invariant.leaves.some k c.find_near-place.ensures.at.there))
 
 pub returns-clause-visits : goal.returns-clause-visits
 returns-clause-visits c =

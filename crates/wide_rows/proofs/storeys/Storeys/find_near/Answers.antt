@@ -1,7 +1,8 @@
 use Rattle.std.proofs.Common.{length, ap, ◌∙◌, arith}
 use Rattle.market_types.specs.declared.row.Row.{Row}
 use Rattle.std.proofs.Common.{List}
-use Rattle.wide_rows.proofs.Counted.{bits-ge, bits-le}
+use Rattle.prefix_tree.specs.Bits.{bits}
+use Rattle.wide_rows.proofs.Counted.{bits-le}
 use Rattle.wide_rows.proofs.OfShelves.{leaf_there, in_leaf}
 use Rattle.wide_rows.proofs.storeys.Storeys.find_near.Goals as goal
 
@@ -18,7 +19,7 @@ returns-then-spans-clause-at c =
 pub returns-then-spans-clause-entered : goal.returns-then-spans-clause-entered
 returns-then-spans-clause-entered c =
     let there = leaf_there c.args.leaves.now.items c.args.near c.index-leaf.result.now c.index-leaf.result.now (omega (arith, c.if-near-len.true, c.len.ensures)) c.index-leaf.ensures in
-    omega (arith, c.enter.ensures.counted, bits-ge 0 c.len-then-spans.result (omega (arith, c.len-then-spans.ensures.exact, ap (λ (rows : List Row). length rows) (c.deref-then-spans.ensures ∙ there), c.requires.leaves.some c.args.near (omega (arith, c.if-near-len.true, c.len.ensures)))))
+    omega (arith, c.enter.ensures.counted, ap bits c.len-then-spans.ensures.exact, ap (λ (rows : List Row). bits (length rows)) (c.deref-then-spans.ensures ∙ there))
 
 pub returns-then-spans-clause-visits : goal.returns-then-spans-clause-visits
 returns-then-spans-clause-visits c = omega (arith, c.enter.ensures.counted, bits-le 5 c.len-then-spans.result (omega (arith, c.len-then-spans.ensures.most, c.len-then-spans.ensures.exact)))
