@@ -1,5 +1,5 @@
 -- What the store keeps, through each change.
-use Rattle.std.proofs.Common.{◌≡◌, ◌≢◌, ℕ, suc, ◌+◌, ◌-◌, ◌*◌, ◌<◌, ◌≤◌, true, false, cond, eqb, ltb, not, List, [], ◌∷◌, ◌++◌, length, get_or, set, take, drop, Option, Some, None, refl, sym, ap, ◌∙◌, arith, inl, inr, length-append, Bool}
+use Rattle.std.proofs.Common.{◌≡◌, ◌≢◌, ℕ, suc, ◌+◌, ◌-◌, ◌*◌, ◌<◌, ◌≤◌, true, false, cond, ltb, not, List, [], ◌∷◌, ◌++◌, length, get_or, set, take, drop, Option, Some, None, refl, sym, ap, ◌∙◌, arith, inl, inr, length-append}
 use Rattle.std.specs.List.{All, find, remove, sum_by, count_by, list_any}
 use Rattle.std.specs.Option.{option_map}
 use Rattle.std.proofs.lemmas.Bool.{cases_eq, cases_Bool, eq-eqb, ne_eqb, lt-ltb}
@@ -21,6 +21,7 @@ use Rattle.arena_store.proofs.Found.{Found, found-at, found-matches, found-level
 use Rattle.prefix_tree.specs.Bits.{bits}
 use Rattle.prefix_tree.specs.Rows.{row_at, set_row, without as without_row}
 use Rattle.wide_rows.specs.Leveled.{rows_at, total_rows, with_first, without_at}
+use Rattle.wide_rows.specs.Ways.{least_way}
 use Rattle.arena_store.proofs.Digits.{bits-more, bits-few}
 use Rattle.arena_store.proofs.ByNumber.{table-found, table-claimed, table-removed, table-promoted, table-pushed, rising-set, apart-by_stamp, newest-with_claim, newest-without, newest-cons}
 
@@ -163,11 +164,6 @@ stored-pushed xs lists n x index m h room older last level p f =
 pub view-pushed : (xs : List Arena) (x : Arena) → All (IsOlder x.stamp) (by_stamp xs) → by_stamp (xs ++ x ∷ []) ≡ x ∷ by_stamp xs
 view-pushed xs x older = table-pushed xs x (by_stamp-All (IsOlder x.stamp) xs older)
 
--- a list in which something is found is not empty
-found-some : {X : Type 0} (p : X → Bool) (xs : List X) (x : X) → find p xs ≡ Some x → 0 < length xs
-found-some {X} p [] x e = absurd (cc)
-found-some {X} p (y ∷ xs) x e = omega arith
-
 -- ---- an arena at an index
 
 module _ (xs : List Arena) (lists : List (List Row)) (n i : ℕ) (x : Arena) (h : IsStored xs lists n) (within : i < length xs) (e : x ≡ get_or xs i x) where
@@ -184,10 +180,6 @@ module _ (xs : List Arena) (lists : List (List Row)) (n i : ℕ) (x : Arena) (h 
       ap (λ k. row_at x.stamp (rows_at k lists)) p
       ∙ ap (row_at x.stamp) (h.listed.rows x.level [] level.0 level.1)
       ∙ level_row-at x.number x.stamp (by_stamp xs) x (found-matches x.number x (by_stamp xs) found-here) (table-found xs i x h.by_number within e)
-
-  -- so that list is not empty
-  pub some-here : (index : ℕ) → index ≡ x.level - 1 → 0 < length (rows_at index lists)
-  some-here index p = found-some (λ (r : Row). eqb r.stamp x.stamp) (rows_at index lists) (level_row x) (row-here index p)
 
   -- it is counted if it has enqueued work
   pub counted-within : cond (has_work x) 1 0 ≤ n
@@ -287,6 +279,17 @@ module _ (xs : List Arena) (lists : List (List Row)) (n i : ℕ) (x : Arena) (h 
         let less : length (rows_at to (without_at from x.stamp lists)) ≤ length (by_stamp xs) = omega (arith, ap length there, length-level_rows y.level (without x.number (by_stamp xs)), size) in
         omega (arith, k, bits-more (length (rows_at from lists)) (length (by_stamp xs)) part, bits-more (length (rows_at to (without_at from x.stamp lists))) (length (by_stamp xs)) less)
 
+    -- what is counted for both lists, by the arenas of their levels
+    pub promoted-alone : (v : ℕ) → (length (rows_at from lists) ≤ 12 → length (rows_at to (without_at from x.stamp lists)) ≤ 12 → v ≡ bits (length (rows_at from lists)) + bits (length (rows_at to (without_at from x.stamp lists)) + 1))
+        → length (at_level x.level (by_stamp xs)) ≤ 12 → length (at_level y.level (without x.number (by_stamp xs))) ≤ 12
+        → v ≡ bits (length (at_level x.level (by_stamp xs))) + bits (length (at_level y.level (without x.number (by_stamp xs))) + 1)
+    promoted-alone v k few less =
+        let own = level-here in
+        let here : rows_at from lists ≡ level_rows x.level (by_stamp xs) = ap (λ j. get_or lists j []) p ∙ h.listed.rows x.level [] own.0 own.1 in
+        let long : length (rows_at from lists) ≡ length (at_level x.level (by_stamp xs)) = ap length here ∙ length-map (at_level x.level (by_stamp xs)) level_row in
+        let longer : length (rows_at to (without_at from x.stamp lists)) ≡ length (at_level y.level (without x.number (by_stamp xs))) = ap length there ∙ length-map (at_level y.level (without x.number (by_stamp xs))) level_row in
+        k (omega (arith, few, long)) (omega (arith, less, longer)) ∙ ap (λ n. bits n + bits (length (rows_at to (without_at from x.stamp lists)) + 1)) long ∙ ap (λ n. bits (length (at_level x.level (by_stamp xs))) + bits (n + 1)) longer
+
     pub stored-promoted : y.number ≡ x.number → y.claim ≡ x.claim → IsStored (set xs i y) (with_first to (level_row y) (without_at from x.stamp lists)) n
     stored-promoted number claim =
         let sorted = view-promoted y older in
@@ -320,6 +323,20 @@ module _ (xs : List Arena) (lists : List (List Row)) (n : ℕ) (h : IsStored xs 
   -- where the level has arenas its list is entered
   pub list-entered : (v : ℕ) → (0 < length (rows_at index lists) → 1 ≤ v) → 0 < length (at_level level (by_stamp xs)) → 1 ≤ v
   list-entered v e some = e (rw list-at (omega (arith, length-map (at_level level (by_stamp xs)) level_row)))
+
+  -- it is as long as the level
+  pub list-long : length (rows_at index lists) ≡ length (at_level level (by_stamp xs))
+  list-long = ap length list-at ∙ length-map (at_level level (by_stamp xs)) level_row
+
+  -- so a visit to it counts what the level's arenas say
+  pub list-least : (more v : ℕ) → least_way (length (rows_at index lists)) + more ≤ v → least_way (length (at_level level (by_stamp xs))) + more ≤ v
+  list-least more v e = omega (arith, e, ap bits list-long)
+
+  pub list-alone : (v : ℕ) → (length (rows_at index lists) ≤ 12 → v ≡ bits (length (rows_at index lists))) → length (at_level level (by_stamp xs)) ≤ 12 → v ≡ bits (length (at_level level (by_stamp xs)))
+  list-alone v e few = e (omega (arith, few, list-long)) ∙ ap bits list-long
+
+  pub list-put : (v : ℕ) → (length (rows_at index lists) ≤ 12 → v ≡ bits (length (rows_at index lists) + 1)) → length (at_level level (by_stamp xs)) ≤ 12 → v ≡ bits (length (at_level level (by_stamp xs)) + 1)
+  list-put v e few = e (omega (arith, few, list-long)) ∙ ap (λ k. bits (k + 1)) list-long
 
   pub list-newest : (t : ℕ) → All (IsOlder t) (by_stamp xs) → All (λ (r : Row). r.stamp < t) (rows_at index lists)
   list-newest t older = rw list-at (level_rows-older level t (by_stamp xs) older)

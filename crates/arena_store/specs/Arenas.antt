@@ -1,5 +1,5 @@
 -- Lists of arenas, the greatest stamp first, and what a level's list keeps of an arena (own).
-use Rattle.std.specs.Prelude.{◌≡◌, ℕ, ◌≤◌, ◌==◌, Bool, false, nat_lt, List, ◌∷◌, ◌++◌, take, map, Some, slice_get}
+use Rattle.std.specs.Prelude.{◌≡◌, ℕ, ◌≤◌, ◌==◌, Bool, false, nat_lt, List, ◌∷◌, ◌++◌, take, map, length, Option, Some, None, slice_get}
 use Rattle.std.specs.List.{All, filter, count_by}
 use Rattle.market_types.specs.declared.row.Row.{Row}
 use Rattle.market_types.specs.State.{Arena}
@@ -53,3 +53,12 @@ level_row a =
 -- a level's list
 abbrev pub level_rows : ℕ → List Arena → List Row
 level_rows level arenas = map level_row (at_level level arenas)
+
+-- how many arenas stand at the level of one of them, if there is one
+abbrev pub len_beside : Option Arena → List Arena → ℕ
+len_beside None arenas = 0
+len_beside (Some a) arenas = length (at_level a.level arenas)
+
+-- how many arenas stand at the level of the one with this number, itself counted
+abbrev pub beside : ℕ → List Arena → ℕ
+beside n arenas = len_beside (arena_at n arenas) arenas

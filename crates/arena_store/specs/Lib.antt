@@ -1,4 +1,5 @@
 pub use Rattle.prefix_tree.specs.Bits
+pub use Rattle.wide_rows.specs.Ways
 pub mod Arenas
 pub mod Changed
 pub mod Held

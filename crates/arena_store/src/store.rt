@@ -5,10 +5,11 @@ ghost use Rattle.market_types.specs.State.{Arena};
 ghost use Rattle.market_types.specs.Claims.{is_mandated};
 ghost use Rattle.market_types.specs.Allotment.{total_request, at_level, has_mandatory};
 ghost use Rattle.market_types.specs.Step.{arena_at, with_claim, without};
-ghost use Rattle.arena_store.specs.Arenas.{StandOnce, newer, level_rows};
+ghost use Rattle.arena_store.specs.Arenas.{StandOnce, newer, level_rows, beside};
 ghost use Rattle.arena_store.specs.Changed.{changed_at};
 ghost use Rattle.prefix_tree.specs.Bits.{bits};
 ghost use Rattle.prefix_tree.specs.Rows.{requests};
+ghost use Rattle.wide_rows.specs.Ways.{least_way};
 
 use crate::change::Change;
 use crate::stored_arena::StoredArena;
@@ -102,7 +103,8 @@ impl Arenas {
     /// What the arenas of a level ask for that are newer than this stamp.
     pub fn before(&self, level: Level, stamp: u32) -> (u64, u32)
         ensures exact { result.0 ≡ total_request (at_level level (newer stamp self.now)) }
-        ensures entered { 0 < length (at_level level self.now) → 1 ≤ result.1 }
+        ensures least { least_way (length (at_level level self.now)) ≤ result.1 }
+        ensures alone { length (at_level level self.now) ≤ 12 → result.1 ≡ bits (length (at_level level self.now)) }
         ensures visits { result.1 ≤ 2 * bits (length self.now) }
         ensures few { result.1 ≤ 22 }
     {
@@ -128,6 +130,8 @@ impl Arenas {
         ensures exact { result.0
             ≡ option_map (λ (a : Arena). a.number) (find (λ (a : Arena). is_mandated a.claim) (at_level level self.now)) }
         ensures entered { 0 < length (at_level level self.now) → 1 ≤ result.1 }
+        ensures least { IfSome result.0 (λ _. least_way (length (at_level level self.now)) ≤ result.1) }
+        ensures alone { length (at_level level self.now) ≤ 12 → result.1 ≡ bits (length (at_level level self.now)) }
         ensures visits { result.1 ≤ 2 * bits (length self.now) }
         ensures few { result.1 ≤ 22 }
     {
@@ -167,6 +171,7 @@ impl Arenas {
         ensures pushed { OnOk result (self.new ≡ arena ∷ self.old) }
         ensures unchanged { OnErr result (self.new ≡ self.old) }
         ensures entered { IfOk result (λ visits. 1 ≤ visits) }
+        ensures alone { length (at_level arena.level self.old) ≤ 12 → IfOk result (λ visits. visits ≡ bits (length (at_level arena.level self.old) + 1)) }
         ensures visits { IfOk result (λ visits. visits ≤ 2 * bits (length self.old) + 1) }
     {
         self.table.reserve()?;
@@ -184,6 +189,7 @@ impl Arenas {
         ensures fault { IfErr result (λ fault. changed_at (arena_at arena self.old) change ≡ Err fault) }
         ensures unchanged { OnErr result (self.new ≡ self.old) }
         ensures entered { IfOk result (λ done. 1 ≤ done.1) }
+        ensures alone { beside arena self.old ≤ 12 → IfOk result (λ done. done.1 ≡ bits (beside arena self.old)) }
         ensures visits { IfOk result (λ done. done.1 ≤ 2 * bits (length self.old)) }
     {
         let Some(place) = self.table.place_to_change(arena) else {
@@ -209,7 +215,8 @@ impl Arenas {
         ensures there { OnSome result (IsSome (arena_at arena self.old)) }
         ensures missing { IfNone result (arena_at arena self.old ≡ None) }
         ensures unchanged { IfNone result (self.new ≡ self.old) }
-        ensures entered { IfSome result (λ visits. 1 ≤ visits) }
+        ensures least { IfSome result (λ visits. least_way (beside arena self.old) ≤ visits) }
+        ensures alone { beside arena self.old ≤ 12 → IfSome result (λ visits. visits ≡ bits (beside arena self.old)) }
         ensures visits { IfSome result (λ visits. visits ≤ 2 * bits (length self.old)) }
     {
         let index = self.table.index_of(arena)?;
@@ -227,7 +234,9 @@ impl Arenas {
             → self.new ≡ record a { stamp = stamp; level = level } ∷ without a.number self.old }
         ensures missing { IfNone result (arena_at arena self.old ≡ None) }
         ensures unchanged { IfNone result (self.new ≡ self.old) }
-        ensures entered { IfSome result (λ visits. 2 ≤ visits) }
+        ensures least { IfSome result (λ visits. least_way (beside arena self.old) + 1 ≤ visits) }
+        ensures alone { beside arena self.old ≤ 12 → length (at_level level (without arena self.old)) ≤ 12
+            → IfSome result (λ visits. visits ≡ bits (beside arena self.old) + bits (length (at_level level (without arena self.old)) + 1)) }
         ensures visits { IfSome result (λ visits. visits ≤ 4 * bits (length self.old) + 1) }
     {
         let place = self.table.place_to_change(arena)?;

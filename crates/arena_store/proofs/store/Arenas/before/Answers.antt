@@ -1,7 +1,7 @@
 use Rattle.std.proofs.Common.{arith, ap, ◌∙◌, ◌≡◌, ◌-◌}
 use Rattle.prefix_tree.specs.Rows.{requests_above}
 use Rattle.arena_store.proofs.LevelRows.{level_rows-before}
-use Rattle.arena_store.proofs.Stored.{list-at, list-entered, list-visits, all-visits}
+use Rattle.arena_store.proofs.Stored.{list-at, list-least, list-alone, list-visits, all-visits}
 use Rattle.arena_store.proofs.store.Arenas.before.Goals as goal
 
 pub returns-clause-exact : goal.returns-clause-exact
@@ -24,8 +24,15 @@ returns-clause-few c =
     let index : c.index.result ≡ c.args.level - 1 = omega arith in
     omega (arith, all-visits s.table.arenas s.lists s.enqueued c.self.invariant, list-visits s.table.arenas s.lists s.enqueued c.self.invariant c.args.level c.index.result (omega arith) (omega arith) index c.before-2.result.1 c.before-2.ensures.visits)
 
-pub returns-clause-entered : goal.returns-clause-entered
-returns-clause-entered c =
+pub returns-clause-least : goal.returns-clause-least
+returns-clause-least c =
     let s = c.self.inside in
     let index : c.index.result ≡ c.args.level - 1 = omega arith in
-    rw (← c.self.view_is) (list-entered s.table.arenas s.lists s.enqueued c.self.invariant c.args.level c.index.result (omega arith) (omega arith) index c.before-2.result.1 c.before-2.ensures.entered)
+    let least = list-least s.table.arenas s.lists s.enqueued c.self.invariant c.args.level c.index.result (omega arith) (omega arith) index 0 c.before-2.result.1 (omega (arith, c.before-2.ensures.least)) in
+    rw (← c.self.view_is) (omega (arith, least))
+
+pub returns-clause-alone : goal.returns-clause-alone
+returns-clause-alone c =
+    let s = c.self.inside in
+    let index : c.index.result ≡ c.args.level - 1 = omega arith in
+    rw (← c.self.view_is) (list-alone s.table.arenas s.lists s.enqueued c.self.invariant c.args.level c.index.result (omega arith) (omega arith) index c.before-2.result.1 c.before-2.ensures.alone)

@@ -1,9 +1,12 @@
-use Rattle.std.proofs.Common.{arith, sym, ap, ◌∙◌, ◌-◌, ◌≤◌, ◌*◌, length, ◌≡◌}
+use Rattle.std.specs.Prelude.{IfSome}
+use Rattle.std.proofs.Common.{arith, sym, ap, subst, ◌∙◌, ◌-◌, ◌≤◌, ◌*◌, length, Option, ◌≡◌}
 use Rattle.std.specs.Option.{option_map}
 use Rattle.prefix_tree.specs.Bits.{bits}
 use Rattle.market_types.specs.declared.row.Row.{Row}
+use Rattle.wide_rows.specs.Leveled.{rows_at}
+use Rattle.wide_rows.specs.Ways.{least_way}
 use Rattle.arena_store.specs.Store.{by_stamp}
-use Rattle.arena_store.proofs.Stored.{list-mandated, list-entered, list-visits, all-visits}
+use Rattle.arena_store.proofs.Stored.{list-mandated, list-entered, list-least, list-alone, list-visits, all-visits}
 use Rattle.arena_store.proofs.store.Arenas.first_mandated.Goals as goal
 
 pub returns-in-Some : goal.returns-in-Some
@@ -12,9 +15,14 @@ returns-in-Some c =
     let index : c.index.result ≡ c.args.level - 1 = omega arith in
     let visits : c.first_mandated-row.result.1 ≤ 2 * bits (length (by_stamp s.table.arenas)) =
     list-visits s.table.arenas s.lists s.enqueued c.self.invariant c.args.level c.index.result (omega arith) (omega arith) index c.first_mandated-row.result.1 c.first_mandated-row.ensures.visits in
+    let found : least_way (length (rows_at c.index.result s.lists)) ≤ c.first_mandated-row.result.1 =
+    subst (λ (o : Option Row). IfSome o (λ _. least_way (length (rows_at c.index.result s.lists)) ≤ c.first_mandated-row.result.1)) c.in-Some.is c.first_mandated-row.ensures.least in
+    let least = list-least s.table.arenas s.lists s.enqueued c.self.invariant c.args.level c.index.result (omega arith) (omega arith) index 0 c.first_mandated-row.result.1 (omega (arith, found)) in
     rw (← c.self.view_is) (record {
       exact = ap (option_map (λ (r : Row). r.arena)) (sym c.in-Some.is) ∙ list-mandated s.table.arenas s.lists s.enqueued c.self.invariant c.args.level c.index.result (omega arith) (omega arith) index c.first_mandated-row.result.0 c.first_mandated-row.ensures.exact;
       entered = list-entered s.table.arenas s.lists s.enqueued c.self.invariant c.args.level c.index.result (omega arith) (omega arith) index c.first_mandated-row.result.1 c.first_mandated-row.ensures.entered;
+      least = omega (arith, least);
+      alone = list-alone s.table.arenas s.lists s.enqueued c.self.invariant c.args.level c.index.result (omega arith) (omega arith) index c.first_mandated-row.result.1 c.first_mandated-row.ensures.alone;
       visits = visits;
       few = omega (arith, visits, all-visits s.table.arenas s.lists s.enqueued c.self.invariant);
     })
@@ -28,6 +36,8 @@ returns-in-None c =
     rw (← c.self.view_is) (record {
       exact = ap (option_map (λ (r : Row). r.arena)) (sym c.in-None.is) ∙ list-mandated s.table.arenas s.lists s.enqueued c.self.invariant c.args.level c.index.result (omega arith) (omega arith) index c.first_mandated-row.result.0 c.first_mandated-row.ensures.exact;
       entered = list-entered s.table.arenas s.lists s.enqueued c.self.invariant c.args.level c.index.result (omega arith) (omega arith) index c.first_mandated-row.result.1 c.first_mandated-row.ensures.entered;
+      least = tt;
+      alone = list-alone s.table.arenas s.lists s.enqueued c.self.invariant c.args.level c.index.result (omega arith) (omega arith) index c.first_mandated-row.result.1 c.first_mandated-row.ensures.alone;
       visits = visits;
       few = omega (arith, visits, all-visits s.table.arenas s.lists s.enqueued c.self.invariant);
     })

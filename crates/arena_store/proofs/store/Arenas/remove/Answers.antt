@@ -3,7 +3,7 @@ use Rattle.wide_rows.specs.Leveled.{without_at}
 use Rattle.market_types.specs.State.{Claim, Arena}
 use Rattle.market_types.specs.Step.{arena_at, without}
 use Rattle.arena_store.specs.Store.{by_stamp}
-use Rattle.arena_store.proofs.Stored.{removed-missing, missing-by_stamp, found-by_stamp, some-here, level-here, counted-within, view-removed, stored-removed, list-visits}
+use Rattle.arena_store.proofs.Stored.{removed-missing, missing-by_stamp, found-by_stamp, level-here, counted-within, view-removed, stored-removed, list-visits, list-least, list-alone}
 use Rattle.arena_store.proofs.store.Arenas.remove.Goals as goal
 
 pub returns-in_err-index-clause-exact : goal.returns-in_err-index-clause-exact
@@ -58,10 +58,25 @@ returns-clause-visits c =
     let within = level-here s.table.arenas s.lists s.enqueued c.in_ok-index.index x c.self.invariant there c.remove-old.ensures.value in
     rw (← c.self.view_is) (list-visits s.table.arenas s.lists s.enqueued c.self.invariant x.level c.index.result within.0 within.1 level c.take-taken.result.1 c.take-taken.ensures.visits)
 
-pub returns-clause-entered : goal.returns-clause-entered
-returns-clause-entered c =
+pub returns-clause-least : goal.returns-clause-least
+returns-clause-least c =
     let s = c.self.inside in
     let x = c.remove-old.result in
     let there = c.in_ok-index.ensures.there in
+    let found = c.in_ok-index.ensures.found in
+    let here : arena_at c.args.arena (by_stamp s.table.arenas) ≡ Some x = found-by_stamp c.args.arena c.in_ok-index.index s.table.arenas x c.self.invariant.by_number there c.remove-old.ensures.value found in
     let level : c.index.result ≡ x.level - 1 = omega (arith, c.level.ensures) in
-    c.take-taken.ensures.entered (some-here s.table.arenas s.lists s.enqueued c.in_ok-index.index x c.self.invariant there c.remove-old.ensures.value c.index.result level)
+    let within = level-here s.table.arenas s.lists s.enqueued c.in_ok-index.index x c.self.invariant there c.remove-old.ensures.value in
+    let least = list-least s.table.arenas s.lists s.enqueued c.self.invariant x.level c.index.result within.0 within.1 level 0 c.take-taken.result.1 (omega (arith, c.take-taken.ensures.least)) in
+    rw (← c.self.view_is, here) (omega (arith, least))
+
+pub returns-clause-alone : goal.returns-clause-alone
+returns-clause-alone c =
+    let s = c.self.inside in
+    let x = c.remove-old.result in
+    let there = c.in_ok-index.ensures.there in
+    let found = c.in_ok-index.ensures.found in
+    let here : arena_at c.args.arena (by_stamp s.table.arenas) ≡ Some x = found-by_stamp c.args.arena c.in_ok-index.index s.table.arenas x c.self.invariant.by_number there c.remove-old.ensures.value found in
+    let level : c.index.result ≡ x.level - 1 = omega (arith, c.level.ensures) in
+    let within = level-here s.table.arenas s.lists s.enqueued c.in_ok-index.index x c.self.invariant there c.remove-old.ensures.value in
+    rw (← c.self.view_is, here) (list-alone s.table.arenas s.lists s.enqueued c.self.invariant x.level c.index.result within.0 within.1 level c.take-taken.result.1 c.take-taken.ensures.alone)
