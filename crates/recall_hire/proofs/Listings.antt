@@ -1,5 +1,5 @@
 -- What a walk over a level's rows lists.
-use Rattle.std.proofs.Common.{◌≡◌, ℕ, ◌+◌, ◌*◌, ◌^◌, ◌<◌, ◌≤◌, max, List, [], ◌∷◌, ◌++◌, map, length, length-append, append-nil, Option, None, refl, sym, ap, subst, ◌∙◌, arith, inl, inr, append_assoc}
+use Rattle.std.proofs.Common.{◌≡◌, ℕ, ◌+◌, ◌-◌, ◌*◌, ◌^◌, ◌<◌, ◌≤◌, max, true, false, cond, eqb, List, [], ◌∷◌, ◌++◌, map, length, length-append, append-nil, Option, None, refl, sym, ap, subst, ◌∙◌, arith, inl, inr, append_assoc}
 use Rattle.std.specs.Prelude.{nat_lt}
 use Rattle.std.specs.List.{filter, count_by}
 use Rattle.std.proofs.lemmas.Bool.{cases_eq, cases_lt, lt-ltb, le-ltb, eq-eqb, ne_eqb}
@@ -15,7 +15,7 @@ use Rattle.wide_rows.specs.Passed.{IsPassed}
 use Rattle.recall_hire.specs.declared.rows.Staffing.{Staffing}
 use Rattle.recall_hire.specs.declared.sharing.Sharing.{Sharing}
 use Rattle.recall_hire.specs.declared.sharing.Sharing.TheVariants.{Carried, Picked}
-use Rattle.recall_hire.specs.Staffed.{recall_in, hire_in, above_zero_in, counts_in, imbalances, actives}
+use Rattle.recall_hire.specs.Staffed.{recall_in, hire_in, above_zero_in, counts_in, imbalances, looks, actives}
 use Rattle.recall_hire.specs.Shared.{CanShareAll, IsListed, IsLow, IsOver, IsWalk, row_share, row_carry, staffed, carry_after}
 use Rattle.recall_hire.proofs.Shares.{share-below, carry-below, staffed-append, carry-append}
 
@@ -105,11 +105,37 @@ listed-once r =
       ]
     ]
 
+-- at most one look for each
+looks-once : (u : ℕ) (r : Staffing) → looks u (r ∷ []) ≤ 1
+looks-once u r = elim (eqb (r.allotted + u) 0) as (λ b. 0 + cond b 0 1 ≤ 1) [ true ↦ omega arith | false ↦ omega arith ]
+
+-- the looks at two parts
+pub looks-append : (u : ℕ) (xs ys : List Staffing) → looks u (xs ++ ys) ≡ looks u xs + looks (u - actives xs) ys
+looks-append u [] ys = omega (arith, ap (λ n. looks n ys) (let all : u - 0 ≡ u = omega arith in all))
+looks-append u (r ∷ xs) ys =
+    let later = looks-append (u - r.active) xs ys in
+    let same : u - r.active - actives xs ≡ u - actives (r ∷ xs) = omega (arith, sum_by-cons (λ (s : Staffing). s.active) r xs) in
+    omega (arith, later, ap (λ n. looks n ys) same)
+
+-- none where nobody is allotted a worker and all seats are met
+looks-nothing : (u : ℕ) (rows : List Staffing) → u ≡ 0 → counts_in rows ≡ record { recalls = []; hires = [] } → actives rows ≡ 0 → looks u rows ≡ 0
+looks-nothing u [] met none nobody = refl
+looks-nothing u (r ∷ rows) met none nobody =
+    let parts = sum_by-cons (λ (s : Staffing). s.active) r rows in
+    let both = none-listed (r ∷ []) rows none in
+    let hires = ap (λ (k : Counts). length k.hires) both.0 in
+    elim (cases_lt 0 (hire_in r)) [
+      | inl some ↦ absurd (let one : length (above_zero_in hire_in (r ∷ [])) ≡ 1 = rw (lt-ltb 0 (hire_in r) some) refl in omega (arith, one, hires))
+      | inr idle ↦
+          let still : r.allotted + u ≡ 0 = omega (arith, idle, met, nobody, parts) in
+          rw (eq-eqb (r.allotted + u) 0 still) (omega (arith, looks-nothing (u - r.active) rows (omega (arith, met)) both.1 (omega (arith, nobody, parts))))
+    ]
+
 -- rows of which none is listed, and where nobody is placed
 pub walk-nothing : (s : Sharing) (seats : List (Option ℕ)) (c after u v : ℕ) (b : Counts) (rows : List Row)
     → counts_in (staffed s seats c rows) ≡ record { recalls = []; hires = [] } → after ≡ carry_after s c rows → actives (staffed s seats c rows) ≡ 0
-    → IsWalk s seats rows c after u u v v b b
-walk-nothing s seats c after u v b rows none carry nobody =
+    → looks u (staffed s seats c rows) ≡ 0 → IsWalk s seats rows c after u u v v b b
+walk-nothing s seats c after u v b rows none carry nobody unseen =
     let recalls : above_zero_in recall_in (staffed s seats c rows) ≡ [] = ap (λ (k : Counts). k.recalls) none in
     let hires : above_zero_in hire_in (staffed s seats c rows) ≡ [] = ap (λ (k : Counts). k.hires) none in
     record {
@@ -120,12 +146,13 @@ walk-nothing s seats c after u v b rows none carry nobody =
       carried = carry;
       met = omega (arith, nobody);
       looked = omega (arith, ap length recalls, ap length hires);
+      met_first = omega (arith, unseen);
       once = omega arith;
     }
 
 -- no rows
 pub walk-ends : (s : Sharing) (seats : List (Option ℕ)) (c u v w : ℕ) (b : Counts) (rows : List Row) → rows ≡ [] → w ≡ v → IsWalk s seats rows c c u u v w b b
-walk-ends s seats c u v w b rows e same = rw (e, same) (walk-nothing s seats c c u v b [] refl refl refl)
+walk-ends s seats c u v w b rows e same = rw (e, same) (walk-nothing s seats c c u v b [] refl refl refl refl)
 
 -- some rows, and then others
 pub walk-append : (s : Sharing) (seats : List (Option ℕ)) (rows l r : List Row) (c n after u t left v w end : ℕ) (b0 b1 b2 : Counts)
@@ -139,6 +166,9 @@ walk-append s seats rows l r c n after u t left v w end b0 b1 b2 e f g =
       carried = g.carried ∙ ap (λ k. carry_after s k r) f.carried ∙ sym (ap (carry_after s c) e ∙ carry-append s c l r);
       met = omega (arith, f.met, g.met, ap actives parts ∙ actives-append L R);
       looked = omega (arith, f.looked, g.looked, ap imbalances parts ∙ imbalances-append L R);
+      met_first =
+          let left_is : u - actives L ≡ t = omega (arith, f.met) in
+          omega (arith, f.met_first, g.met_first, ap (looks u) parts ∙ looks-append u L R, ap (λ n. looks n R) left_is);
       once = omega (arith, f.once, g.once, ap length e ∙ length-append l r);
     }
 
@@ -151,6 +181,7 @@ walk-row s seats x c n u t v w b0 b1 counted here carry met =
       carried = carry;
       met = met;
       looked = omega (arith, counted, listed-once (at-row s seats c x));
+      met_first = omega (arith, counted, looks-once u (at-row s seats c x));
       once = omega (arith, counted);
     }
 
@@ -280,16 +311,16 @@ module _ (s : Sharing) (seats : List (Option ℕ)) (rows rest : List Row) (c e u
   walk-past after left v w end b0 b1 more once g =
       let none = over v b0 in
       let passed : IsWalk s seats o.passed c e u u v w b0 b0 =
-      record { listed = none.listed; carried = none.carried; met = none.met; looked = omega (arith, none.looked, more); once = omega (arith, once, ap length o.rows_are ∙ length-append o.passed rest) } in
+      record { listed = none.listed; carried = none.carried; met = none.met; looked = omega (arith, none.looked, more); met_first = omega (arith, none.met_first, more); once = omega (arith, once, ap length o.rows_are ∙ length-append o.passed rest) } in
       walk-append s seats rows o.passed rest c e after u u left v w end b0 b0 b1 o.rows_are passed g
 
 -- ---- what is passed over, as the code finds it
 
-nothing-over : (s : Sharing) (seats : List (Option ℕ)) (rows passed rest : List Row) (c e u : ℕ) → rows ≡ passed ++ rest → IsNothing s seats c e passed → actives (staffed s seats c passed) ≡ 0 → IsOver s seats rows rest c e u
-nothing-over s seats rows passed rest c e u is none nobody = record {
+nothing-over : (s : Sharing) (seats : List (Option ℕ)) (rows passed rest : List Row) (c e u : ℕ) → u ≡ 0 → rows ≡ passed ++ rest → IsNothing s seats c e passed → actives (staffed s seats c passed) ≡ 0 → IsOver s seats rows rest c e u
+nothing-over s seats rows passed rest c e u met is none nobody = record {
   passed = passed;
   rows_are = is;
-  walked = λ visits lists. walk-nothing s seats c e u visits lists passed none.0 none.1 nobody;
+  walked = λ visits lists. walk-nothing s seats c e u visits lists passed none.0 none.1 nobody (looks-nothing u (staffed s seats c passed) met none.0 nobody);
 }
 
 due-over : (k d : ℕ) (seats : List (Option ℕ)) (rows rest : List Row) (c e u : ℕ) → u ≡ 0 → IsPassed k (max d 1) rows rest c e → IsReady (Carried k d) seats rows c u → IsOver (Carried k d) seats rows rest c e u
@@ -300,10 +331,10 @@ due-over k d seats rows rest c e u met p h =
     elim (cases_eq (requests p.passed) 0) [
       | inl z ↦
           let same : e ≡ c = p.carried ∙ ap (λ n. c + k * n) z ∙ omega arith in
-          nothing-over (Carried k d) seats rows p.passed rest c e u p.rows_are (subst (λ n. IsNothing (Carried k d) seats c n p.passed) (sym same) (none-asks k d seats c p.passed z nobody)) nobody
+          nothing-over (Carried k d) seats rows p.passed rest c e u met p.rows_are (subst (λ n. IsNothing (Carried k d) seats c n p.passed) (sym same) (none-asks k d seats c p.passed z nobody)) nobody
       | inr some ↦
           let asked : 0 < d = omega (arith, some, front.shared.1.1.0) in
-          nothing-over (Carried k d) seats rows p.passed rest c e u p.rows_are (due-below k d seats c e p.passed (omega (arith, asked, low, p.carried)) p.carried nobody) nobody
+          nothing-over (Carried k d) seats rows p.passed rest c e u met p.rows_are (due-below k d seats c e p.passed (omega (arith, asked, low, p.carried)) p.carried nobody) nobody
     ]
 
 -- those whom no worker is due to, once all seats are met
@@ -315,4 +346,4 @@ pub all-over : (s : Sharing) (picked : Option ℕ) (w : ℕ) (seats : List (Opti
 all-over s picked w seats rows c u is unserved met h =
     let nobody : actives (staffed s seats c rows) ≡ 0 = omega (arith, met, h.unmet) in
     subst (λ t. actives (staffed t seats c rows) ≡ 0 → IsOver t seats rows [] c c u) (sym (is ∙ ap (λ p. Picked p w) unserved))
-    (λ idle. nothing-over (Picked None w) seats rows rows [] c c u (sym (append-nil rows)) (none-picked w seats c rows idle) idle) nobody
+    (λ idle. nothing-over (Picked None w) seats rows rows [] c c u (omega (arith, met)) (sym (append-nil rows)) (none-picked w seats c rows idle) idle) nobody

@@ -4,7 +4,7 @@ use Rattle.std.specs.List.{fold, count_by}
 use Rattle.market_types.specs.declared.row.Row.{Row}
 use Rattle.market_types.specs.Allotment.{is_just}
 use Rattle.recall_hire.specs.declared.rows.Staffing.{Staffing}
-use Rattle.recall_hire.specs.Staffed.{first_in_need, searches, above_zero_in, recall_in, hire_in, imbalances, actives}
+use Rattle.recall_hire.specs.Staffed.{first_in_need, searches, above_zero_in, recall_in, hire_in, imbalances, looks, actives}
 use Rattle.market_types.specs.Counts.{Counts}
 use Rattle.recall_hire.specs.declared.sharing.Sharing.{Sharing}
 use Rattle.recall_hire.specs.declared.sharing.Sharing.TheVariants.{Carried, Picked}
@@ -71,12 +71,13 @@ IsLow (Carried workers demand) carry = carry < max demand 1
 IsLow (Picked arena workers) carry = carry ≡ 0
 
 -- a walk over rows: what it listed, the carry after it, the seats that it met, and its visits, which are one at least for each
--- row that it listed, and no more than one for each row (private functions alone cite this)
+-- row that it listed, and for each at which it has to look, and no more than one for each row (private functions alone cite this)
 pub record IsWalk (sharing : Sharing) (seats : List (Option ℕ)) (rows : List Row) (carry after unmet left visits more : ℕ) (before lists : Counts) : Type 0 where
   pub listed : IsListed (staffed sharing seats carry rows) before lists
   pub carried : after ≡ carry_after sharing carry rows
   pub met : unmet ≡ left + actives (staffed sharing seats carry rows)
   pub looked : visits + imbalances (staffed sharing seats carry rows) ≤ more
+  pub met_first : visits + looks unmet (staffed sharing seats carry rows) ≤ more
   pub once : more ≤ visits + length rows
 
 -- the first of these rows are passed over, of which none is listed and none has seats (private functions alone cite this)

@@ -42,6 +42,11 @@ counts_in rows = record { recalls = above_zero_in recall_in rows; hires = above_
 abbrev pub imbalances : List Staffing → ℕ
 imbalances rows = length (above_zero_in recall_in rows) + length (above_zero_in hire_in rows)
 
+-- at how many rows a listing has to look: at each while seats are left to be met, and then at each that is allotted a worker
+abbrev pub looks : ℕ → List Staffing → ℕ
+looks unmet [] = 0
+looks unmet (r ∷ rows) = looks (unmet - r.active) rows + (if r.allotted + unmet == 0 then 0 else 1)
+
 -- how many seats are placed at the arenas of rows
 abbrev pub actives : List Staffing → ℕ
 actives rows = sum_by (λ (r : Staffing). r.active) rows

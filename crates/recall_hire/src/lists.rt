@@ -1,7 +1,7 @@
 //! Where workers are too many or too few: a walk through a level's arenas, past those that cannot be listed.
 ghost use Rattle.std.specs.Prelude.{◌≡◌, ◌+◌, ◌^◌, ◌<◌, ◌≤◌, [], ◌∷◌, ◌++◌, length, IsOk, IfOk, IfSome, IfNone, OnOk, OnErr};
 ghost use Rattle.prefix_tree.specs.Rows.{requests};
-ghost use Rattle.recall_hire.specs.Staffed.{actives, counts_in, imbalances};
+ghost use Rattle.recall_hire.specs.Staffed.{actives, counts_in, imbalances, looks};
 ghost use Rattle.recall_hire.specs.Shared.{CanShareAll, IsLow, row_share, row_carry, staffed, IsListed, IsOver, IsWalk};
 
 use crate::roster::Roster;
@@ -16,8 +16,9 @@ use wide_rows::{Quad, Span, Walk};
 const FIRST_ROOM: usize = 16;
 
 /// Puts a level's arenas, newest first, at the end of lists, each with how many workers it has too many or too few; and
-/// says how many visits that made: one at least for each arena that it lists, and no more than one for each that it looks at or
-/// passes over. Wants memory only for what it lists.
+/// says how many visits that made: one at least for each arena that it lists, for each up to the last that has some of the seats,
+/// and for each behind it that is allotted a worker; and no more than one for each that it looks at or passes over. Wants memory
+/// only for what it lists.
 ///
 /// `unmet` counts seats that may be placed at these arenas, at least those that are. They are taken off it; once none is
 /// left, arenas are passed over where none of them is allotted a worker.
@@ -34,6 +35,7 @@ pub fn list(
     ensures listed { OnOk result (IsListed (staffed sharing roster.now 0 rows.now.0) lists.old lists.new) }
     ensures met { OnOk result (unmet.old ≡ unmet.new + actives (staffed sharing roster.now 0 rows.now.0)) }
     ensures looked { IfOk result (λ visits. imbalances (staffed sharing roster.now 0 rows.now.0) ≤ visits) }
+    ensures met_first { IfOk result (λ visits. looks unmet.old (staffed sharing roster.now 0 rows.now.0) ≤ visits) }
     ensures once { IfOk result (λ visits. visits ≤ length rows.now.0) }
     ensures succeeds { counts_in (staffed sharing roster.now 0 rows.now.0) ≡ record { recalls = []; hires = [] } → IsOk result }
 {

@@ -71,4 +71,4 @@ returns c =
     let walked = c.loop-quad.invariant.goes c.next.new.carry c.loop-quad.unmet w lists
     (walk-past s seats c.loop-quad.rest [] c.loop-quad.carry c.next.new.carry c.loop-quad.unmet e.none c.next.new.carry c.loop-quad.unmet v w w lists lists e.counted (omega (arith, e.most))
     (walk-ends s seats c.next.new.carry c.loop-quad.unmet w w lists [] refl refl)) in
-    record { listed = walked.listed; met = walked.met; looked = omega (arith, walked.looked); once = omega (arith, walked.once); succeeds = λ _. refl }
+    record { listed = walked.listed; met = walked.met; looked = omega (arith, walked.looked); met_first = omega (arith, walked.met_first); once = omega (arith, walked.once); succeeds = λ _. refl }
