@@ -229,7 +229,8 @@ fn serve_both(rt: &impl Abort, wide: &Levels, tree: &Tree, level: usize, workers
         let Some(mut quad) = rest.next_due(workers, demand, &mut carry, &mut visits) else {
             break;
         };
-        holds(rt, visits <= 18);
+        // A run of quads counts at most 2, one of leaves 4, of blocks 4, then again of leaves and of quads.
+        holds(rt, visits <= 16);
         let Some(row) = quad.next(&mut visits) else {
             panic!(rt; "no rows come next");
         };

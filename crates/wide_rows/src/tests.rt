@@ -1,10 +1,12 @@
 //! What no clause says: that the calls succeed where memory is ample, and values worked out by the rule.
-ghost use Rattle.std.specs.Prelude.{◌≡◌};
+ghost use Rattle.std.specs.Prelude.{◌≡◌, ◌<◌};
 
 use crate::asserts::{holds, same};
 use crate::levels::Levels;
 use crate::looked::{promoted, pushed, updated};
 use market_types::{ArenaId, Row};
+use std::alloc::Global;
+use std::process::Abort;
 use std::rt::HostRuntime;
 
 /// The row of an arena with the number of its stamp.
@@ -22,41 +24,53 @@ fn row(stamp: u32, request: u32, mandated: bool) -> Row
 
 /// A full store: 128 rows at each level, stamp after stamp level by level. A row at level L, counted from 0, asks for L + 1, and
 /// the rows of rounds 3 and 63, counted from 0, are mandated.
-#[test]
-fn keeps_rows_at_eight_levels(rt: HostRuntime) {
-    let mut levels = Levels::new(rt.alloc());
+fn fill(rt: &impl Abort, alloc: Global, levels: &mut Levels) {
     for round in 0..128u32 {
         for level in 0..8u32 {
             let row = row(8 * round + level + 1, level + 1, round == 3 || round == 63);
-            pushed(&rt, rt.alloc(), &mut levels, level as usize, row);
+            pushed(rt, alloc, levels, level as usize, row);
         }
     }
+}
+
+/// Each row of a full store is found at its level, with the sum before it.
+fn shows_full_level(rt: &impl Abort, levels: &Levels, level: u32)
+    requires { level < 8 }
+{
+    same(
+        rt,
+        levels.demand(level as usize),
+        128 * u64::from(level + 1),
+    );
+    same(
+        rt,
+        levels.first_mandated(level as usize).0,
+        Some(row(8 * 63 + level + 1, level + 1, true)),
+    );
+    for newer in 0..128u32 {
+        let stamp = 8 * (127 - newer) + level + 1;
+        same(
+            rt,
+            levels.before(level as usize, stamp).0,
+            u64::from(newer * (level + 1)),
+        );
+        same(
+            rt,
+            levels.walk(level as usize, newer as usize).0,
+            Some(row(stamp, level + 1, newer == 124 || newer == 64)),
+        );
+    }
+    same(rt, levels.walk(level as usize, 128).0, None);
+}
+
+/// A full store shows its rows, and rows of it are changed, taken out and moved.
+#[test]
+fn keeps_rows_at_eight_levels(rt: HostRuntime) {
+    let mut levels = Levels::new(rt.alloc());
+    fill(&rt, rt.alloc(), &mut levels);
     same(&rt, levels.len(), 1024);
     for level in 0..8u32 {
-        same(
-            &rt,
-            levels.demand(level as usize),
-            128 * u64::from(level + 1),
-        );
-        same(
-            &rt,
-            levels.first_mandated(level as usize).0,
-            Some(row(8 * 63 + level + 1, level + 1, true)),
-        );
-        for newer in 0..128u32 {
-            let stamp = 8 * (127 - newer) + level + 1;
-            same(
-                &rt,
-                levels.before(level as usize, stamp).0,
-                u64::from(newer * (level + 1)),
-            );
-            same(
-                &rt,
-                levels.walk(level as usize, newer as usize).0,
-                Some(row(stamp, level + 1, newer == 124 || newer == 64)),
-            );
-        }
-        same(&rt, levels.walk(level as usize, 128).0, None);
+        shows_full_level(&rt, &levels, level);
     }
     // the row of round 63 at level 2 asks for 100 more, and is no longer mandated
     updated(&rt, &mut levels, 2, 64, 103, false);
