@@ -1,5 +1,5 @@
 -- What the store keeps, through each change.
-use Rattle.std.proofs.Common.{◌≡◌, ◌≢◌, ℕ, suc, ◌+◌, ◌-◌, ◌*◌, ◌<◌, ◌≤◌, true, false, cond, ltb, not, List, [], ◌∷◌, ◌++◌, length, get_or, set, take, drop, Option, Some, None, refl, sym, ap, ◌∙◌, arith, inl, inr, length-append}
+use Rattle.std.proofs.Common.{◌≡◌, ◌≢◌, ℕ, suc, ◌+◌, ◌-◌, ◌*◌, ◌<◌, ◌≤◌, true, false, cond, ltb, not, List, [], ◌∷◌, ◌++◌, length, get_or, set, take, drop, Option, Some, None, refl, sym, ap, subst, ◌∙◌, arith, inl, inr, length-append}
 use Rattle.std.specs.List.{All, find, remove, sum_by, count_by, list_any}
 use Rattle.std.specs.Option.{option_map}
 use Rattle.std.proofs.lemmas.Bool.{cases_eq, cases_Bool, eq-eqb, ne_eqb, lt-ltb}
@@ -21,7 +21,7 @@ use Rattle.arena_store.proofs.Found.{Found, found-at, found-matches, found-level
 use Rattle.prefix_tree.specs.Bits.{bits}
 use Rattle.prefix_tree.specs.Rows.{row_at, set_row, without as without_row}
 use Rattle.wide_rows.specs.Leveled.{rows_at, total_rows, with_first, without_at}
-use Rattle.wide_rows.specs.Ways.{least_way}
+use Rattle.wide_rows.specs.Ways.{least_way, least_node, least_put}
 use Rattle.arena_store.proofs.Digits.{bits-more, bits-few}
 use Rattle.arena_store.proofs.ByNumber.{table-found, table-claimed, table-removed, table-promoted, table-pushed, rising-set, apart-by_stamp, newest-with_claim, newest-without, newest-cons}
 
@@ -279,7 +279,17 @@ module _ (xs : List Arena) (lists : List (List Row)) (n i : ℕ) (x : Arena) (h 
         let less : length (rows_at to (without_at from x.stamp lists)) ≤ length (by_stamp xs) = omega (arith, ap length there, length-level_rows y.level (without x.number (by_stamp xs)), size) in
         omega (arith, k, bits-more (length (rows_at from lists)) (length (by_stamp xs)) part, bits-more (length (rows_at to (without_at from x.stamp lists))) (length (by_stamp xs)) less)
 
-    -- what is counted for both lists, by the arenas of their levels
+    -- what is counted for both lists at least, by the arenas of their levels
+    pub promoted-least : (v : ℕ) → least_way (length (rows_at from lists)) + least_put (length (rows_at to (without_at from x.stamp lists))) ≤ v
+        → least_way (length (at_level x.level (by_stamp xs))) + least_put (length (at_level y.level (without x.number (by_stamp xs)))) ≤ v
+    promoted-least v k =
+        let own = level-here in
+        let here : rows_at from lists ≡ level_rows x.level (by_stamp xs) = ap (λ j. get_or lists j []) p ∙ h.listed.rows x.level [] own.0 own.1 in
+        let long : length (rows_at from lists) ≡ length (at_level x.level (by_stamp xs)) = ap length here ∙ length-map (at_level x.level (by_stamp xs)) level_row in
+        let longer : length (rows_at to (without_at from x.stamp lists)) ≡ length (at_level y.level (without x.number (by_stamp xs))) = ap length there ∙ length-map (at_level y.level (without x.number (by_stamp xs))) level_row in
+        subst (λ (n : ℕ). least_way (length (at_level x.level (by_stamp xs))) + least_put n ≤ v) longer (subst (λ (n : ℕ). least_way n + least_put (length (rows_at to (without_at from x.stamp lists))) ≤ v) long k)
+
+    -- and just so many where they are few
     pub promoted-alone : (v : ℕ) → (length (rows_at from lists) ≤ 12 → length (rows_at to (without_at from x.stamp lists)) ≤ 12 → v ≡ bits (length (rows_at from lists)) + bits (length (rows_at to (without_at from x.stamp lists)) + 1))
         → length (at_level x.level (by_stamp xs)) ≤ 12 → length (at_level y.level (without x.number (by_stamp xs))) ≤ 12
         → v ≡ bits (length (at_level x.level (by_stamp xs))) + bits (length (at_level y.level (without x.number (by_stamp xs))) + 1)
@@ -320,23 +330,25 @@ module _ (xs : List Arena) (lists : List (List Row)) (n : ℕ) (h : IsStored xs 
   pub list-few : length (rows_at index lists) ≤ length xs
   list-few = omega (arith, ap length list-at, length-level_rows level (by_stamp xs), length-by_stamp xs)
 
-  -- where the level has arenas its list is entered
-  pub list-entered : (v : ℕ) → (0 < length (rows_at index lists) → 1 ≤ v) → 0 < length (at_level level (by_stamp xs)) → 1 ≤ v
-  list-entered v e some = e (rw list-at (omega (arith, length-map (at_level level (by_stamp xs)) level_row)))
-
   -- it is as long as the level
   pub list-long : length (rows_at index lists) ≡ length (at_level level (by_stamp xs))
   list-long = ap length list-at ∙ length-map (at_level level (by_stamp xs)) level_row
 
   -- so a visit to it counts what the level's arenas say
-  pub list-least : (more v : ℕ) → least_way (length (rows_at index lists)) + more ≤ v → least_way (length (at_level level (by_stamp xs))) + more ≤ v
-  list-least more v e = omega (arith, e, ap bits list-long)
+  pub list-least : (v : ℕ) → least_way (length (rows_at index lists)) ≤ v → least_way (length (at_level level (by_stamp xs))) ≤ v
+  list-least v e = subst (λ (n : ℕ). least_way n ≤ v) list-long e
+
+  pub list-node : (v : ℕ) → least_node (length (rows_at index lists)) ≤ v → least_node (length (at_level level (by_stamp xs))) ≤ v
+  list-node v e = subst (λ (n : ℕ). least_node n ≤ v) list-long e
+
+  pub list-put : (v : ℕ) → least_put (length (rows_at index lists)) ≤ v → least_put (length (at_level level (by_stamp xs))) ≤ v
+  list-put v e = subst (λ (n : ℕ). least_put n ≤ v) list-long e
 
   pub list-alone : (v : ℕ) → (length (rows_at index lists) ≤ 12 → v ≡ bits (length (rows_at index lists))) → length (at_level level (by_stamp xs)) ≤ 12 → v ≡ bits (length (at_level level (by_stamp xs)))
   list-alone v e few = e (omega (arith, few, list-long)) ∙ ap bits list-long
 
-  pub list-put : (v : ℕ) → (length (rows_at index lists) ≤ 12 → v ≡ bits (length (rows_at index lists) + 1)) → length (at_level level (by_stamp xs)) ≤ 12 → v ≡ bits (length (at_level level (by_stamp xs)) + 1)
-  list-put v e few = e (omega (arith, few, list-long)) ∙ ap (λ k. bits (k + 1)) list-long
+  pub list-put_alone : (v : ℕ) → (length (rows_at index lists) ≤ 12 → v ≡ bits (length (rows_at index lists) + 1)) → length (at_level level (by_stamp xs)) ≤ 12 → v ≡ bits (length (at_level level (by_stamp xs)) + 1)
+  list-put_alone v e few = e (omega (arith, few, list-long)) ∙ ap (λ k. bits (k + 1)) list-long
 
   pub list-newest : (t : ℕ) → All (IsOlder t) (by_stamp xs) → All (λ (r : Row). r.stamp < t) (rows_at index lists)
   list-newest t older = rw list-at (level_rows-older level t (by_stamp xs) older)

@@ -9,7 +9,7 @@ ghost use Rattle.arena_store.specs.Arenas.{StandOnce, newer, level_rows, beside}
 ghost use Rattle.arena_store.specs.Changed.{changed_at};
 ghost use Rattle.prefix_tree.specs.Bits.{bits};
 ghost use Rattle.prefix_tree.specs.Rows.{requests};
-ghost use Rattle.wide_rows.specs.Ways.{least_way};
+ghost use Rattle.wide_rows.specs.Ways.{least_way, least_node, least_put};
 
 use crate::change::Change;
 use crate::stored_arena::StoredArena;
@@ -129,7 +129,7 @@ impl Arenas {
     pub fn first_mandated(&self, level: Level) -> (Option<ArenaId>, u32)
         ensures exact { result.0
             ≡ option_map (λ (a : Arena). a.number) (find (λ (a : Arena). is_mandated a.claim) (at_level level self.now)) }
-        ensures entered { 0 < length (at_level level self.now) → 1 ≤ result.1 }
+        ensures entered { least_node (length (at_level level self.now)) ≤ result.1 }
         ensures least { IfSome result.0 (λ _. least_way (length (at_level level self.now)) ≤ result.1) }
         ensures alone { length (at_level level self.now) ≤ 12 → result.1 ≡ bits (length (at_level level self.now)) }
         ensures visits { result.1 ≤ 2 * bits (length self.now) }
@@ -170,7 +170,7 @@ impl Arenas {
         requires last { All (λ (a : Arena). a.number < arena.number) self.old }
         ensures pushed { OnOk result (self.new ≡ arena ∷ self.old) }
         ensures unchanged { OnErr result (self.new ≡ self.old) }
-        ensures entered { IfOk result (λ visits. 1 ≤ visits) }
+        ensures least { IfOk result (λ visits. least_put (length (at_level arena.level self.old)) ≤ visits) }
         ensures alone { length (at_level arena.level self.old) ≤ 12 → IfOk result (λ visits. visits ≡ bits (length (at_level arena.level self.old) + 1)) }
         ensures visits { IfOk result (λ visits. visits ≤ 2 * bits (length self.old) + 1) }
     {
@@ -188,7 +188,7 @@ impl Arenas {
         ensures next { IfOk result (λ done. self.new ≡ with_claim arena done.0 self.old) }
         ensures fault { IfErr result (λ fault. changed_at (arena_at arena self.old) change ≡ Err fault) }
         ensures unchanged { OnErr result (self.new ≡ self.old) }
-        ensures entered { IfOk result (λ done. 1 ≤ done.1) }
+        ensures least { IfOk result (λ done. least_node (beside arena self.old) ≤ done.1) }
         ensures alone { beside arena self.old ≤ 12 → IfOk result (λ done. done.1 ≡ bits (beside arena self.old)) }
         ensures visits { IfOk result (λ done. done.1 ≤ 2 * bits (length self.old)) }
     {
@@ -234,7 +234,7 @@ impl Arenas {
             → self.new ≡ record a { stamp = stamp; level = level } ∷ without a.number self.old }
         ensures missing { IfNone result (arena_at arena self.old ≡ None) }
         ensures unchanged { IfNone result (self.new ≡ self.old) }
-        ensures least { IfSome result (λ visits. least_way (beside arena self.old) + 1 ≤ visits) }
+        ensures least { IfSome result (λ visits. least_way (beside arena self.old) + least_put (length (at_level level (without arena self.old))) ≤ visits) }
         ensures alone { beside arena self.old ≤ 12 → length (at_level level (without arena self.old)) ≤ 12
             → IfSome result (λ visits. visits ≡ bits (beside arena self.old) + bits (length (at_level level (without arena self.old)) + 1)) }
         ensures visits { IfSome result (λ visits. visits ≤ 4 * bits (length self.old) + 1) }

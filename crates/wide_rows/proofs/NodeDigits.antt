@@ -1,8 +1,9 @@
 -- How many binary digits there are.
-use Rattle.std.proofs.Common.{◌≡◌, ℕ, zero, suc, ◌+◌, ◌/◌, ◌<◌, ◌≤◌, arith, inl, inr}
-use Rattle.std.proofs.lemmas.Bool.{cases_lt}
+use Rattle.std.proofs.Common.{◌≡◌, ℕ, zero, suc, ◌+◌, ◌/◌, ◌<◌, ◌≤◌, refl, arith, inl, inr}
+use Rattle.std.proofs.lemmas.Bool.{cases_lt, lt-ltb, le-ltb}
 use Rattle.std.proofs.lemmas.Int.Digits.{length-digits_of_step, length-digits_of-le}
 use Rattle.prefix_tree.specs.Bits.{bits}
+use Rattle.wide_rows.specs.Ways.{least_node, least_put}
 
 -- the digits of a number, from those of its half
 pub bits-half : (n : ℕ) → 0 < n → bits n ≡ bits (n / 2) + 1
@@ -39,3 +40,23 @@ next-below (suc k) n few = elim (cases_lt 0 n) [
 -- a number that is one more has at most one digit more
 pub bits-next : (n : ℕ) → bits (n + 1) ≤ bits n + 1
 bits-next n = next-below n n (omega arith)
+
+-- what one node of a level counts at least: no more than a leaf of all rows does, and one where there may be more leaves
+
+pub node-leaf : (n : ℕ) → least_node n ≤ bits n
+node-leaf n = elim (cases_lt 12 n) [
+  | inl many ↦ rw (lt-ltb 12 n many) (bits-some n (omega arith))
+  | inr few ↦ rw (le-ltb 12 n few) (omega arith)
+]
+
+pub node-shelf : (n : ℕ) → 12 < n → least_node n ≡ 1
+node-shelf n many = rw (lt-ltb 12 n many) refl
+
+pub put-leaf : (n : ℕ) → least_put n ≤ bits (n + 1)
+put-leaf n = elim (cases_lt 12 n) [
+  | inl many ↦ rw (lt-ltb 12 n many) (bits-some (n + 1) (omega arith))
+  | inr few ↦ rw (le-ltb 12 n few) (omega arith)
+]
+
+pub put-shelf : (n : ℕ) → 12 < n → least_put n ≡ 1
+put-shelf n many = rw (lt-ltb 12 n many) refl

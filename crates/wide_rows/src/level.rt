@@ -15,7 +15,7 @@ ghost use Rattle.prefix_tree.specs.Rows.{requests, requests_above, first_mandate
 ghost use Rattle.prefix_tree.specs.Bits.{bits};
 ghost use Rattle.wide_rows.specs.Leveled.{IsLevel, HasFewBoxes};
 ghost use Rattle.wide_rows.specs.Forms.{leveled, IsFullLeaf, IsIdle};
-ghost use Rattle.wide_rows.specs.Ways.{least_way};
+ghost use Rattle.wide_rows.specs.Ways.{least_way, least_node, least_put};
 
 use crate::leaf::Leaf;
 use crate::shelf::Shelf;
@@ -97,7 +97,7 @@ impl Level {
     pub(crate) fn row(&self, index: usize, visits: &mut u32) -> Option<Row>
         requires few { visits.old < 2 ^ 31 }
         ensures exact { result ≡ slice_get self.now.rows index }
-        ensures entered { 0 < length self.now.rows → visits.old + 1 ≤ visits.new }
+        ensures entered { visits.old + least_node (length self.now.rows) ≤ visits.new }
         ensures least { IfSome result (λ _. visits.old + least_way (length self.now.rows) ≤ visits.new) }
         ensures alone { length self.now.rows ≤ 12 → visits.new ≡ visits.old + bits (length self.now.rows) }
         ensures visits { visits.new ≤ visits.old + 2 * bits (length self.now.rows) }
@@ -116,7 +116,7 @@ impl Level {
     pub(crate) fn first_mandated(&self, visits: &mut u32) -> Option<Row>
         requires few { visits.old < 2 ^ 31 }
         ensures exact { result ≡ first_mandated self.now.rows }
-        ensures entered { 0 < length self.now.rows → visits.old + 1 ≤ visits.new }
+        ensures entered { visits.old + least_node (length self.now.rows) ≤ visits.new }
         ensures least { IfSome result (λ _. visits.old + least_way (length self.now.rows) ≤ visits.new) }
         ensures alone { length self.now.rows ≤ 12 → visits.new ≡ visits.old + bits (length self.now.rows) }
         ensures visits { visits.new ≤ visits.old + 2 * bits (length self.now.rows) }
@@ -172,7 +172,7 @@ impl Level {
         requires few { visits.old < 2 ^ 31 }
         ensures changed { self.new ≡ record self.old { rows = set_row row.now.stamp request mandated self.old.rows } }
         ensures sound { IsLevel self.new }
-        ensures entered { visits.old + 1 ≤ visits.new }
+        ensures least { visits.old + least_node (length self.old.rows) ≤ visits.new }
         ensures alone { length self.old.rows ≤ 12 → visits.new ≡ visits.old + bits (length self.old.rows) }
         ensures visits { visits.new ≤ visits.old + 2 * bits (length self.old.rows) }
     {
@@ -202,7 +202,7 @@ impl Level {
         ensures made_leaves { spare.new.made_leaves ≡ spare.old.made_leaves }
         ensures made_shelves { spare.new.made_shelves ≡ spare.old.made_shelves }
         ensures sound { IsLevel self.new }
-        ensures entered { visits.old + 1 ≤ visits.new }
+        ensures least { visits.old + least_put (length self.old.rows) ≤ visits.new }
         ensures alone { length self.old.rows ≤ 12 → visits.new ≡ visits.old + bits (length self.old.rows + 1) }
         ensures visits { visits.new ≤ visits.old + 2 * bits (length self.old.rows) + 1 }
     {

@@ -29,7 +29,7 @@ ghost use Rattle.prefix_tree.specs.Rows.{IsNewestFirst, requests, requests_above
 ghost use Rattle.prefix_tree.specs.Bits.{bits};
 ghost use Rattle.wide_rows.specs.Leveled.{rows_at, total_rows, with_first, without_at};
 ghost use Rattle.wide_rows.specs.Passed.{with_height};
-ghost use Rattle.wide_rows.specs.Ways.{least_way};
+ghost use Rattle.wide_rows.specs.Ways.{least_way, least_node, least_put};
 
 use crate::level::Level;
 use crate::spans::Span;
@@ -44,7 +44,7 @@ use std::marker::Model;
 /// A call that searches a level of `n` rows makes at most twice as many visits as `n` has binary digits, and one more where it
 /// puts a row in. The last part of its answer is their number. Up to 12 rows stand in one leaf, so that the number of rows alone
 /// says what a call counts: `alone`. More may stand in two leaves or more, and then a way down to a row is through three nodes,
-/// which count 4 or more: `least`. Only a row that is put in, or changed in the leaf that is looked at first, costs no way down.
+/// which count 4 or more: `least`. Only a row that is put in, or changed in the leaf that is looked at first, takes no way down.
 #[derive(Drop)]
 pub struct Levels {
     levels: [Level; 8],
@@ -135,7 +135,7 @@ impl Levels {
     pub fn walk(&self, level: usize, index: usize) -> (Option<Row>, u32)
         requires level { level < 8 }
         ensures exact { result.0 ≡ slice_get (rows_at level self.now) index }
-        ensures entered { 0 < length (rows_at level self.now) → 1 ≤ result.1 }
+        ensures entered { least_node (length (rows_at level self.now)) ≤ result.1 }
         ensures least { IfSome result.0 (λ _. least_way (length (rows_at level self.now)) ≤ result.1) }
         ensures alone { length (rows_at level self.now) ≤ 12 → result.1 ≡ bits (length (rows_at level self.now)) }
         ensures visits { result.1 ≤ 2 * bits (length (rows_at level self.now)) }
@@ -149,7 +149,7 @@ impl Levels {
     pub fn first_mandated(&self, level: usize) -> (Option<Row>, u32)
         requires level { level < 8 }
         ensures exact { result.0 ≡ first_mandated (rows_at level self.now) }
-        ensures entered { 0 < length (rows_at level self.now) → 1 ≤ result.1 }
+        ensures entered { least_node (length (rows_at level self.now)) ≤ result.1 }
         ensures least { IfSome result.0 (λ _. least_way (length (rows_at level self.now)) ≤ result.1) }
         ensures alone { length (rows_at level self.now) ≤ 12 → result.1 ≡ bits (length (rows_at level self.now)) }
         ensures visits { result.1 ≤ 2 * bits (length (rows_at level self.now)) }
@@ -177,7 +177,7 @@ impl Levels {
         requires there { row_at row.stamp (rows_at level self.old) ≡ Some row }
         ensures rows { self.new ≡ slice_set self.old level (set_row row.stamp request mandated (rows_at level self.old)) }
         ensures newest_first { IsNewestFirst (rows_at level self.new) }
-        ensures entered { 1 ≤ result }
+        ensures least { least_node (length (rows_at level self.old)) ≤ result }
         ensures alone { length (rows_at level self.old) ≤ 12 → result ≡ bits (length (rows_at level self.old)) }
         ensures visits { result ≤ 2 * bits (length (rows_at level self.old)) }
     {
@@ -196,8 +196,9 @@ impl Levels {
         ensures pushed { OnOk result (self.new ≡ with_first level row self.old) }
         ensures unchanged { OnErr result (self.new ≡ self.old) }
         ensures newest_first { OnOk result (IsNewestFirst (rows_at level self.new)) }
+        ensures least { IfOk result (λ visits. least_put (length (rows_at level self.old)) ≤ visits) }
         ensures alone { length (rows_at level self.old) ≤ 12 → IfOk result (λ visits. visits ≡ bits (length (rows_at level self.old) + 1)) }
-        ensures visits { IfOk result (λ visits. (1 ≤ visits) × (visits ≤ 2 * bits (length (rows_at level self.old)) + 1)) }
+        ensures visits { IfOk result (λ visits. visits ≤ 2 * bits (length (rows_at level self.old)) + 1) }
     {
         self.spare.reserve(alloc, self.rows + 1)?;
         let mut visits = 0;
@@ -236,7 +237,7 @@ impl Levels {
             → self.new ≡ with_first to (record row { stamp = newest }) (without_at from stamp self.old) }
         ensures newest_first_from { IsNewestFirst (rows_at from self.new) }
         ensures newest_first_to { IsNewestFirst (rows_at to self.new) }
-        ensures least { least_way (length (rows_at from self.old)) + 1 ≤ result }
+        ensures least { least_way (length (rows_at from self.old)) + least_put (length (rows_at to (without_at from stamp self.old))) ≤ result }
         ensures alone { length (rows_at from self.old) ≤ 12 → length (rows_at to (without_at from stamp self.old)) ≤ 12
             → result ≡ bits (length (rows_at from self.old)) + bits (length (rows_at to (without_at from stamp self.old)) + 1) }
         ensures visits { result ≤ 2 * bits (length (rows_at from self.old)) + 2 * bits (length (rows_at to (without_at from stamp self.old))) + 1 }

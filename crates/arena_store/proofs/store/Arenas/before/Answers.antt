@@ -28,8 +28,7 @@ pub returns-clause-least : goal.returns-clause-least
 returns-clause-least c =
     let s = c.self.inside in
     let index : c.index.result ≡ c.args.level - 1 = omega arith in
-    let least = list-least s.table.arenas s.lists s.enqueued c.self.invariant c.args.level c.index.result (omega arith) (omega arith) index 0 c.before-2.result.1 (omega (arith, c.before-2.ensures.least)) in
-    rw (← c.self.view_is) (omega (arith, least))
+    rw (← c.self.view_is) (list-least s.table.arenas s.lists s.enqueued c.self.invariant c.args.level c.index.result (omega arith) (omega arith) index c.before-2.result.1 c.before-2.ensures.least)
 
 pub returns-clause-alone : goal.returns-clause-alone
 returns-clause-alone c =

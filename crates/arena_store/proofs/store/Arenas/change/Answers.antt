@@ -9,7 +9,7 @@ use Rattle.arena_store.specs.Changed.{changed}
 use Rattle.arena_store.specs.Arenas.{level_row}
 use Rattle.arena_store.specs.Held.{index_in}
 use Rattle.arena_store.specs.Store.{by_stamp}
-use Rattle.arena_store.proofs.Stored.{missing-by_stamp, found-by_stamp, row-here, level-here, counted-within, view-claimed, stored-claimed, list-visits, list-alone}
+use Rattle.arena_store.proofs.Stored.{missing-by_stamp, found-by_stamp, row-here, level-here, counted-within, view-claimed, stored-claimed, list-visits, list-node, list-alone}
 use Rattle.arena_store.proofs.store.Arenas.change.Goals as goal
 
 pub returns-in_default-clause-fault : goal.returns-in_default-clause-fault
@@ -94,3 +94,15 @@ returns-clause-alone c =
     let level : c.index-level.result ≡ x.level - 1 = omega (arith, c.level.ensures) in
     let within = level-here s.table.arenas s.lists s.enqueued (index_in s.table.places c.in-Some.place) x c.self.invariant there at in
     rw (← c.self.view_is, here) (list-alone s.table.arenas s.lists s.enqueued c.self.invariant x.level c.index-level.result within.0 within.1 level c.update-visits.result c.update-visits.ensures.alone)
+
+pub returns-clause-least : goal.returns-clause-least
+returns-clause-least c =
+    let s = c.self.inside in
+    let x = c.at-old.result in
+    let there = c.in-Some.ensures.there in
+    let found = c.in-Some.ensures.found in
+    let at = (rw c.in-Some.ensures.unchanged at c.at-old.ensures) in
+    let here : arena_at c.args.arena (by_stamp s.table.arenas) ≡ Some x = found-by_stamp c.args.arena (index_in s.table.places c.in-Some.place) s.table.arenas x c.self.invariant.by_number there at found in
+    let level : c.index-level.result ≡ x.level - 1 = omega (arith, c.level.ensures) in
+    let within = level-here s.table.arenas s.lists s.enqueued (index_in s.table.places c.in-Some.place) x c.self.invariant there at in
+    rw (← c.self.view_is, here) (list-node s.table.arenas s.lists s.enqueued c.self.invariant x.level c.index-level.result within.0 within.1 level c.update-visits.result c.update-visits.ensures.least)

@@ -6,7 +6,7 @@ use Rattle.market_types.specs.declared.row.Row.{Row}
 use Rattle.wide_rows.specs.Leveled.{rows_at}
 use Rattle.wide_rows.specs.Ways.{least_way}
 use Rattle.arena_store.specs.Store.{by_stamp}
-use Rattle.arena_store.proofs.Stored.{list-mandated, list-entered, list-least, list-alone, list-visits, all-visits}
+use Rattle.arena_store.proofs.Stored.{list-mandated, list-node, list-least, list-alone, list-visits, all-visits}
 use Rattle.arena_store.proofs.store.Arenas.first_mandated.Goals as goal
 
 pub returns-in-Some : goal.returns-in-Some
@@ -17,11 +17,11 @@ returns-in-Some c =
     list-visits s.table.arenas s.lists s.enqueued c.self.invariant c.args.level c.index.result (omega arith) (omega arith) index c.first_mandated-row.result.1 c.first_mandated-row.ensures.visits in
     let found : least_way (length (rows_at c.index.result s.lists)) ≤ c.first_mandated-row.result.1 =
     subst (λ (o : Option Row). IfSome o (λ _. least_way (length (rows_at c.index.result s.lists)) ≤ c.first_mandated-row.result.1)) c.in-Some.is c.first_mandated-row.ensures.least in
-    let least = list-least s.table.arenas s.lists s.enqueued c.self.invariant c.args.level c.index.result (omega arith) (omega arith) index 0 c.first_mandated-row.result.1 (omega (arith, found)) in
+    let least = list-least s.table.arenas s.lists s.enqueued c.self.invariant c.args.level c.index.result (omega arith) (omega arith) index c.first_mandated-row.result.1 found in
     rw (← c.self.view_is) (record {
       exact = ap (option_map (λ (r : Row). r.arena)) (sym c.in-Some.is) ∙ list-mandated s.table.arenas s.lists s.enqueued c.self.invariant c.args.level c.index.result (omega arith) (omega arith) index c.first_mandated-row.result.0 c.first_mandated-row.ensures.exact;
-      entered = list-entered s.table.arenas s.lists s.enqueued c.self.invariant c.args.level c.index.result (omega arith) (omega arith) index c.first_mandated-row.result.1 c.first_mandated-row.ensures.entered;
-      least = omega (arith, least);
+      entered = list-node s.table.arenas s.lists s.enqueued c.self.invariant c.args.level c.index.result (omega arith) (omega arith) index c.first_mandated-row.result.1 c.first_mandated-row.ensures.entered;
+      least = least;
       alone = list-alone s.table.arenas s.lists s.enqueued c.self.invariant c.args.level c.index.result (omega arith) (omega arith) index c.first_mandated-row.result.1 c.first_mandated-row.ensures.alone;
       visits = visits;
       few = omega (arith, visits, all-visits s.table.arenas s.lists s.enqueued c.self.invariant);
@@ -35,7 +35,7 @@ returns-in-None c =
     list-visits s.table.arenas s.lists s.enqueued c.self.invariant c.args.level c.index.result (omega arith) (omega arith) index c.first_mandated-row.result.1 c.first_mandated-row.ensures.visits in
     rw (← c.self.view_is) (record {
       exact = ap (option_map (λ (r : Row). r.arena)) (sym c.in-None.is) ∙ list-mandated s.table.arenas s.lists s.enqueued c.self.invariant c.args.level c.index.result (omega arith) (omega arith) index c.first_mandated-row.result.0 c.first_mandated-row.ensures.exact;
-      entered = list-entered s.table.arenas s.lists s.enqueued c.self.invariant c.args.level c.index.result (omega arith) (omega arith) index c.first_mandated-row.result.1 c.first_mandated-row.ensures.entered;
+      entered = list-node s.table.arenas s.lists s.enqueued c.self.invariant c.args.level c.index.result (omega arith) (omega arith) index c.first_mandated-row.result.1 c.first_mandated-row.ensures.entered;
       least = tt;
       alone = list-alone s.table.arenas s.lists s.enqueued c.self.invariant c.args.level c.index.result (omega arith) (omega arith) index c.first_mandated-row.result.1 c.first_mandated-row.ensures.alone;
       visits = visits;

@@ -7,7 +7,7 @@ use Rattle.wide_rows.specs.Leveled.{rows_at, with_first, without_at}
 use Rattle.arena_store.specs.Arenas.{level_row}
 use Rattle.arena_store.specs.Held.{index_in}
 use Rattle.arena_store.specs.Store.{by_stamp}
-use Rattle.arena_store.proofs.Stored.{missing-by_stamp, index-found, found-by_stamp, row-here, level-here, list-least, promoted-newest, promoted-visits, promoted-alone, stored-promoted, view-promoted}
+use Rattle.arena_store.proofs.Stored.{missing-by_stamp, index-found, found-by_stamp, row-here, promoted-newest, promoted-visits, promoted-least, promoted-alone, stored-promoted, view-promoted}
 use Rattle.arena_store.proofs.store.Arenas.promote.Goals as goal
 use Rattle.arena_store.proofs.store.Arenas.promote.Goals.{After-index}
 
@@ -111,8 +111,13 @@ returns-clause-least c =
     let e = (rw c.in_ok-place.ensures.unchanged at c.at-old.ensures) in
     let here : arena_at c.args.arena (by_stamp s.table.arenas) ≡ Some x = found-by_stamp c.args.arena i s.table.arenas x c.self.invariant.by_number there e found in
     let from : c.index-from.result ≡ x.level - 1 = omega (arith, c.level.ensures) in
-    let own = level-here s.table.arenas s.lists s.enqueued i x c.self.invariant there e in
-    rw (← c.self.view_is, here) (list-least s.table.arenas s.lists s.enqueued c.self.invariant x.level c.index-from.result own.0 own.1 from 1 c.promote-visits.result c.promote-visits.ensures.least)
+    let y : Arena = record x { stamp = c.args.stamp; level = c.args.level } in
+    let older = rw (← c.self.view_is) at c.requires.newest in
+    let number : x.number ≡ c.args.arena = ap (λ (a : Arena). a.number) e ∙ found x in
+    let least = rw c.stamp.ensures at c.promote-visits.ensures.least in
+    rw (← c.self.view_is, here, ← number)
+    (promoted-least s.table.arenas s.lists s.enqueued i x c.self.invariant there e y older (omega arith, omega arith) c.index-from.result c.index.result from (omega (arith, c.index.ensures.exact))
+    c.promote-visits.result least)
 
 pub returns-clause-alone : goal.returns-clause-alone
 returns-clause-alone c =

@@ -3,7 +3,7 @@ use Rattle.market_types.specs.State.{Claim}
 use Rattle.market_types.specs.declared.row.Row.{Row}
 use Rattle.wide_rows.specs.Leveled.{with_first}
 use Rattle.arena_store.proofs.ByStamp.{length-by_stamp}
-use Rattle.arena_store.proofs.Stored.{total-stored, list-newest, list-visits_one, list-put, stored-pushed, view-pushed}
+use Rattle.arena_store.proofs.Stored.{total-stored, list-newest, list-visits_one, list-put, list-put_alone, stored-pushed, view-pushed}
 use Rattle.arena_store.proofs.store.Arenas.push.Goals as goal
 
 pub reserve-requires : goal.reserve-requires
@@ -46,11 +46,18 @@ returns-clause-visits c =
     let s = c.self.inside in
     let level : c.index.result ≡ c.args.arena.level - 1 = omega (arith, c.level.ensures) in
     rw (← c.self.view_is) (list-visits_one s.table.arenas s.lists s.enqueued c.self.invariant c.args.arena.level c.index.result (omega arith) (omega arith) level
-    c.in_ok-visits.visits c.in_ok-visits.ensures.visits.1)
+    c.in_ok-visits.visits c.in_ok-visits.ensures.visits)
 
 pub returns-clause-alone : goal.returns-clause-alone
 returns-clause-alone c =
     let s = c.self.inside in
     let level : c.index.result ≡ c.args.arena.level - 1 = omega (arith, c.level.ensures) in
-    rw (← c.self.view_is) (list-put s.table.arenas s.lists s.enqueued c.self.invariant c.args.arena.level c.index.result (omega arith) (omega arith) level
+    rw (← c.self.view_is) (list-put_alone s.table.arenas s.lists s.enqueued c.self.invariant c.args.arena.level c.index.result (omega arith) (omega arith) level
     c.in_ok-visits.visits c.in_ok-visits.ensures.alone)
+
+pub returns-clause-least : goal.returns-clause-least
+returns-clause-least c =
+    let s = c.self.inside in
+    let level : c.index.result ≡ c.args.arena.level - 1 = omega (arith, c.level.ensures) in
+    rw (← c.self.view_is) (list-put s.table.arenas s.lists s.enqueued c.self.invariant c.args.arena.level c.index.result (omega arith) (omega arith) level
+    c.in_ok-visits.visits c.in_ok-visits.ensures.least)

@@ -67,8 +67,7 @@ returns-clause-least c =
     let here : arena_at c.args.arena (by_stamp s.table.arenas) ≡ Some x = found-by_stamp c.args.arena c.in_ok-index.index s.table.arenas x c.self.invariant.by_number there c.remove-old.ensures.value found in
     let level : c.index.result ≡ x.level - 1 = omega (arith, c.level.ensures) in
     let within = level-here s.table.arenas s.lists s.enqueued c.in_ok-index.index x c.self.invariant there c.remove-old.ensures.value in
-    let least = list-least s.table.arenas s.lists s.enqueued c.self.invariant x.level c.index.result within.0 within.1 level 0 c.take-taken.result.1 (omega (arith, c.take-taken.ensures.least)) in
-    rw (← c.self.view_is, here) (omega (arith, least))
+    rw (← c.self.view_is, here) (list-least s.table.arenas s.lists s.enqueued c.self.invariant x.level c.index.result within.0 within.1 level c.take-taken.result.1 c.take-taken.ensures.least)
 
 pub returns-clause-alone : goal.returns-clause-alone
 returns-clause-alone c =

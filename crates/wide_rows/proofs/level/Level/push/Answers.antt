@@ -6,7 +6,7 @@ use Rattle.prefix_tree.proofs.Readings.{requests-cons}
 use Rattle.wide_rows.specs.Leveled.{HasFewBoxes, IsLevel}
 use Rattle.wide_rows.specs.Forms.{leveled}
 use Rattle.wide_rows.specs.Shelves.{Shelved}
-use Rattle.wide_rows.proofs.NodeDigits.{bits-next}
+use Rattle.wide_rows.proofs.NodeDigits.{bits-next, put-leaf, put-shelf}
 use Rattle.wide_rows.proofs.OneLevel.{level_pushed, total_fits}
 use Rattle.wide_rows.proofs.level.Level.push.Goals as goal
 use Rattle.wide_rows.proofs.level.Level.push.Goals.{After-len-leaves}
@@ -46,6 +46,31 @@ returns-then-len-lt-MOST_ROWS-clause-visits c =
     let more : c.len-then-len-lt-MOST_ROWS.result ≡ length c.args.self.now.rows + 1 =
     omega (arith, c.len-then-len-lt-MOST_ROWS.ensures.exact, ap length c.deref-then-len-lt-MOST_ROWS.ensures, ap length c.push_newest-then-len-lt-MOST_ROWS.ensures, ap length c.deref_mut-then-len-lt-MOST_ROWS.ensures.value, ap length same) in
     omega (arith, c.enter-then-len-lt-MOST_ROWS.ensures.counted, ap bits more, bits-next (length c.args.self.now.rows))
+
+pub returns-in-Empty-clause-least : goal.returns-in-Empty-clause-least
+returns-in-Empty-clause-least c =
+    let none : length c.args.self.now.rows ≡ 0 = omega (arith, ap (λ level. length level.rows) c.self.view_is, ap (λ form. length (leveled form).rows) c.in-Empty.is) in
+    omega (arith, c.enter.ensures.counted, put-leaf (length c.args.self.now.rows), ap (λ n. bits (n + 1)) none)
+
+pub returns-then-len-lt-MOST_ROWS-clause-least : goal.returns-then-len-lt-MOST_ROWS-clause-least
+returns-then-len-lt-MOST_ROWS-clause-least c =
+    let rows : (leveled c.self.inside.form).rows ≡ c.in-Leaf.leaf.value = ap (λ form. (leveled form).rows) c.in-Leaf.is in
+    let same : c.args.self.now.rows ≡ c.in-Leaf.leaf.value = ap (λ level. level.rows) (sym c.self.view_is) ∙ rows in
+    let more : c.len-then-len-lt-MOST_ROWS.result ≡ length c.args.self.now.rows + 1 =
+    omega (arith, c.len-then-len-lt-MOST_ROWS.ensures.exact, ap length c.deref-then-len-lt-MOST_ROWS.ensures, ap length c.push_newest-then-len-lt-MOST_ROWS.ensures, ap length c.deref_mut-then-len-lt-MOST_ROWS.ensures.value, ap length same) in
+    omega (arith, c.enter-then-len-lt-MOST_ROWS.ensures.counted, ap bits more, put-leaf (length c.args.self.now.rows))
+
+pub returns-else-len-lt-MOST_ROWS-clause-least : goal.returns-else-len-lt-MOST_ROWS-clause-least
+returns-else-len-lt-MOST_ROWS-clause-least c =
+    let rows : (leveled c.self.inside.form).rows ≡ c.in-Leaf.leaf.value = ap (λ form. (leveled form).rows) c.in-Leaf.is in
+    let same : c.args.self.now.rows ≡ c.in-Leaf.leaf.value = ap (λ level. level.rows) (sym c.self.view_is) ∙ rows in
+    let many : 12 < length c.args.self.now.rows = omega (arith, c.if-len-lt-MOST_ROWS.false, c.len.ensures.exact, ap length c.deref.ensures, ap length same) in
+    omega (arith, c.open_shelf.ensures.entered, put-shelf (length c.args.self.now.rows) many)
+
+pub returns-in-Shelf-clause-least : goal.returns-in-Shelf-clause-least
+returns-in-Shelf-clause-least c =
+    let many : 12 < length c.args.self.now.rows = omega (arith, c.self.invariant.sound.boxes.shelves, ap (λ form. (leveled form).shelves) c.in-Shelf.is, ap (λ level. length level.rows) c.self.view_is) in
+    omega (arith, c.push_newest-in-Shelf.ensures.entered, put-shelf (length c.args.self.now.rows) many)
 
 pub returns-then-len-lt-MOST_ROWS-clause-alone : goal.returns-then-len-lt-MOST_ROWS-clause-alone
 returns-then-len-lt-MOST_ROWS-clause-alone c few =

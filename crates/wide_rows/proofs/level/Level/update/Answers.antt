@@ -1,8 +1,9 @@
-use Rattle.std.proofs.Common.{◌≡◌, ◌+◌, ◌-◌, length, refl, ap, arith, Some}
+use Rattle.std.proofs.Common.{◌≡◌, ◌+◌, ◌-◌, ◌<◌, length, refl, ap, arith, Some}
 use Rattle.prefix_tree.specs.Bits.{bits}
 use Rattle.prefix_tree.specs.Rows.{row_at, set_row}
 use Rattle.prefix_tree.proofs.Updates.{set-requests, request-within}
 use Rattle.wide_rows.specs.Leveled.{IsLevel}
+use Rattle.wide_rows.proofs.NodeDigits.{node-leaf, node-shelf}
 use Rattle.wide_rows.specs.Forms.{leveled}
 use Rattle.wide_rows.proofs.OneLevel.{level_set, total_fits}
 use Rattle.wide_rows.proofs.level.Level.update.Goals as goal
@@ -44,6 +45,21 @@ invariant_of-self c =
 
 pub returns-clause-sound : goal.returns-clause-sound
 returns-clause-sound c = sound c
+
+pub returns-clause-least : goal.returns-clause-least
+returns-clause-least c =
+    let same : length (leveled c.self.inside.form).rows ≡ length c.args.self.now.rows = ap (λ level. length level.rows) c.self.view_is in
+    elim c.match-self.branch [
+      | in-Empty w ↦
+          let none : length c.args.self.now.rows ≡ 0 = omega (arith, same, ap (λ form. length (leveled form).rows) w.in-Empty.is) in
+          omega (arith, ap bits none, w.visits-is, node-leaf (length c.args.self.now.rows))
+      | in-Leaf w ↦
+          let long : w.len.result ≡ length c.args.self.now.rows = omega (arith, same, w.len.ensures.exact, ap length w.deref.ensures, ap (λ form. length (leveled form).rows) w.in-Leaf.is) in
+          omega (arith, w.enter.ensures.counted, ap bits long, w.visits-is, node-leaf (length c.args.self.now.rows))
+      | in-Shelf w ↦
+          let many : 12 < length c.args.self.now.rows = omega (arith, same, c.self.invariant.sound.boxes.shelves, ap (λ form. (leveled form).shelves) w.in-Shelf.is) in
+          omega (arith, w.update.ensures.entered, w.visits-is, node-shelf (length c.args.self.now.rows) many)
+    ]
 
 -- what a leaf counts, where it has all rows
 pub returns-clause-alone : goal.returns-clause-alone
