@@ -2,14 +2,16 @@
 use Rattle.std.specs.Prelude.{◌≡◌, pos, true, false, [], ◌∷◌, refl}
 use Rattle.market_types.specs.declared.command.Call.{Call}
 use Rattle.market_types.specs.declared.command.Cmd.{Cmd}
-use Rattle.market_types.specs.declared.command.Cmd.TheVariants.{Open, Request, Control, Join, Leave, Show, Lists}
+use Rattle.market_types.specs.declared.command.Cmd.TheVariants.{Open, Close, Priority, Request, Control, Join, Leave, Show, Lists}
 use Rattle.market_types.specs.declared.reply.Fault.TheVariants.{NoArena}
-use Rattle.market_types.specs.declared.reply.Reply.TheVariants.{Moved, Placed, Idle, Left, Refused}
+use Rattle.market_types.specs.declared.reply.Reply.TheVariants.{Opened, Closed, Moved, Placed, Idle, Left, Refused}
 use Rattle.market_types.specs.State.{State, opening}
 use Rattle.market_types.specs.History.{state_after}
+use Rattle.market_types.specs.Step.{arena_at}
+use Rattle.arena_store.specs.Ways.{least_way}
 use Rattle.market_core.specs.Allotted.{level_allotment, total_allotment}
 use Rattle.market_core.specs.Memory.{takes_memory, is_refusal}
-use Rattle.market_core.specs.Visits.{extra_visits, most_visits, most_listed, most_joined, least_visits, lists_all, looks_in_order}
+use Rattle.market_core.specs.Visits.{extra_visits, most_visits, most_listed, most_joined, least_extra, least_seen, least_listed, least_visits, lists_all, looks_in_order}
 
 -- ---- memory
 
@@ -82,14 +84,42 @@ listed-of-three = refl
 joined-of-three : most_joined three ≡ 3
 joined-of-three = refl
 
-least-of-placed : least_visits three (Placed 3) ≡ 1
+least-of-placed : least_visits three Join (Placed 3) ≡ 1
 least-of-placed = refl
 
-least-of-moved : least_visits three Moved ≡ 2
+-- three arenas stand at level 2: two digits to go down to one of them, and one to put it alone at level 1
+least-of-moved : least_visits three (Priority 1 1) Moved ≡ 3
 least-of-moved = refl
 
-least-of-left : least_visits three (Left 3) ≡ 0
+least-of-left : least_visits three Leave (Left 3) ≡ 0
 least-of-left = refl
+
+least-of-closed : least_visits three (Close 2) Closed ≡ 2
+least-of-closed = refl
+
+-- with a fourth, three digits
+least-of-opened : least_visits three (Open 8 1 2) (Opened 4) ≡ 3
+least-of-opened = refl
+
+least-of-seen : least_seen three (arena_at 1 three.arenas) ≡ 2
+least-of-seen = refl
+
+-- each is allotted a worker
+least-of-listed : least_listed three ≡ 3
+least-of-listed = refl
+
+-- where no worker may be active, the level is looked at for enqueued work
+least-extra-of-none : least_extra none ≡ 2
+least-extra-of-none = refl
+
+way-to-one : least_way 1 ≡ 1
+way-to-one = refl
+
+way-to-one-of-twelve : least_way 12 ≡ 4
+way-to-one-of-twelve = refl
+
+way-to-one-of-many : least_way 1024 ≡ 4
+way-to-one-of-many = refl
 
 -- ---- what is allotted together
 

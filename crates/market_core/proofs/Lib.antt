@@ -13,3 +13,4 @@ mod Listing
 mod Seats
 mod Examples
 pub mod Crossing
+mod Meters

@@ -1,5 +1,5 @@
 -- An arena that is found by its number.
-use Rattle.std.proofs.Common.{◌≡◌, ℕ, true, cond, eqb, ◌+◌, ◌-◌, ◌<◌, ◌≤◌, false, length, List, [], ◌∷◌, Some, refl, sym, subst, arith, inl, inr}
+use Rattle.std.proofs.Common.{◌≡◌, ℕ, ◌+◌, ◌-◌, ◌<◌, ◌≤◌, length, List, [], ◌∷◌, Some, refl, sym, subst, arith, inl, inr}
 use Rattle.std.specs.List.{All}
 use Rattle.std.proofs.lemmas.Bool.{cases_Bool, eq-eqb}
 use Rattle.std.proofs.lemmas.List.Elements.{All-head, All-tail}
@@ -23,26 +23,7 @@ All-found P n (b ∷ bs) a e h =
           All-found P n bs a later (All-tail P b bs h)
     ]
 
--- it is one of them
-pub arenas-some : (n : ℕ) (arenas : List Arena) (a : Arena) → arena_at n arenas ≡ Some a → 0 < length arenas
-arenas-some n [] a e = cc
-arenas-some n (b ∷ bs) a e = omega arith
-
 -- ---- levels that are not empty
-
--- the level of an arena
-pub level-some : (n : ℕ) (arenas : List Arena) (a : Arena) → arena_at n arenas ≡ Some a → 0 < length (at_level a.level arenas)
-level-some n [] a e = cc
-level-some n (b ∷ bs) a e =
-    elim (cases_Bool (has_number n b)) [
-      | inl t ↦
-          let same : Some b ≡ Some a = rw t at e in
-          let q : b ≡ a = same_Some b a same in
-          rw (q, eq-eqb a.level a.level refl) (omega arith)
-      | inr f ↦
-          let later : arena_at n bs ≡ Some a = rw f at e in
-          elim (eqb b.level a.level) as (λ w. 0 < length (cond w (b ∷ at_level a.level bs) (at_level a.level bs))) [ true ↦ omega arith | false ↦ level-some n bs a later ]
-    ]
 
 -- what follows from an arena at any level follows from an arena
 pub some-level : (arenas : List Arena) (levels v : ℕ) → All (λ (a : Arena). (1 ≤ a.level) × (a.level ≤ levels)) arenas

@@ -5,7 +5,7 @@ ghost use Rattle.market_types.specs.Step.{arena_at, view_of};
 ghost use Rattle.allotment.specs.Levels.{AreDemandsOf, ArePicksOf, IsLeveled, pick_of};
 ghost use Rattle.arena_store.specs.Bits.{bits};
 ghost use Rattle.market_core.specs.Divided.{IsDivisionOf};
-ghost use Rattle.market_core.specs.Visits.{extra_visits};
+ghost use Rattle.market_core.specs.Visits.{extra_visits, least_extra, least_picked, least_seen, least_share};
 ghost use Rattle.market_types.specs.State.{State};
 ghost use Rattle.market_types.specs.Claims.{request_of};
 ghost use Rattle.market_core.specs.Allotted.{IsWithin, level_allotment};
@@ -31,7 +31,8 @@ impl Market {
     /// The first arena of each level that has enqueued work and asks for workers.
     fn picks(&self) -> ([Option<ArenaId>; 8], u32)
         ensures exact { ArePicksOf self.now result.0 }
-        ensures entered { 0 < length self.now.arenas → 1 ≤ result.1 }
+        ensures least { least_picked self.now.arenas self.now.levels ≤ result.1 }
+        ensures alone { length self.now.arenas ≤ 12 → result.1 ≡ least_picked self.now.arenas self.now.levels }
         ensures visits { result.1 ≤ self.now.levels * (2 * bits (length self.now.arenas)) }
         ensures few { result.1 ≤ 176 }
     {
@@ -53,7 +54,8 @@ impl Market {
     #[inline(never)]
     fn pick(&self) -> (Option<ArenaId>, u32)
         ensures exact { result.0 ≡ pick_of self.now }
-        ensures entered { 0 < length self.now.arenas → 1 ≤ result.1 }
+        ensures least { least_picked self.now.arenas self.now.levels ≤ result.1 }
+        ensures alone { length self.now.arenas ≤ 12 → result.1 ≡ least_picked self.now.arenas self.now.levels }
         ensures visits { result.1 ≤ self.now.levels * (2 * bits (length self.now.arenas)) }
         ensures few { result.1 ≤ 176 }
     {
@@ -66,7 +68,8 @@ impl Market {
     #[inline(always)]
     pub(super) fn divide(&self) -> Division
         ensures exact { IsDivisionOf self.now result }
-        ensures entered { limit_of self.now ≡ 0 → 0 < length self.now.arenas → 1 ≤ result.visits }
+        ensures least { least_extra self.now ≤ result.visits }
+        ensures alone { length self.now.arenas ≤ 12 → result.visits ≡ least_extra self.now }
         ensures visits { result.visits ≤ extra_visits self.now }
         ensures few { result.visits ≤ 176 }
     {
@@ -97,7 +100,8 @@ impl Market {
         requires there { arena_at stored.number self.now.arenas ≡ Some stored }
         requires divided { IsDivisionOf self.now division.now }
         ensures exact { result.0 ≡ allotment_of self.now stored.number }
-        ensures entered { 0 < limit_of self.now → 0 < request_of stored.claim → 1 ≤ result.1 }
+        ensures least { least_share self.now stored ≤ result.1 }
+        ensures alone { length self.now.arenas ≤ 12 → result.1 ≡ least_share self.now stored }
         ensures visits { result.1 ≤ 2 * bits (length self.now.arenas) }
         ensures few { result.1 ≤ 22 }
     {
@@ -122,7 +126,8 @@ impl Market {
         requires there { arena_at stored.number self.now.arenas ≡ Some stored }
         ensures exact { result.0 ≡ view_of self.now stored }
         ensures small { result.0.request ≤ 65535 }
-        ensures entered { 0 < request_of stored.claim → 1 ≤ result.1 }
+        ensures least { least_seen self.now (Some stored) ≤ result.1 }
+        ensures alone { length self.now.arenas ≤ 12 → result.1 ≡ least_seen self.now (Some stored) }
         ensures visits { result.1 ≤ 2 * bits (length self.now.arenas) + extra_visits self.now }
     {
         let division = &self.divide();
@@ -201,7 +206,8 @@ impl Market {
     /// How many workers an arena is allotted; none where no living arena has this number.
     pub(super) fn allotment_by_number(&self, arena: ArenaId) -> (u32, u32)
         ensures exact { result.0 ≡ allotment_of self.now arena }
-        ensures entered { 0 < allotment_of self.now arena → 1 ≤ result.1 }
+        ensures least { least_seen self.now (arena_at arena self.now.arenas) ≤ result.1 }
+        ensures alone { length self.now.arenas ≤ 12 → result.1 ≡ least_seen self.now (arena_at arena self.now.arenas) }
         ensures visits { result.1 ≤ 2 * bits (length self.now.arenas) + extra_visits self.now }
     {
         self.arenas_are_within();

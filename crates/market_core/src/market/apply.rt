@@ -2,7 +2,7 @@
 ghost use Rattle.std.specs.Prelude.{◌≡◌, ◌≤◌, ◌<◌, length, None, false, true, IsOk, IfOk, OnOk, OnErr};
 ghost use Rattle.std.specs.Bool.{OnTrue};
 ghost use Rattle.market_types.specs.Step.{open_step, close_step, priority_step, resize_step, request_step, control_step, uncontrol_step, join_from, stay_from, leave_from, place_of, with_place, show_step, counts_of, step};
-ghost use Rattle.market_types.specs.declared.command.Cmd.TheVariants.{Join};
+ghost use Rattle.market_types.specs.declared.command.Cmd.TheVariants.{Open, Close, Priority, Resize, Request, Join, Stay, Show, Lists};
 ghost use Rattle.market_types.specs.declared.reply.Reply.TheVariants.{Idle, Listed};
 ghost use Rattle.market_core.specs.Memory.{is_refusal, takes_memory};
 ghost use Rattle.market_core.specs.Visits.{most_visits, most_listed, most_joined, least_visits, looks_in_order, lists_all};
@@ -45,9 +45,13 @@ impl Market {
     /// over the same, a row that it looks at one. For every command but Join and Lists they are no more than four times as
     /// many as the number of living arenas has binary digits, and one; for Lists no more than there are arenas; for Join no
     /// more than there are arenas, nor than 22 for each arena that is allotted a worker until one has too few, and for each
-    /// level; where no worker may be active, twice as many as these digits more for each level. They are no fewer than one
-    /// for each row that was put in, taken out or set, one to see an arena that asks for workers or to place or keep a seat,
-    /// one for each arena that is allotted a worker, up to the one that a Join finds, and one for each arena that is listed.
+    /// level; where no worker may be active, twice as many as these digits more for each level.
+    ///
+    /// They are no fewer than a way down takes to an arena that goes, moves, or is seen and asks for workers: as many as the
+    /// number of arenas at its level has binary digits, and 4 for 8 or more; one for an arena that is put in or set; one for
+    /// each arena that is allotted a worker, up to the one that a Join finds; for Lists one for each arena up to the last that
+    /// has seats, and for each behind it that is allotted a worker; and where no worker may be active, one for each level that
+    /// has arenas. Among at most 12 arenas they are just so many as the state and the reply say, but for Join and Lists.
     #[inline(always)]
     pub fn apply_counted(
         &mut self,
@@ -61,7 +65,8 @@ impl Market {
         ensures unchanged { OnErr result (self.new ≡ self.old) }
         ensures no_memory { takes_memory cmd ≡ false → IsOk result }
         ensures memory_last { OnErr result (is_refusal (step self.old seat cmd).0 ≡ false) }
-        ensures entered { IfOk result (λ answer. least_visits self.old answer.0 ≤ answer.1) }
+        ensures least { IfOk result (λ answer. least_visits self.old cmd answer.0 ≤ answer.1) }
+        ensures alone { length self.old.arenas ≤ 12 → looks_in_order cmd ≡ false → IfOk result (λ answer. answer.1 ≡ least_visits self.old cmd answer.0) }
         ensures visits { looks_in_order cmd ≡ false → IfOk result (λ answer. answer.1 ≤ most_visits self.old) }
         ensures listed { lists_all cmd ≡ true → IfOk result (λ answer. answer.1 ≤ most_listed self.old) }
         ensures joined { cmd ≡ Join → IfOk result (λ answer. answer.1 ≤ most_joined self.old) }
@@ -98,7 +103,8 @@ impl Market {
         ensures next { OnOk result (self.new ≡ (open_step self.old slots reserved level).1) }
         ensures unchanged { OnErr result (self.new ≡ self.old) }
         ensures memory_last { OnErr result (is_refusal (open_step self.old slots reserved level).0 ≡ false) }
-        ensures entered { IfOk result (λ answer. least_visits self.old answer.0 ≤ answer.1) }
+        ensures least { IfOk result (λ answer. least_visits self.old (Open slots reserved level) answer.0 ≤ answer.1) }
+        ensures alone { length self.old.arenas ≤ 12 → IfOk result (λ answer. answer.1 ≡ least_visits self.old (Open slots reserved level) answer.0) }
         ensures visits { IfOk result (λ answer. answer.1 ≤ most_visits self.old) }
     {
         let claim = match ArenaRecord::new(slots, reserved) {
@@ -132,7 +138,8 @@ impl Market {
     fn close(&mut self, arena: ArenaId) -> (Reply, u64)
         ensures reply { result.0 ≡ (close_step self.old arena).0 }
         ensures next { self.new ≡ (close_step self.old arena).1 }
-        ensures entered { least_visits self.old result.0 ≤ result.1 }
+        ensures least { least_visits self.old (Close arena) result.0 ≤ result.1 }
+        ensures alone { length self.old.arenas ≤ 12 → result.1 ≡ least_visits self.old (Close arena) result.0 }
         ensures visits { result.1 ≤ most_visits self.old }
     {
         let active = self.roster.active(arena);
@@ -154,7 +161,8 @@ impl Market {
     fn priority(&mut self, arena: ArenaId, level: Level) -> (Reply, u64)
         ensures reply { result.0 ≡ (priority_step self.old arena level).0 }
         ensures next { self.new ≡ (priority_step self.old arena level).1 }
-        ensures entered { least_visits self.old result.0 ≤ result.1 }
+        ensures least { least_visits self.old (Priority arena level) result.0 ≤ result.1 }
+        ensures alone { length self.old.arenas ≤ 12 → result.1 ≡ least_visits self.old (Priority arena level) result.0 }
         ensures visits { result.1 ≤ most_visits self.old }
     {
         if self.opening.levels < level.get() {
@@ -179,7 +187,8 @@ impl Market {
     fn resize(&mut self, arena: ArenaId, slots: u32, reserved: u32) -> (Reply, u64)
         ensures reply { result.0 ≡ (resize_step self.old arena slots reserved).0 }
         ensures next { self.new ≡ (resize_step self.old arena slots reserved).1 }
-        ensures entered { least_visits self.old result.0 ≤ result.1 }
+        ensures least { least_visits self.old (Resize arena slots reserved) result.0 ≤ result.1 }
+        ensures alone { length self.old.arenas ≤ 12 → result.1 ≡ least_visits self.old (Resize arena slots reserved) result.0 }
         ensures visits { result.1 ≤ most_visits self.old }
     {
         if let Err(fault) = ArenaRecord::new(slots, reserved) {
@@ -197,7 +206,8 @@ impl Market {
     fn request(&mut self, arena: ArenaId, workers: i32, mandatory: i32) -> (Reply, u64)
         ensures reply { result.0 ≡ (request_step self.old arena workers mandatory).0 }
         ensures next { self.new ≡ (request_step self.old arena workers mandatory).1 }
-        ensures entered { least_visits self.old result.0 ≤ result.1 }
+        ensures least { least_visits self.old (Request arena workers mandatory) result.0 ≤ result.1 }
+        ensures alone { length self.old.arenas ≤ 12 → result.1 ≡ least_visits self.old (Request arena workers mandatory) result.0 }
         ensures visits { result.1 ≤ most_visits self.old }
     {
         self.nobody_needed = false;
@@ -250,7 +260,7 @@ impl Market {
     fn join(&mut self, seat: SeatNo) -> (Reply, u64)
         requires seat { seat < length self.old.seats }
         ensures reply { result.0 ≡ (join_from self.old seat (place_of self.old seat)).0 }
-        ensures entered { least_visits self.old result.0 ≤ result.1 }
+        ensures least { least_visits self.old Join result.0 ≤ result.1 }
         ensures joined { result.1 ≤ most_joined self.old }
         ensures next { self.new ≡ (join_from self.old seat (place_of self.old seat)).1 }
     {
@@ -272,7 +282,8 @@ impl Market {
         requires seat { seat < length self.old.seats }
         ensures reply { result.0 ≡ (stay_from self.old seat (place_of self.old seat)).0 }
         ensures next { self.new ≡ (stay_from self.old seat (place_of self.old seat)).1 }
-        ensures entered { least_visits self.old result.0 ≤ result.1 }
+        ensures least { least_visits self.old Stay result.0 ≤ result.1 }
+        ensures alone { length self.old.arenas ≤ 12 → result.1 ≡ least_visits self.old Stay result.0 }
         ensures visits { result.1 ≤ most_visits self.old }
     {
         let Some(arena) = self.roster.at(seat) else {
@@ -313,7 +324,8 @@ impl Market {
     #[inline(always)]
     fn show(&self, arena: ArenaId) -> (Reply, u64)
         ensures reply { result.0 ≡ (show_step self.now arena).0 }
-        ensures entered { least_visits self.now result.0 ≤ result.1 }
+        ensures least { least_visits self.now (Show arena) result.0 ≤ result.1 }
+        ensures alone { length self.now.arenas ≤ 12 → result.1 ≡ least_visits self.now (Show arena) result.0 }
         ensures visits { result.1 ≤ most_visits self.now }
     {
         let Some(stored) = self.arenas.get(arena) else {
@@ -327,7 +339,7 @@ impl Market {
     #[inline(always)]
     fn list(&self, alloc: Global) -> Result<(Reply, u64), AllocError>
         ensures reply { IfOk result (λ answer. answer.0 ≡ Listed (counts_of self.now)) }
-        ensures entered { IfOk result (λ answer. least_visits self.now answer.0 ≤ answer.1) }
+        ensures least { IfOk result (λ answer. least_visits self.now Lists answer.0 ≤ answer.1) }
         ensures listed { IfOk result (λ answer. answer.1 ≤ most_listed self.now) }
     {
         let (lists, visits) = self.lists(alloc)?;

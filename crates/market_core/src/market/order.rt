@@ -2,11 +2,11 @@
 ghost use Rattle.std.specs.Prelude.{◌≡◌, ◌+◌, ◌*◌, ◌≤◌, length, IfOk, OnOk, IfSome};
 ghost use Rattle.market_types.specs.Allotment.{at_level, limit_of};
 ghost use Rattle.market_types.specs.Step.{counts_of};
-ghost use Rattle.recall_hire.specs.Staffed.{actives, imbalances, need_among, need_of, searches};
+ghost use Rattle.recall_hire.specs.Staffed.{actives, imbalances, looks, need_among, need_of, searches};
 ghost use Rattle.recall_hire.specs.Shared.{IsListed};
 ghost use Rattle.arena_store.specs.Bits.{bits};
 ghost use Rattle.market_core.specs.Divided.{IsDivisionOf, IsSharedAt, rows_at};
-ghost use Rattle.market_core.specs.Visits.{most_joined, most_listed, searched};
+ghost use Rattle.market_core.specs.Visits.{least_extra, least_listed, most_joined, most_listed, searched};
 
 use super::Market;
 use crate::division::Division;
@@ -34,7 +34,7 @@ impl Market {
     pub(super) fn first_in_need(&self) -> (Option<ArenaId>, u32)
         ensures exact { result.0 ≡ need_of self.now }
         ensures entered { IfSome result.0 (λ _. 1 ≤ result.1) }
-        ensures every_search { searched self.now ≤ result.1 }
+        ensures every_search { searched self.now + least_extra self.now ≤ result.1 }
         ensures most { result.1 ≤ most_joined self.now }
     {
         let levels = self.opening.levels;
@@ -82,6 +82,7 @@ impl Market {
         ensures listed { OnOk result (IsListed (rows_at self.now level) lists.old lists.new) }
         ensures met { OnOk result (unmet.old ≡ unmet.new + actives (rows_at self.now level)) }
         ensures looked { IfOk result (λ visits. imbalances (rows_at self.now level) ≤ visits) }
+        ensures met_first { IfOk result (λ visits. looks unmet.old (rows_at self.now level) ≤ visits) }
         ensures once { IfOk result (λ visits. visits ≤ length (rows_at self.now level)) }
         ensures few { length self.now.arenas ≤ 1024 }
     {
@@ -99,6 +100,7 @@ impl Market {
     pub(super) fn lists(&self, alloc: Global) -> Result<(Lists, u32), AllocError>
         ensures exact { IfOk result (λ answer. answer.0 ≡ counts_of self.now) }
         ensures looked { IfOk result (λ answer. length answer.0.recalls + length answer.0.hires ≤ answer.1) }
+        ensures met_first { IfOk result (λ answer. least_listed self.now ≤ answer.1) }
         ensures once { IfOk result (λ answer. answer.1 ≤ most_listed self.now) }
     {
         let division = &self.divide();

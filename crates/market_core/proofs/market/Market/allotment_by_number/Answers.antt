@@ -1,11 +1,9 @@
-use Rattle.std.proofs.Common.{ap, arith, inl, inr, sym, ◌∙◌, ◌≡◌, ◌≤◌, Some}
-use Rattle.std.proofs.lemmas.Bool.{cases_lt}
+use Rattle.std.proofs.Common.{ap, arith, sym, ◌∙◌, ◌≡◌, Some, None}
 use Rattle.market_types.specs.State.{State}
-use Rattle.market_types.specs.Claims.{request_of}
-use Rattle.market_types.specs.Allotment.{allotment_of, limit_of}
+use Rattle.market_types.specs.Allotment.{allotment_of}
 use Rattle.market_types.specs.Step.{arena_at}
 use Rattle.market_core.proofs.Allotted.{allotment_of-missing}
-use Rattle.market_core.proofs.Numbers.{arenas-some}
+use Rattle.market_core.proofs.Meters.{seen-none, seen-some}
 use Rattle.market_core.proofs.market.Market.allotment_by_number.Goals as goal
 
 pub returns-in_default-clause-exact : goal.returns-in_default-clause-exact
@@ -13,11 +11,15 @@ returns-in_default-clause-exact c =
     let missing = sym c.get.ensures.exact ∙ c.in_default.is in
     sym (allotment_of-missing c.args.self.now c.args.arena (ap (λ (s : State). arena_at c.args.arena s.arenas) (sym c.self.view_is) ∙ missing))
 
-pub returns-in_default-clause-entered : goal.returns-in_default-clause-entered
-returns-in_default-clause-entered c =
-    λ some.
-    let none : 0 ≡ allotment_of c.args.self.now c.args.arena = returns-in_default-clause-exact c in
-    omega (arith, some)
+pub returns-in_default-clause-least : goal.returns-in_default-clause-least
+returns-in_default-clause-least c =
+    let missing : arena_at c.args.arena c.args.self.now.arenas ≡ None = ap (λ (s : State). arena_at c.args.arena s.arenas) (sym c.self.view_is) ∙ sym c.get.ensures.exact ∙ c.in_default.is in
+    omega (arith, seen-none c.args.self.now (arena_at c.args.arena c.args.self.now.arenas) missing)
+
+pub returns-in_default-clause-alone : goal.returns-in_default-clause-alone
+returns-in_default-clause-alone c few =
+    let missing : arena_at c.args.arena c.args.self.now.arenas ≡ None = ap (λ (s : State). arena_at c.args.arena s.arenas) (sym c.self.view_is) ∙ sym c.get.ensures.exact ∙ c.in_default.is in
+    sym (seen-none c.args.self.now (arena_at c.args.arena c.args.self.now.arenas) missing)
 
 pub allotment_of-allot-requires-clause-there : goal.allotment_of-allot-requires-clause-there
 allotment_of-allot-requires-clause-there c =
@@ -27,16 +29,14 @@ allotment_of-allot-requires-clause-there c =
 pub returns-clause-exact : goal.returns-clause-exact
 returns-clause-exact c = c.allotment_of-allot.ensures.exact ∙ ap (allotment_of c.args.self.now) c.in-Some.ensures.number
 
-pub returns-clause-entered : goal.returns-clause-entered
-returns-clause-entered c = λ some.
-    let s = c.args.self.now in
-    let a = c.in-Some.stored in
-    let there : arena_at a.number s.arenas ≡ Some a =
-    ap (λ n. arena_at n s.arenas) c.in-Some.ensures.number
-    ∙ ap (λ (t : State). arena_at c.args.arena t.arenas) (sym c.self.view_is) ∙ sym c.get.ensures.exact ∙ c.in-Some.is in
-    let few : allotment_of s a.number ≤ request_of a.claim = (c.arenas_are_within.ensures a there).allotted in
-    let same : allotment_of s a.number ≡ allotment_of s c.args.arena = ap (allotment_of s) c.in-Some.ensures.number in
-    elim (cases_lt 0 (limit_of s)) [
-      | inl l ↦ omega (arith, c.allotment_of-allot.ensures.entered l (omega (arith, some, few, same)))
-      | inr z ↦ omega (arith, c.divide.ensures.entered (omega arith) (arenas-some a.number s.arenas a there))
-    ]
+pub returns-clause-least : goal.returns-clause-least
+returns-clause-least c =
+    let there : arena_at c.args.arena c.args.self.now.arenas ≡ Some c.in-Some.stored = ap (λ (t : State). arena_at c.args.arena t.arenas) (sym c.self.view_is) ∙ sym c.get.ensures.exact ∙ c.in-Some.is in
+    let seen = seen-some c.args.self.now (arena_at c.args.arena c.args.self.now.arenas) c.in-Some.stored there in
+    omega (arith, seen, c.allotment_of-allot.ensures.least, c.divide.ensures.least)
+
+pub returns-clause-alone : goal.returns-clause-alone
+returns-clause-alone c few =
+    let there : arena_at c.args.arena c.args.self.now.arenas ≡ Some c.in-Some.stored = ap (λ (t : State). arena_at c.args.arena t.arenas) (sym c.self.view_is) ∙ sym c.get.ensures.exact ∙ c.in-Some.is in
+    let seen = seen-some c.args.self.now (arena_at c.args.arena c.args.self.now.arenas) c.in-Some.stored there in
+    omega (arith, seen, c.allotment_of-allot.ensures.alone few, c.divide.ensures.alone few)

@@ -1,10 +1,14 @@
-use Rattle.std.proofs.Common.{arith, refl, sym, ap, subst, ◌∙◌, ◌≡◌, ℕ, ◌+◌, ◌*◌, ◌-◌, ◌≤◌, ◌<◌, get_or}
+use Rattle.std.proofs.Common.{arith, refl, sym, ap, subst, ◌∙◌, ◌≡◌, ℕ, ◌+◌, ◌*◌, ◌-◌, ◌≤◌, ◌<◌, get_or, length}
 use Rattle.std.proofs.lemmas.Option.{get_or_from_slice_get}
 use Rattle.market_types.specs.State.{Arena, State}
 use Rattle.market_types.specs.Claims.{request_of}
 use Rattle.market_types.specs.Allotment.{total_request, at_level, demand, assigned, limit_of, share_of, carry_after}
 use Rattle.arena_store.specs.Arenas.{newer, IsFound}
-use Rattle.market_core.proofs.Numbers.{All-found, level-some}
+use Rattle.arena_store.specs.Bits.{bits}
+use Rattle.arena_store.specs.Ways.{least_way}
+use Rattle.market_core.specs.Visits.{least_share}
+use Rattle.market_core.proofs.Numbers.{All-found}
+use Rattle.market_core.proofs.Meters.{level-few, way-alone, share-nobody, share-unasked, share-way}
 use Rattle.market_core.proofs.Allotted.{allotment_of-found, request-within}
 use Rattle.market_core.proofs.market.Market.allotment_of.Goals as goal
 use Rattle.market_core.proofs.market.Market.allotment_of.Goals.{After-before-before}
@@ -83,8 +87,39 @@ returns-clause-exact c =
     (record { assigned_is = given here; demand_is = demanded here; request_is = asked here }) (before here)
     ∙ sym (allotment_of-found s row.number row (found-here here) (level-within here) some (c.no_carry_to_keep.ensures.after_a_level s (assigned s)))
 
-pub returns-clause-entered : goal.returns-clause-entered
-returns-clause-entered c = λ some asks.
+pub returns-then-division-eq0-clause-least : goal.returns-then-division-eq0-clause-least
+returns-then-division-eq0-clause-least c = omega (arith, share-nobody c.args.self.now c.args.stored (sym c.requires.divided.limit ∙ c.if-division-eq0.true))
+
+pub returns-then-division-eq0-clause-alone : goal.returns-then-division-eq0-clause-alone
+returns-then-division-eq0-clause-alone c few = sym (share-nobody c.args.self.now c.args.stored (sym c.requires.divided.limit ∙ c.if-division-eq0.true))
+
+pub returns-then-request-eq0-clause-least : goal.returns-then-request-eq0-clause-least
+returns-then-request-eq0-clause-least c =
+    let idle : request_of c.args.stored.claim ≡ 0 = sym (c.from-request.ensures ∙ c.request.ensures.exact ∙ ap request_of c.claim.ensures) ∙ c.if-request-eq0.true in
+    omega (arith, share-unasked c.args.self.now c.args.stored idle)
+
+pub returns-then-request-eq0-clause-alone : goal.returns-then-request-eq0-clause-alone
+returns-then-request-eq0-clause-alone c few =
+    let idle : request_of c.args.stored.claim ≡ 0 = sym (c.from-request.ensures ∙ c.request.ensures.exact ∙ ap request_of c.claim.ensures) ∙ c.if-request-eq0.true in
+    sym (share-unasked c.args.self.now c.args.stored idle)
+
+-- the way down that an allotment takes
+way : (c : After-before-before) → 0 < limit_of c.args.self.now → 0 < c.from-request.result → least_share c.args.self.now c.args.stored ≡ least_way (length (at_level c.args.stored.level c.args.self.now.arenas))
+way c some asks = share-way c.args.self.now c.args.stored some (omega (arith, asks, asked c))
+
+pub returns-clause-least : goal.returns-clause-least
+returns-clause-least c =
     let at : c.level-level.result ≡ c.args.stored.level = c.level-level.ensures in
     let arenas : c.self.inside.arenas ≡ c.args.self.now.arenas = ap (λ (s : State). s.arenas) c.self.view_is in
-    c.before-before.ensures.entered (rw (at, arenas) (level-some c.args.stored.number c.args.self.now.arenas c.args.stored c.requires.there))
+    let is = way (goal.at.returns-clause-least c).After-before-before (omega (arith, c.requires.divided.limit, c.if-division-eq0.false)) (omega (arith, c.if-request-eq0.false)) in
+    let least : least_way (length (at_level c.args.stored.level c.args.self.now.arenas)) ≤ c.before-before.result.1 = rw (← at, ← arenas) c.before-before.ensures.least in
+    omega (arith, is, least)
+
+pub returns-clause-alone : goal.returns-clause-alone
+returns-clause-alone c few =
+    let at : c.level-level.result ≡ c.args.stored.level = c.level-level.ensures in
+    let arenas : c.self.inside.arenas ≡ c.args.self.now.arenas = ap (λ (s : State). s.arenas) c.self.view_is in
+    let here : length (at_level c.args.stored.level c.args.self.now.arenas) ≤ 12 = omega (arith, few, level-few c.args.stored.level c.args.self.now.arenas) in
+    let is = way (goal.at.returns-clause-alone c).After-before-before (omega (arith, c.requires.divided.limit, c.if-division-eq0.false)) (omega (arith, c.if-request-eq0.false)) in
+    let alone : length (at_level c.args.stored.level c.args.self.now.arenas) ≤ 12 → c.before-before.result.1 ≡ bits (length (at_level c.args.stored.level c.args.self.now.arenas)) = rw (← at, ← arenas) c.before-before.ensures.alone in
+    omega (arith, is, alone here, way-alone (length (at_level c.args.stored.level c.args.self.now.arenas)) here)

@@ -1,9 +1,9 @@
-use Rattle.std.proofs.Common.{◌≡◌, ℕ, ◌≤◌, true, false, Option, Some, None, Result, Ok, Err, refl, ap, sym, ◌∙◌, arith}
+use Rattle.std.proofs.Common.{◌≡◌, ℕ, ◌≤◌, false, Option, Some, None, Result, Ok, Err, refl, ap, sym, ◌∙◌, arith}
 use Rattle.std.proofs.lemmas.Bool.{true≢false, false≢true}
 use Rattle.std.specs.declared.alloc.AllocError.{AllocError}
 use Rattle.std.specs.Prelude.{OnOk, OnErr}
 use Rattle.market_types.specs.declared.command.Cmd.{Cmd}
-use Rattle.market_types.specs.declared.command.Cmd.TheVariants.{Join, Lists, Limit, Open, Close, Priority, Resize, Stay, Show}
+use Rattle.market_types.specs.declared.command.Cmd.TheVariants.{Join}
 use Rattle.market_types.specs.declared.reply.Reply.{Reply}
 use Rattle.market_types.specs.declared.reply.Reply.TheVariants.{Limits, Shown}
 use Rattle.market_types.specs.State.{State, Arena}
@@ -42,7 +42,8 @@ returns-in-Open c =
       unchanged = c.open.ensures.unchanged;
       no_memory = λ none. absurd (true≢false none);
       memory_last = c.open.ensures.memory_last;
-      entered = c.open.ensures.entered;
+      least = c.open.ensures.least;
+      alone = λ few _. c.open.ensures.alone few;
       visits = λ _. c.open.ensures.visits;
       listed = λ lists. absurd (false≢true lists);
       joined = λ join. absurd (no-join _ refl join);
@@ -56,7 +57,8 @@ returns-in-Close c =
       unchanged = tt;
       no_memory = λ _. refl;
       memory_last = tt;
-      entered = c.close.ensures.entered;
+      least = c.close.ensures.least;
+      alone = λ few _. c.close.ensures.alone few;
       visits = λ _. c.close.ensures.visits;
       listed = λ lists. absurd (false≢true lists);
       joined = λ join. absurd (no-join _ refl join);
@@ -70,7 +72,8 @@ returns-in-Priority c =
       unchanged = tt;
       no_memory = λ _. refl;
       memory_last = tt;
-      entered = c.priority.ensures.entered;
+      least = c.priority.ensures.least;
+      alone = λ few _. c.priority.ensures.alone few;
       visits = λ _. c.priority.ensures.visits;
       listed = λ lists. absurd (false≢true lists);
       joined = λ join. absurd (no-join _ refl join);
@@ -84,7 +87,8 @@ returns-in-Resize c =
       unchanged = tt;
       no_memory = λ _. refl;
       memory_last = tt;
-      entered = c.resize.ensures.entered;
+      least = c.resize.ensures.least;
+      alone = λ few _. c.resize.ensures.alone few;
       visits = λ _. c.resize.ensures.visits;
       listed = λ lists. absurd (false≢true lists);
       joined = λ join. absurd (no-join _ refl join);
@@ -98,7 +102,8 @@ returns-in-Stay c =
       unchanged = tt;
       no_memory = λ _. refl;
       memory_last = tt;
-      entered = c.stay.ensures.entered;
+      least = c.stay.ensures.least;
+      alone = λ few _. c.stay.ensures.alone few;
       visits = λ _. c.stay.ensures.visits;
       listed = λ lists. absurd (false≢true lists);
       joined = λ join. absurd (no-join _ refl join);
@@ -112,7 +117,8 @@ returns-in-Show c =
       unchanged = tt;
       no_memory = λ _. refl;
       memory_last = tt;
-      entered = c.show.ensures.entered;
+      least = c.show.ensures.least;
+      alone = λ few _. c.show.ensures.alone few;
       visits = λ _. c.show.ensures.visits;
       listed = λ lists. absurd (false≢true lists);
       joined = λ join. absurd (no-join _ refl join);
@@ -126,7 +132,8 @@ returns-in-Join c =
       unchanged = tt;
       no_memory = λ _. refl;
       memory_last = tt;
-      entered = c.join.ensures.entered;
+      least = c.join.ensures.least;
+      alone = λ _ other. absurd (true≢false other);
       visits = λ other. absurd (true≢false other);
       listed = λ lists. absurd (false≢true lists);
       joined = λ _. c.join.ensures.joined;
@@ -140,7 +147,8 @@ returns-in-Lists c =
       unchanged = always-err c.list.result _ refl;
       no_memory = λ none. absurd (true≢false none);
       memory_last = always-err c.list.result _ refl;
-      entered = c.list.ensures.entered;
+      least = c.list.ensures.least;
+      alone = λ _ other. absurd (true≢false other);
       visits = λ other. absurd (true≢false other);
       listed = λ _. c.list.ensures.listed;
       joined = λ join. absurd (true≢false (ap lists_all join));
@@ -154,7 +162,8 @@ returns-in-Limit c =
       unchanged = tt;
       no_memory = λ _. refl;
       memory_last = tt;
-      entered = none-least 0;
+      least = none-least 0;
+      alone = λ _ _. refl;
       visits = λ _. none-least _;
       listed = λ _. none-least _;
       joined = λ _. none-least _;

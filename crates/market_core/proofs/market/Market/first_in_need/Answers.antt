@@ -7,6 +7,7 @@ use Rattle.market_core.specs.Divided.{rows_at}
 use Rattle.market_core.specs.Sound.{IsSound}
 use Rattle.market_core.proofs.InNeed.{need-found, need-later, need-done, needed-entered, found-some, searches-later, searches-found, searches-done, searched-within, searched-nobody}
 use Rattle.market_core.proofs.LevelWalk.{coming-length, extra-none}
+use Rattle.market_core.proofs.Meters.{picked-some, extra-none as least-none, extra-some as least-some}
 use Rattle.market_core.proofs.Order.{levels_from, in_order-length}
 use Rattle.market_core.proofs.market.Market.first_in_need.Goals as goal
 use Rattle.market_core.proofs.market.Market.first_in_need.Goals.{After-in_need_at-found}
@@ -69,12 +70,13 @@ returns-then-is_some c =
     let all_later = s.levels - c.loop-level.level in
     let visits = c.loop-level.visits + c.in_need_at-found.result.1 in
     let found = sym c.is_some.ensures ∙ c.if-is_some.true in
+    let some : 0 < limit_of s = omega (arith, c.divide.ensures.exact.limit, c.if-division-eq0.false) in
     let all : searches (rows_among s (levels_from level all_later s.arenas)) ≡ searches (rows_at s level) =
     searches-found s level (s.levels - level) all_later c.in_need_at-found.result.0 (one at) found (here at) in
     record {
       exact = need-found s level (s.levels - level) all_later c.in_need_at-found.result.0 (one at) found (here at) ∙ sym c.loop-level.invariant.needed;
       entered = found-some s (at_level level s.arenas) c.in_need_at-found.result.0 visits (here at) (omega (arith, looked at));
-      every_search = searched-within s visits (omega (arith, all, c.loop-level.invariant.counted, looked at));
+      every_search = omega (arith, searched-within s visits (omega (arith, all, c.loop-level.invariant.counted, looked at)), least-none s some);
       most = omega (arith, ap (λ n. n * (2 * bits (length s.arenas))) all, lengths at, once at, c.loop-level.invariant.once, c.loop-level.invariant.bounded, most at);
     }
 
@@ -99,10 +101,11 @@ returns c =
     let level = c.loop-level.level in
     let levels : c.self.inside.opening.levels ≡ s.levels = ap (λ (t : State). t.levels) c.self.view_is in
     let over : s.levels - level ≡ 0 = omega (arith, levels, c.loop-level-test.false) in
+    let some : 0 < limit_of s = omega (arith, c.divide.ensures.exact.limit, c.if-division-eq0.false) in
     record {
       exact = sym (c.loop-level.invariant.needed ∙ need-done s (level + 1) (s.levels - level) over);
       entered = tt;
-      every_search = searched-within s c.loop-level.visits (omega (arith, c.loop-level.invariant.counted, searches-done s (level + 1) (s.levels - level) over));
+      every_search = omega (arith, searched-within s c.loop-level.visits (omega (arith, c.loop-level.invariant.counted, searches-done s (level + 1) (s.levels - level) over)), least-none s some);
       most = omega (arith, c.loop-level.invariant.bounded, c.loop-level.invariant.once);
     }
 
@@ -111,10 +114,11 @@ returns-then-division-eq0-clause-entered c =
     let s = c.args.self.now in
     let sound : IsSound s = rw c.self.view_is at c.self.invariant.sound in
     let none : limit_of s ≡ 0 = sym c.divide.ensures.exact.limit ∙ c.if-division-eq0.true in
-    needed-entered s c.picked_in_need.result c.divide.result.visits sound.leveled c.picked_in_need.ensures (c.divide.ensures.entered none)
+    needed-entered s c.picked_in_need.result c.divide.result.visits sound.leveled c.picked_in_need.ensures
+    (λ some. omega (arith, picked-some s.arenas s.levels sound.leveled some, least-some s none, c.divide.ensures.least))
 
 pub returns-then-division-eq0-clause-every_search : goal.returns-then-division-eq0-clause-every_search
 returns-then-division-eq0-clause-every_search c =
     let s = c.args.self.now in
     let none : limit_of s ≡ 0 = sym c.divide.ensures.exact.limit ∙ c.if-division-eq0.true in
-    searched-nobody s c.divide.result.visits none
+    omega (arith, searched-nobody s 0 none, c.divide.ensures.least)

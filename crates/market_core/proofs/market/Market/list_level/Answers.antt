@@ -6,7 +6,7 @@ use Rattle.market_types.specs.State.{State}
 use Rattle.market_types.specs.Allotment.{assigned, at_level, limit_of}
 use Rattle.arena_store.specs.Arenas.{level_row, level_rows}
 use Rattle.recall_hire.specs.Shared.{IsListed, staffed}
-use Rattle.recall_hire.specs.Staffed.{row_of, actives, imbalances}
+use Rattle.recall_hire.specs.Staffed.{row_of, actives, imbalances, looks}
 use Rattle.market_core.specs.Divided.{rows_at}
 use Rattle.market_core.proofs.LevelWalk.{Shared, walk-of, picked-of}
 use Rattle.market_core.proofs.market.Market.list_level.Goals as goal
@@ -57,6 +57,11 @@ pub returns-clause-looked : goal.returns-clause-looked
 returns-clause-looked c =
     let here = (goal.at.returns-clause-looked c).After-sharing in
     subst (λ xs. IfOk c.list.result (λ visits. imbalances xs ≤ visits)) (walk here) c.list.ensures.looked
+
+pub returns-clause-met_first : goal.returns-clause-met_first
+returns-clause-met_first c =
+    let here = (goal.at.returns-clause-met_first c).After-sharing in
+    subst (λ xs. IfOk c.list.result (λ visits. looks c.args.unmet.now xs ≤ visits)) (walk here) c.list.ensures.met_first
 
 pub returns-clause-once : goal.returns-clause-once
 returns-clause-once c =

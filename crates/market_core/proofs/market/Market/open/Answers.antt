@@ -1,6 +1,9 @@
-use Rattle.std.proofs.Common.{ℕ, ◌<◌, sym, ap, ◌∙◌, subst}
+use Rattle.std.proofs.Common.{◌≡◌, ℕ, ◌+◌, ◌<◌, ◌≤◌, length, sym, ap, ◌∙◌, subst, arith}
 use Rattle.std.specs.List.{All}
-use Rattle.market_types.specs.State.{Arena}
+use Rattle.market_types.specs.State.{State, Arena}
+use Rattle.market_types.specs.Allotment.{at_level}
+use Rattle.arena_store.specs.Bits.{bits}
+use Rattle.market_core.proofs.Meters.{level-few, put-alone}
 use Rattle.market_core.proofs.market.Market.open.Goals as goal
 
 pub push-requires-clause-room : goal.push-requires-clause-room
@@ -13,3 +16,11 @@ push-requires-clause-newest c =
 pub push-requires-clause-last : goal.push-requires-clause-last
 push-requires-clause-last c =
     subst (λ (n : ℕ). All (λ (a : Arena). a.number < n) c.self.inside.arenas) (sym (ap (λ (a : Arena). a.number) c.new-stored.ensures ∙ c.new-arena.ensures)) c.self.invariant.sound.numbered
+
+pub returns-clause-alone : goal.returns-clause-alone
+returns-clause-alone c few =
+    let level : c.new-stored.result.level ≡ c.args.level = ap (λ (a : Arena). a.level) c.new-stored.ensures in
+    let arenas : c.self.inside.arenas ≡ c.args.self.now.arenas = ap (λ (s : State). s.arenas) c.self.view_is in
+    let short : length (at_level c.args.level c.args.self.now.arenas) ≤ 12 = omega (arith, few, level-few c.args.level c.args.self.now.arenas) in
+    let alone : length (at_level c.args.level c.args.self.now.arenas) ≤ 12 → c.in_ok-visits.visits ≡ bits (length (at_level c.args.level c.args.self.now.arenas) + 1) = rw (← level, ← arenas) c.in_ok-visits.ensures.alone in
+    omega (arith, c.from.ensures, alone short, put-alone (length (at_level c.args.level c.args.self.now.arenas)) short)

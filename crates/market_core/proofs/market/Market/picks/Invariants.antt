@@ -5,6 +5,7 @@ use Rattle.market_types.specs.Claims.{is_mandated}
 use Rattle.market_types.specs.Allotment.{at_level}
 use Rattle.allotment.specs.Levels.{number_of}
 use Rattle.arena_store.specs.Bits.{bits}
+use Rattle.market_core.specs.Visits.{least_picked}
 use Rattle.market_core.proofs.market.Market.picks.Given as goal
 
 -- the levels so far have their picks, and there is none above them
@@ -13,7 +14,8 @@ invariant-loop-index l =
     record {
       exact : (k : ℕ) → k < l.index → get_or l.picks k None ≡ number_of (find (λ (a : Arena). is_mandated a.claim) (at_level (k + 1) l.self-inside.arenas));
       above : (k : ℕ) → l.index ≤ k → get_or l.picks k None ≡ None;
-      entered : (k : ℕ) → k < l.index → 0 < length (at_level (k + 1) l.self-inside.arenas) → 1 ≤ l.visits;
+      least : least_picked l.self-inside.arenas l.index ≤ l.visits;
+      alone : length l.self-inside.arenas ≤ 12 → l.visits ≡ least_picked l.self-inside.arenas l.index;
       visits : l.visits ≤ l.index * (2 * bits (length l.self-inside.arenas));
       few : l.visits ≤ l.index * 22;
     }
