@@ -11,11 +11,16 @@ use native.Mathlib.Decide.{ℕ_discrete}
 use Rattle.drive_plan.specs.declared.plan.PlannedArena.{PlannedArena}
 use Rattle.drive_plan.specs.declared.task.PlannedJob.{PlannedJob}
 use Rattle.drive_plan.specs.declared.task.Job.{Job}
+use Rattle.drive_plan.specs.Plans.{FitsJob}
 use Rattle.worker_main.specs.declared.station.Station.{Station}
 use Rattle.worker_main.proofs.Lists.{set_same, set_else}
 use Rattle.market_drive.specs.Racks.{OfEnds, unfed}
 use Rattle.market_drive.specs.Arenas.{AreNumbered, HasRoomFor, count_of}
 use Rattle.market_drive.specs.Jobs.{AreFed, HaveRequestsOf, IsUnfed, job_of, jobs_for, numbered, fed_weight}
+
+-- a plan has at most 64 arenas
+pub fit_most : (arenas : ℕ) (jobs : List PlannedJob) → arenas ≤ 64 → All (FitsJob arenas) jobs → All (FitsJob 64) jobs
+fit_most arenas jobs few fit k d low = let own = fit k d low in (own.0, omega arith)
 
 -- ---- the jobs of a plan, one more
 

@@ -151,9 +151,10 @@ pub(crate) fn line_up<R: Wait>(
         racks.destroy();
         return Err(AllocError);
     };
+    let arenas = plan.arenas();
     let jobs = plan.jobs();
-    let counts = count_jobs(plan);
-    for (place, arena) in plan.arenas().iter().enumerate() {
+    let counts = count_jobs(jobs);
+    for (place, arena) in arenas.iter().enumerate() {
         let number = ArenaId::new(place as u32 + 1);
         let Ok((queue, ends)) = open_queue(alloc, counts[place].max(1), workers) else {
             lines.settle(rt, racks);

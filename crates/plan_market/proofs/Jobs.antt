@@ -1,24 +1,20 @@
 -- Which arenas have a job.
-use Rattle.std.proofs.Common.{◌≡◌, ◌≤◌, ℕ, true, List, [], ◌∷◌, length, arith, inl, inr, eqb}
-use Rattle.std.specs.List.{All, list_any}
+use Rattle.std.proofs.Common.{◌≡◌, ◌≤◌, ℕ, true, List, [], ◌∷◌, arith, inl, inr, eqb}
+use Rattle.std.specs.List.{All}
 use Rattle.std.proofs.lemmas.Bool.{cases_Bool, eqb-true}
 use Rattle.std.proofs.lemmas.List.Elements.{All-head, All-tail}
 use Rattle.drive_plan.specs.declared.task.PlannedJob.{PlannedJob}
-use Rattle.drive_plan.specs.Plans.{FitsJob, Planned}
+use Rattle.drive_plan.specs.Plans.{FitsJob}
 use Rattle.plan_market.specs.Servable.{has_job}
 
-among : (arenas a : ℕ) (jobs : List PlannedJob) → All (FitsJob arenas) jobs
-    → list_any (λ (job : PlannedJob). eqb job.arena a) jobs ≡ true → (1 ≤ a) × (a ≤ arenas)
-among arenas a [] h e = cc
-among arenas a (job ∷ jobs) h e =
+-- an arena that has a job is one of the plan's
+pub has_job-among : (arenas a : ℕ) (jobs : List PlannedJob) → All (FitsJob arenas) jobs → has_job jobs a ≡ true → (1 ≤ a) × (a ≤ arenas)
+has_job-among arenas a [] h e = cc
+has_job-among arenas a (job ∷ jobs) h e =
     elim (cases_Bool (eqb job.arena a)) [
       | inl t ↦
           let fits : FitsJob arenas job = All-head (FitsJob arenas) job jobs h in
           let same : job.arena ≡ a = eqb-true job.arena a t in
           (omega (arith, fits.0, same), omega (arith, fits.1, same))
-      | inr f ↦ among arenas a jobs (All-tail (FitsJob arenas) job jobs h) (rw f at e)
+      | inr f ↦ has_job-among arenas a jobs (All-tail (FitsJob arenas) job jobs h) (rw f at e)
     ]
-
--- an arena that has a job is one of the plan's
-pub has_job-among : (p : Planned) (a : ℕ) → All (FitsJob (length p.arenas)) p.jobs → has_job p a ≡ true → (1 ≤ a) × (a ≤ length p.arenas)
-has_job-among p a fit e = among (length p.arenas) a p.jobs fit e

@@ -27,12 +27,12 @@ lone_state p a =
     (calls_of_first (founding p ++ asks_if a (slice_get p.arenas (a - 1))))
 
 -- some job is the arena's
-abbrev pub has_job : Planned → ℕ → Bool
-has_job p a = list_any (λ (job : PlannedJob). job.arena == a) p.jobs
+abbrev pub has_job : List PlannedJob → ℕ → Bool
+has_job jobs a = list_any (λ (job : PlannedJob). job.arena == a) jobs
 
 -- the arena has a job, and is allotted no worker though it alone asks for some
 abbrev pub IsUnservable : Planned → ℕ → Type 0
-IsUnservable p a = (has_job p a ≡ true) × (allotment_of (lone_state p a) a ≡ 0)
+IsUnservable p a = (has_job p.jobs a ≡ true) × (allotment_of (lone_state p a) a ≡ 0)
 
 -- no arena of a lower number is so
 pub record IsLeastUnservable (p : Planned) (a : ℕ) : Type 0 where

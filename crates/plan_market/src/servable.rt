@@ -6,16 +6,16 @@ ghost use Rattle.market_types.specs.History.{state_after};
 ghost use Rattle.plan_market.specs.Servable.{calls_of_first, has_job, IsLeastUnservable, IsUnservable, lone_state};
 
 use crate::commands::{founding, request};
-use drive_plan::Plan;
+use drive_plan::{Plan, PlannedJob};
 use market_core::Market;
 use market_types::{ArenaId, Cmd, OpenFault, SeatNo};
 use std::alloc::{AllocError, Global};
 
 /// Some job is the arena's.
-fn has_job(plan: &Plan, arena: ArenaId) -> bool
-    ensures { result ≡ has_job plan.now arena }
+fn has_job(jobs: &[PlannedJob], arena: ArenaId) -> bool
+    ensures { result ≡ has_job jobs.now arena }
 {
-    plan.jobs().iter().any(|job| job.arena == arena)
+    jobs.iter().any(|job| job.arena == arena)
 }
 
 /// A new market with the plan's base, hard limit and levels, and one seat: no allotment depends on how many there are.
@@ -72,11 +72,10 @@ pub fn unservable(alloc: Global, plan: &Plan) -> Result<Option<ArenaId>, AllocEr
     ensures least { IfOk result (λ arena. IfSome arena (IsLeastUnservable plan.now)) }
     ensures none { IfOk result (λ arena. IfNone arena ((a : ℕ) → IsUnservable plan.now a → ⊥)) }
 {
-    // That each job's arena is one of the plan's is what this call promises.
-    let _ = plan.jobs();
+    let jobs = plan.jobs();
     for index in 0..plan.arenas().len() {
         let arena = ArenaId::new(index as u32 + 1);
-        if has_job(plan, arena) && lone_allotment(alloc, plan, arena)? == 0 {
+        if has_job(jobs, arena) && lone_allotment(alloc, plan, arena)? == 0 {
             return Ok(Some(arena));
         }
     }
