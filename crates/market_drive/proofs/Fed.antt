@@ -1,10 +1,10 @@
 -- What queues are fed with, job by job.
 use Rattle.std.proofs.Common.{◌≡◌, ◌≢◌, ◌≤◌, ◌<◌, ℕ, suc, ◌+◌, ◌==◌, Bool, true, cond, List, [], ◌∷◌, ◌++◌, length, map, take, set, get_or, slice_get, Some, refl, ap, sym, ◌∙◌, subst, arith, append-nil, eq-eqb, ne_eqb, inl, inr}
-use Rattle.std.specs.List.{All, AllByRecursion, enumerate_from, filter, sum_by}
+use Rattle.std.specs.List.{All, enumerate_from, filter, sum_by}
 use Rattle.std.proofs.lemmas.Bool.{cases_Bool}
 use Rattle.std.proofs.lemmas.List.{map-append, take_more, length-take-le, map-set, set-get_or}
-use Rattle.std.proofs.lemmas.List.Elements.{filter-append, recursion_from_All}
-use Rattle.std.proofs.lemmas.List.Sums.{sum_by-cons, sum_by_push, sum_by-set, sum_by-take-le, count_by_more_yes, count_by-le-length}
+use Rattle.std.proofs.lemmas.List.Elements.{filter-append}
+use Rattle.std.proofs.lemmas.List.Sums.{sum_by-cons, sum_by_push, sum_by-set, sum_by-le, sum_by-take-le, count_by_more_yes, count_by-le-length}
 use Rattle.std.proofs.lemmas.Option.{same_Some, slice_get_within, get_or_from_slice_get}
 use mathlib.Core.Logic.{dite}
 use native.Mathlib.Decide.{ℕ_discrete}
@@ -126,16 +126,10 @@ module _ (ss : List Station) (es : List OfEnds) (jobs : List PlannedJob) (i k : 
 pub all_at : {A : Type 0} (P : A → Type 0) (xs : List A) (k : ℕ) (x : A) → All P xs → slice_get xs k ≡ Some x → P x
 all_at P xs k x all at = subst P (get_or_from_slice_get xs k x x at) (all k x (slice_get_within xs k x at))
 
-none_fed : (weigh : Job → ℕ) (es : List OfEnds) → AllByRecursion IsUnfed es → fed_weight weigh es ≡ 0
-none_fed weigh [] a = refl
-none_fed weigh (e ∷ es) a =
-    let c = sum_by-cons (λ (x : OfEnds). sum_by weigh x.stored) e es in
-    let none = ap (sum_by weigh) a.0.1 in
-    let others = none_fed weigh es a.1 in
-    omega arith
-
 pub nothing_fed : (weigh : Job → ℕ) (es : List OfEnds) → All IsUnfed es → fed_weight weigh es ≡ 0
-nothing_fed weigh es all = none_fed weigh es (recursion_from_All IsUnfed es all)
+nothing_fed weigh es all =
+    let most = sum_by-le (λ (e : OfEnds). sum_by weigh e.stored) 0 es (λ k e low. (let none = ap (sum_by weigh) (all k e low).1 in omega arith)) in
+    omega arith
 
 -- ---- the stations' requests
 

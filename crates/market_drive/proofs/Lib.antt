@@ -1,5 +1,4 @@
 pub mod Queues
-pub mod Dues
 pub mod Sums
 pub mod Fed
 pub mod Once

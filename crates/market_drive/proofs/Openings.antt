@@ -1,6 +1,6 @@
 -- What an opener has called, a command more.
-use Rattle.std.proofs.Common.{◌≡◌, ◌<◌, ◌≤◌, subst, IfNone, ℕ, ◌+◌, true, false, true≢false, not, cond, List, [], ◌∷◌, ◌++◌, length, map, take, get_or, refl, ap, sym, ◌∙◌, append_assoc, append-nil, Result, Ok, Err, Option, Some, None, is_some}
-use Rattle.std.proofs.lemmas.List.{map-append, take_all, take_more}
+use Rattle.std.proofs.Common.{◌≡◌, ◌<◌, ℕ, ◌+◌, true, false, true≢false, not, cond, List, [], ◌∷◌, ◌++◌, length, map, take, get_or, refl, ap, sym, ◌∙◌, append_assoc, append-nil, Result, Ok, Err, Option, Some, None, is_some}
+use Rattle.std.proofs.lemmas.List.{map-append, take_more}
 use Rattle.std.proofs.lemmas.List.Elements.{filter-append}
 use Rattle.std.proofs.lemmas.Option.{none-some}
 use Rattle.market_types.specs.declared.command.Cmd.{Cmd}
@@ -78,10 +78,6 @@ pub given_on : (cmds : List Cmd) (k : ℕ) (c : Cmd) (p : OfPass) (caller next :
 given_on cmds k c p caller next None low is before none answered asked unasked = given_still cmds k c p (who_is caller) (who_is next) low is before (unasked refl) (not_asked caller c (sym asked))
 given_on cmds k c p caller next (Some (Ok reply)) low is before none answered asked unasked = given_more cmds k c p (who_is caller) (who_is next) low is before reply (answered reply refl).2.3
 given_on cmds k c p caller next (Some (Err fault)) low is before none answered asked unasked = absurd (none-some fault (sym none))
-
-pub given_all : (cmds : List Cmd) (k : ℕ) (p q : OfPass) (o : Option CallFault) → length cmds ≤ k → HasGiven (take k cmds) p q → IfNone o (HasGiven cmds p q)
-given_all cmds k p q None all given = subst (λ l. HasGiven l p q) (take_all k cmds all) given
-given_all cmds k p q (Some fault) all given = tt
 
 pub none_given : (p : OfPass) → HasGiven [] p p
 none_given p = ([], sym (append-nil p.mine), refl)

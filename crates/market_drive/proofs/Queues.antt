@@ -1,15 +1,15 @@
 -- Lists that end with one element more; takers of the stations' queues.
 use Rattle.std.proofs.Common.{◌≡◌, ◌≤◌, ◌<◌, ◌+◌, ℕ, refl, ap, sym, ◌∙◌, subst, arith, List, [], ◌∷◌, ◌++◌, length, map, All, get_or, Some, ⊎_elim}
 use Rattle.std.specs.Prelude.{slice_get}
-use Rattle.std.specs.List.{AllByRecursion, AllZip}
+use Rattle.std.specs.List.{AllZip}
 use Rattle.job_queue.specs.Seen.{QueueId, OfTaker}
 use Rattle.drive_plan.specs.declared.task.Job.{Job}
 use Rattle.drive_plan.specs.declared.task.PlannedJob.{PlannedJob}
 use Rattle.worker_main.specs.declared.station.Station.{Station}
 use Rattle.worker_main.specs.Stations.{IsTakerOf, HaveOwnArenas}
 use Rattle.worker_main.specs.Books.{IsTakerAfter}
-use Rattle.std.proofs.lemmas.List.{map-append, length-append, length-map, get_or_append_left}
-use Rattle.std.proofs.lemmas.List.Elements.{All-push, All-from_recursion, recursion_from_All}
+use Rattle.std.proofs.lemmas.List.{map-append, length-append, length-map, get_or-map, get_or_append_left, same_from_push}
+use Rattle.std.proofs.lemmas.List.Elements.{All-map, All-push}
 use Rattle.std.proofs.lemmas.List.Quantifiers.{all_pairs_push}
 use Rattle.std.proofs.lemmas.Bool.{cases_lt}
 use Rattle.std.proofs.lemmas.Grind.{common_steps}
@@ -18,40 +18,12 @@ use Rattle.market_drive.specs.Racks.{OfEnds, queues_of, unfed}
 use Rattle.market_drive.specs.Lines.{queues_at, queues_ended, AreLines}
 use Rattle.market_drive.specs.Arenas.{AreNumbered, HasRoomFor}
 
-abbrev head_or : {A : Type 0} → A → List A → A
-head_or d [] = d
-head_or d (x ∷ xs) = x
-
-abbrev rest : {A : Type 0} → List A → List A
-rest [] = []
-rest (x ∷ xs) = xs
-
-abbrev IsNil : {A : Type 0} → List A → Type 0
-IsNil [] = Unit {0}
-IsNil (x ∷ xs) = ⊥
-
-no_cons : {A : Type 0} (x : A) (xs : List A) → [] ≡ x ∷ xs → ⊥
-no_cons x xs e = subst IsNil e tt
-
-no_snoc : {A : Type 0} (xs : List A) (x : A) → [] ≡ xs ++ x ∷ [] → ⊥
-no_snoc [] x e = no_cons x [] e
-no_snoc (y ∷ ys) x e = no_cons y (ys ++ x ∷ []) e
-
--- the front and the last element of a list are its own
-pub split_last : {A : Type 0} (xs ys : List A) (x y : A) → xs ++ x ∷ [] ≡ ys ++ y ∷ [] → (xs ≡ ys) × (x ≡ y)
-split_last [] [] x y e = (refl, ap (head_or x) e)
-split_last [] (b ∷ ys) x y e = absurd (no_snoc ys y (ap rest e))
-split_last (a ∷ xs) [] x y e = absurd (no_snoc xs x (sym (ap rest e)))
-split_last (a ∷ xs) (b ∷ ys) x y e =
-    let r = split_last xs ys x y (ap rest e) in
-    (λ i. ap (head_or a) e i ∷ r.0 i, r.1)
-
 -- the queues are equal one by one
 pub takers_of : (ss : List Station) (ts : List (OfTaker Job)) → queues_of ts ≡ queues_at ss → AllZip IsTakerOf ss ts
 takers_of [] [] e = tt
-takers_of [] (t ∷ ts) e = no_cons t.queue (queues_of ts) (sym e)
-takers_of (s ∷ ss) [] e = no_cons s.queue.id (queues_at ss) e
-takers_of (s ∷ ss) (t ∷ ts) e = (ap (head_or t.queue) e, takers_of ss ts (ap rest e))
+takers_of [] (t ∷ ts) e = absurd (cc)
+takers_of (s ∷ ss) [] e = absurd (cc)
+takers_of (s ∷ ss) (t ∷ ts) e = (cc, takers_of ss ts (cc))
 
 pub same_queues : (old new : List (OfTaker Job)) → AllZip IsTakerAfter old new → queues_of new ≡ queues_of old
 same_queues [] [] z = refl
@@ -63,7 +35,7 @@ same_queues (s ∷ ss) (t ∷ ts) z = λ i. z.0.0 i ∷ same_queues ss ts z.1 i
 
 pub paired_last : (all ss : List Station) (s : Station) (ends es : List OfEnds) (e : OfEnds) → all ≡ ss ++ s ∷ [] → ends ≡ es ++ e ∷ [] → queues_ended ends ≡ queues_at all → (queues_ended es ≡ queues_at ss) × (e.queue ≡ s.queue.id)
 paired_last all ss s ends es e p q same =
-    split_last (queues_ended es) (queues_at ss) e.queue s.queue.id
+    same_from_push (queues_ended es) (queues_at ss) e.queue s.queue.id
     (sym (map-append (λ (x : OfEnds). x.queue) es (e ∷ [])) ∙ (ap queues_ended (sym q) ∙ (same ∙ (ap queues_at p ∙ map-append (λ (x : Station). x.queue.id) ss (s ∷ [])))))
 
 pub queues_last : (all ss : List Station) (s : Station) (ends es : List OfEnds) (e : OfEnds) → all ≡ ss ++ s ∷ [] → ends ≡ es ++ e ∷ [] → queues_ended ends ≡ queues_at all → queues_at all ≡ queues_at ss ++ e.queue ∷ []
@@ -126,17 +98,15 @@ roomy_more jobs all ss s is old new = subst (All (HasRoomFor jobs)) (sym is) (Al
 
 -- ---- ends that differ in nothing but what their queues were fed with
 
-pub unfed_queues : (es fs : List OfEnds) → map unfed fs ≡ map unfed es → queues_ended fs ≡ queues_ended es
-unfed_queues [] [] e = refl
-unfed_queues [] (f ∷ fs) e = absurd (no_cons (unfed f) (map unfed fs) (sym e))
-unfed_queues (x ∷ es) [] e = absurd (no_cons (unfed x) (map unfed es) e)
-unfed_queues (x ∷ es) (f ∷ fs) e = λ i. (head_or (unfed x) (e i)).queue ∷ unfed_queues es fs (ap rest e) i
+ended_unfed : (es : List OfEnds) → queues_ended (map unfed es) ≡ queues_ended es
+ended_unfed [] = refl
+ended_unfed (e ∷ es) = ap (λ qs. e.queue ∷ qs) (ended_unfed es)
 
-each_unfed : (P : OfEnds → Type 0) (es fs : List OfEnds) → map unfed fs ≡ map unfed es → AllByRecursion (λ x. P (unfed x)) es → AllByRecursion (λ x. P (unfed x)) fs
-each_unfed P [] [] e a = tt
-each_unfed P [] (f ∷ fs) e a = absurd (no_cons (unfed f) (map unfed fs) (sym e))
-each_unfed P (x ∷ es) [] e a = tt
-each_unfed P (x ∷ es) (f ∷ fs) e a = (subst P (sym (ap (head_or (unfed x)) e)) a.0, each_unfed P es fs (ap rest e) a.1)
+pub unfed_queues : (es fs : List OfEnds) → map unfed fs ≡ map unfed es → queues_ended fs ≡ queues_ended es
+unfed_queues es fs e = sym (ended_unfed fs) ∙ (ap queues_ended e ∙ ended_unfed es)
 
 pub all_unfed : (P : OfEnds → Type 0) (es fs : List OfEnds) → map unfed fs ≡ map unfed es → All (λ x. P (unfed x)) es → All (λ x. P (unfed x)) fs
-all_unfed P es fs e a = All-from_recursion (λ x. P (unfed x)) fs (each_unfed P es fs e (recursion_from_All (λ x. P (unfed x)) es a))
+all_unfed P es fs e a k d low =
+    let mapped : All P (map unfed fs) = subst (All P) (sym e) (All-map P unfed es a) in
+    let within : k < length (map unfed fs) = omega (arith, length-map fs unfed) in
+    subst P (get_or-map unfed fs k d d low) (mapped k d within)

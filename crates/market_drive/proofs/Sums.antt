@@ -1,10 +1,9 @@
 -- Jobs counted by sums: what takers took, what queues were fed with, and what workers have shown.
-use Rattle.std.proofs.Common.{◌≡◌, ◌≤◌, ℕ, ◌+◌, List, [], ◌∷◌, ◌++◌, length, map, refl, ap, ◌∙◌, subst, arith, append-nil, Option, Some, None, Result, Ok, Err, OnOk, IfErr}
-use Rattle.std.specs.List.{All, AllByRecursion, sum_by}
+use Rattle.std.proofs.Common.{◌≡◌, ◌≤◌, ℕ, ◌+◌, List, [], ◌∷◌, ◌++◌, get_or, map, refl, ap, ◌∙◌, subst, arith, append-nil, Option, Some, None, Result, Ok, Err, OnOk, IfErr}
+use Rattle.std.specs.List.{All, sum_by}
 use Rattle.std.proofs.lemmas.List.{map-append}
-use Rattle.std.proofs.lemmas.List.Elements.{All-from_recursion}
 use Rattle.std.proofs.lemmas.List.Sorted.{IsPermutation-map, sum_by-IsPermutation}
-use Rattle.std.proofs.lemmas.List.Sums.{sum_by-cons, sum_by-append, sum_by_push}
+use Rattle.std.proofs.lemmas.List.Sums.{get_or-le-sum_by, sum_by-cons, sum_by-append, sum_by_push}
 use Rattle.std.proofs.lemmas.Grind.{flat_map-append}
 use Rattle.job_queue.specs.declared.view.Fed.{Fed}
 use Rattle.job_queue.specs.Jobs.{fed_from}
@@ -104,18 +103,10 @@ nothing : (jobs : List Job) → sum_by (λ (job : Job). 1) jobs ≡ 0 → jobs �
 nothing [] e = refl
 nothing (job ∷ jobs) e = let c = sum_by-cons (λ (x : Job). 1) job jobs in absurd (omega arith)
 
-unused_each : (rs : List OfRack) → taken_weight (λ (job : Job). 1) rs ≡ 0 → AllByRecursion (λ (r : OfRack). taken_by r.takers ≡ []) rs
-unused_each [] e = tt
-unused_each (r ∷ rs) e =
-    let c = sum_by-cons (λ (x : OfRack). sum_by (λ (job : Job). 1) (taken_by x.takers)) r rs in
-    (nothing (taken_by r.takers) (omega arith), unused_each rs (omega arith))
-
 pub unused_all : (rs : List OfRack) → ((weigh : Job → ℕ) → taken_weight weigh rs ≡ 0) → All (λ (r : OfRack). taken_by r.takers ≡ []) rs
-unused_all rs e = All-from_recursion (λ (r : OfRack). taken_by r.takers ≡ []) rs (unused_each rs (e (λ job. 1)))
-
-pub none_in : {A : Type 0} (xs : List A) → length xs ≡ 0 → xs ≡ []
-none_in [] e = refl
-none_in (x ∷ xs) e = absurd (omega arith)
+unused_all rs e k d low =
+    let least = get_or-le-sum_by (λ (r : OfRack). sum_by (λ (job : Job). 1) (taken_by r.takers)) rs k d low in
+    nothing (taken_by (get_or rs k d).takers) (omega (arith, least, e (λ job. 1)))
 
 -- new takers have taken nothing
 pub fresh_took : (id : QueueId) (numbers : List ℕ) → taken_by (map (fresh_taker id) numbers) ≡ []

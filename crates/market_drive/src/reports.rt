@@ -1,5 +1,5 @@
 //! What the workers of a plan tell in the end.
-ghost use Rattle.std.specs.Prelude.{◌≡◌, ◌<◌, [], None, false, true, Err, IfErr, IfOk, OnOk};
+ghost use Rattle.std.specs.Prelude.{◌≡◌, [], false, true, Err, IfErr, IfOk, OnOk};
 ghost use Rattle.drive_plan.specs.Outcome.{IsOutcome};
 ghost use Rattle.market_drive.specs.Driving.{IsLate};
 ghost use Rattle.market_drive.specs.Ending.{IsDueTo};
