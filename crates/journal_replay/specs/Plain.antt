@@ -1,6 +1,6 @@
 -- Texts that stand in a JSON string as they are (RFC 8259, section 7).
-use Rattle.std.specs.Prelude.{ℕ, List, Bool, not, ◌&&◌, ◌==◌, nat_le, nat_lt}
-use Rattle.std.specs.List.{list_all}
+use Rattle.std.specs.Prelude.{◌≡◌, ℕ, List, Bool, false, not, ◌&&◌, ◌==◌, nat_le, nat_lt}
+use Rattle.std.specs.List.{All, list_all}
 
 -- a byte of ASCII that prints, but for the quote and the backslash
 abbrev pub is_plain : ℕ → Bool
@@ -9,3 +9,14 @@ is_plain x = nat_le 32 x && nat_lt x 127 && not (x == 34) && not (x == 92)
 -- each byte is such a byte
 abbrev pub are_plain : List ℕ → Bool
 are_plain text = list_all is_plain text
+
+-- the text has no quote
+abbrev pub NoQuote : List ℕ → Type 0
+NoQuote text = All (λ x. (x == 34) ≡ false) text
+
+-- such a byte, or a quote: in a text that has none each is plain
+abbrev pub is_clear : ℕ → Bool
+is_clear x = nat_le 32 x && nat_lt x 127 && not (x == 92)
+
+abbrev pub are_clear : List ℕ → Bool
+are_clear text = list_all is_clear text

@@ -1,9 +1,9 @@
 //! The texts of a line's strings: as they stand there, or with their escapes undone in room that is kept.
-ghost use Rattle.std.specs.Prelude.{◌≡◌, ◌<◌, ◌++◌, ◌∷◌, [], ℕ, List, true, length, IfSome};
+ghost use Rattle.std.specs.Prelude.{◌≡◌, ◌≤◌, ◌++◌, ◌∷◌, [], ℕ, List, true, drop, length, IfSome};
 ghost use Rattle.json.specs.Lex.{token};
 ghost use Rattle.json.specs.Token.{string};
 ghost use Rattle.journal_replay.specs.Cuts.{IsCut, IsInside};
-ghost use Rattle.journal_replay.specs.Plain.{are_plain, is_plain};
+ghost use Rattle.journal_replay.specs.Plain.{NoQuote, are_clear, is_clear};
 
 use memchr::memchr;
 use std::alloc::Global;
@@ -27,23 +27,23 @@ impl Texts {
     }
 }
 
-/// The byte stands in a text as it is.
+/// The byte stands in a text as it is, unless it is a quote.
 #[inline(always)]
-fn is_plain(byte: u8) -> bool
-    ensures { result ≡ is_plain byte }
+fn is_clear(byte: u8) -> bool
+    ensures { result ≡ is_clear byte }
 {
-    (byte >= 32) & (byte < 127) & (byte != b'"') & (byte != b'\\')
+    (byte >= 32) & (byte < 127) & (byte != b'\\')
 }
 
 /// Each byte does. It looks at all of them, so that several are looked at at a time.
-fn are_plain(text: &[u8]) -> bool
-    ensures { result ≡ are_plain text.now }
+fn are_clear(text: &[u8]) -> bool
+    ensures { result ≡ are_clear text.now }
 {
-    let mut plain = true;
+    let mut clear = true;
     for byte in text {
-        plain &= is_plain(*byte);
+        clear &= is_clear(*byte);
     }
-    plain
+    clear
 }
 
 /// What follows a label.
@@ -57,7 +57,7 @@ pub(crate) fn behind<'a>(text: &'a [u8], label: &[u8]) -> Option<&'a [u8]>
 /// The byte of ASCII for which the escape stands with which a text begins, as `\u0020`, and what follows it.
 fn cut_escape(text: &[u8]) -> Option<(u8, &[u8])>
     ensures inside { IfSome result (λ cut. (tail : List ℕ) → IsInside (text.now ++ tail) (cut.1.now ++ tail) (cut.0 ∷ [])) }
-    ensures shorter { IfSome result (λ cut. length cut.1.now < length text.now) }
+    ensures behind { IfSome result (λ cut. (6 ≤ length text.now) × (cut.1.now ≡ drop 6 text.now)) }
 {
     let (first, more) = behind(text, b"\\u00")?.split_first()?;
     let (second, rest) = more.split_first()?;
@@ -69,12 +69,12 @@ fn cut_escape(text: &[u8]) -> Option<(u8, &[u8])>
     Some(((high * 16 + low) as u8, rest))
 }
 
-/// Puts a text that is plain behind what the room holds.
-fn push_plain(room: &mut Vec<u8>, text: &[u8]) -> Option<()>
-    ensures plain { IfSome result (λ _. are_plain text.now ≡ true) }
+/// Puts a text that is clear behind what the room holds.
+fn push_clear(room: &mut Vec<u8>, text: &[u8]) -> Option<()>
+    ensures clear { IfSome result (λ _. are_clear text.now ≡ true) }
     ensures pushed { IfSome result (λ _. room.new.items ≡ room.old.items ++ text.now) }
 {
-    if !are_plain(text) {
+    if !are_clear(text) {
         return None;
     }
     room.extend_from_slice(text).ok()
@@ -85,24 +85,26 @@ fn push_plain(room: &mut Vec<u8>, text: &[u8]) -> Option<()>
 // Apart, since nearly no text has an escape.
 #[inline(never)]
 fn undo<'a>(inside: &[u8], room: &'a mut Vec<u8>) -> Option<&'a [u8]>
+    requires { NoQuote inside.now }
     ensures { IfSome result (λ text. (tail : List ℕ) → IsInside (inside.now ++ tail) tail text.now) }
 {
     room.clear();
     let mut rest = inside;
     while let Some(at) = memchr(b'\\', rest) {
-        push_plain(room, &rest[..at])?;
+        push_clear(room, &rest[..at])?;
         let (byte, more) = cut_escape(&rest[at..])?;
         room.push(byte).ok()?;
         rest = more;
     }
-    push_plain(room, rest)?;
+    push_clear(room, rest)?;
     Some(room.as_slice())
 }
 
 /// What stands before the first quote of a text, and what follows the quote.
 #[inline(always)]
 fn cut_quote(text: &[u8]) -> Option<(&[u8], &[u8])>
-    ensures { IfSome result (λ cut. text.now ≡ cut.0.now ++ 34 ∷ cut.1.now) }
+    ensures cut { IfSome result (λ cut. text.now ≡ cut.0.now ++ 34 ∷ cut.1.now) }
+    ensures first { IfSome result (λ cut. NoQuote cut.0.now) }
 {
     let at = memchr(b'"', text)?;
     Some((&text[..at], &text[at + 1..]))
@@ -117,7 +119,7 @@ pub(crate) fn cut_quoted<'a>(
     ensures { IfSome result (λ cut. IsCut (34 ∷ text.entry.now) cut.1.now (token (string cut.0.now) ∷ [])) }
 {
     let (inside, rest) = cut_quote(text)?;
-    if are_plain(inside) {
+    if are_clear(inside) {
         return Some((inside, rest));
     }
     Some((undo(inside, room?)?, rest))
