@@ -1,6 +1,6 @@
 -- The lines of a history, written piece by piece.
 use Rattle.std.specs.Prelude.{slice_get, OnErr, Result, Ok, Err}
-use Rattle.std.proofs.Common.{◌≡◌, ℕ, zero, suc, ◌+◌, List, [], ◌∷◌, ◌++◌, length, take, drop, codes, append_assoc, append-nil, take-append-drop, Option, Some, refl, ap, sym, ◌∙◌, subst, arith}
+use Rattle.std.proofs.Common.{◌≡◌, ℕ, zero, suc, ◌+◌, List, [], ◌∷◌, ◌++◌, take, drop, codes, append_assoc, append-nil, take-append-drop, Option, Some, refl, ap, sym, ◌∙◌, subst, arith}
 use Rattle.std.proofs.KnownBytes.{Appends-trans}
 use Rattle.std.proofs.lemmas.Grind.{flat_map-append}
 use Rattle.std.proofs.lemmas.Option.{same_Some}
@@ -8,7 +8,7 @@ use Rattle.std.specs.Io.KnownBytes.{Appends}
 use Rattle.byte_devices.specs.Devices.{WritesFront}
 use Rattle.market_types.specs.declared.reply.Entry.{Entry}
 use Rattle.market_types.specs.State.{State}
-use Rattle.edit_history.specs.Parts.{EndsWith, joined}
+use Rattle.edit_history.specs.Parts.{joined}
 use Rattle.edit_history.specs.declared.part.Part.{Part}
 use Rattle.journal_replay.specs.declared.header.Extent.{Extent}
 use Rattle.journal_replay.specs.declared.header.Header.{Header}
@@ -108,14 +108,6 @@ pub some-written : (a b c : Option (List ℕ)) (waiting text whole : List ℕ) �
 some-written a b c waiting text whole is f w = front-then a b c waiting text whole [] f (sym is ∙ sym (append-nil text)) w
 
 -- ---- parts
-
-no-front : (history before part : List Entry) → history ≡ before ++ part → length before ≡ 0 → part ≡ history
-no-front history [] part is n = sym is
-no-front history (x ∷ xs) part is n = absurd (omega arith)
-
--- a part that has no entry before it is the history
-pub whole-end : (history part : List Entry) (from : ℕ) → from ≡ 0 → EndsWith history from part → part ≡ history
-whole-end history part from none end = no-front history end.0 part end.1 (end.2 ∙ none)
 
 pub lines-of-parts : (levels : ℕ) (parts : List Part) → part_lines levels parts ≡ entry_lines levels (joined parts)
 lines-of-parts levels [] = refl
