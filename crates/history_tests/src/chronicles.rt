@@ -45,8 +45,7 @@ fn text_of(rt: &impl Abort, alloc: Global, answer: &Result<Reply, CallFault>) ->
 /// Seat 0 gives these commands, and is told this of each.
 fn answers(rt: &impl Abort, alloc: Global, chronicle: &mut Chronicle, commands: &[(Cmd, &str)]) {
     for (cmd, due) in commands {
-        // That each market has a seat 0 is what this call promises.
-        let _ = chronicle.market();
+        chronicle.market().has_a_seat();
         let answer = chronicle.call(alloc, SeatNo::new(0), *cmd);
         same(rt, text_of(rt, alloc, &answer).as_str(), *due);
         drop(answer);
@@ -202,8 +201,7 @@ fn what_is_cut_out_takes_no_place(rt: HostRuntime) {
 /// Seat 0 gives these commands: whether there was memory for all of them.
 fn are_answered(alloc: Global, chronicle: &mut Chronicle, commands: &[Cmd]) -> bool {
     for cmd in commands {
-        // That each market has a seat 0 is what this call promises.
-        let _ = chronicle.market();
+        chronicle.market().has_a_seat();
         if chronicle.call(alloc, SeatNo::new(0), *cmd).is_err() {
             return false;
         }
@@ -244,8 +242,7 @@ fn answers_unkept(
     commands: &[(Cmd, &str)],
 ) {
     for (cmd, due) in commands {
-        // That each market has a seat 0 is what this call promises.
-        let _ = chronicle.market();
+        chronicle.market().has_a_seat();
         holds(rt, chronicle.len() < MOST_FORGOTTEN);
         chronicle.forget();
         let answer = chronicle.answer(alloc, SeatNo::new(0), *cmd, false);

@@ -24,7 +24,7 @@ pub(crate) fn answer<C: Ledger, W: Ledger>(
     requires worker { share.old.workers ≡ workers_at (place_in 0 desk.old.log) }
     ensures worker { share.new.workers ≡ workers_at (place_in 0 desk.new.log) }
 {
-    let _ = desk.chronicle().market();
+    desk.chronicle().market().has_a_seat();
     desk.serve(alloc, share, SeatNo::new(0), *cmd)
 }
 

@@ -37,7 +37,7 @@ const UP_TO_THREE: &[u8] = b"\
 fn record(rt: &impl Abort, alloc: Global, chronicle: &mut Chronicle, cmd: Cmd)
     ensures { chronicle.new.from ≡ chronicle.old.from }
 {
-    let _ = chronicle.market();
+    chronicle.market().has_a_seat();
     let answered = chronicle.call(alloc, SeatNo::new(0), cmd);
     holds(rt, answered.is_ok());
 }

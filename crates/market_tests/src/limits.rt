@@ -24,7 +24,7 @@ fn opened(rt: &impl Abort, alloc: Global, base: u32, hard: u32, seats: u8) -> Ma
 
 /// The market's answer to seat 0.
 fn answer(rt: &impl Abort, alloc: Global, market: &mut Market, cmd: Cmd) -> Reply {
-    let _ = market.seats();
+    market.has_a_seat();
     let Ok(reply) = market.apply(alloc, SeatNo::new(0), cmd) else {
         panic!(rt; "no memory");
     };
@@ -83,7 +83,7 @@ fn a_thousand_arenas_share_all_workers(rt: HostRuntime) {
     }
     let refused = answer(&rt, rt.alloc(), &mut market, Cmd::Open(65535, 0, normal));
     holds(&rt, matches!(refused, Reply::Refused(Fault::TooManyArenas)));
-    let _ = market.seats();
+    market.has_a_seat();
     let show = Cmd::Show(ArenaId::new(1));
     let Ok((_, visits)) = market.apply_counted(rt.alloc(), SeatNo::new(0), show) else {
         panic!(&rt; "no memory");

@@ -103,7 +103,7 @@ fn recorded(rt: &impl Abort, alloc: Global) -> Chronicle
     );
     drop(told);
     // The place and the memory of a Leave are taken already.
-    let _ = chronicle.market();
+    chronicle.market().has_a_seat();
     let left = chronicle.call(alloc, SeatNo::new(0), Cmd::Leave);
     holds(
         rt,

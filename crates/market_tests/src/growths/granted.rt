@@ -50,7 +50,7 @@ fn what_is_written_is_granted(rt: HostRuntime) {
 fn call(rt: &impl Abort, alloc: Global, chronicle: &mut Chronicle, cmd: &Cmd)
     ensures { chronicle.new.from ≡ chronicle.old.from }
 {
-    let _ = chronicle.market();
+    chronicle.market().has_a_seat();
     let told = chronicle.call(alloc, SeatNo::new(0), *cmd);
     holds(rt, told.is_ok());
     drop(told);

@@ -51,7 +51,7 @@ fn what_is_seen(market: &Market) -> Seen {
 
 /// A seat's answer where there is memory.
 fn granted(rt: &impl Abort, alloc: Global, market: &mut Market, cmd: Cmd) -> Reply {
-    let _ = market.seats();
+    market.has_a_seat();
     let Ok(reply) = market.apply(alloc, SeatNo::new(0), cmd) else {
         panic!(rt; "no memory");
     };
@@ -60,7 +60,7 @@ fn granted(rt: &impl Abort, alloc: Global, market: &mut Market, cmd: Cmd) -> Rep
 
 /// A seat's answer, asked for again where there was no memory: then all was as before.
 fn answer(rt: &impl Abort, alloc: Global, market: &mut Market, cmd: &Cmd) -> Reply {
-    let _ = market.seats();
+    market.has_a_seat();
     let before = what_is_seen(market);
     match market.apply(alloc, SeatNo::new(0), *cmd) {
         Ok(reply) => reply,
@@ -193,14 +193,14 @@ fn a_refused_growth_is_none_of_ten_commands(rt: HostRuntime) {
 
 /// How many visits a seat's command makes, asked for again where there was no memory: then all was as before.
 fn entered(rt: &impl Abort, alloc: Global, market: &mut Market, cmd: &Cmd) -> u64 {
-    let _ = market.seats();
+    market.has_a_seat();
     let before = what_is_seen(market);
     if let Ok((_reply, visits)) = market.apply_counted(alloc, SeatNo::new(0), *cmd) {
         return visits;
     }
     let after = what_is_seen(market);
     same(rt, after, before);
-    let _ = market.seats();
+    market.has_a_seat();
     let Ok((_reply, visits)) = market.apply_counted(alloc, SeatNo::new(0), *cmd) else {
         panic!(rt; "no memory");
     };
@@ -238,14 +238,14 @@ fn answers_a_list(rt: &impl Abort, alloc: Global, market: &mut Market) {
     let opening = Cmd::Open(8, 1, Level::from_index(1));
     let calls = [Cmd::Limit, opening].map(|cmd| Call { seat, cmd });
     let before = what_is_seen(market);
-    let _ = market.seats();
+    market.has_a_seat();
     if let Ok(replies) = apply_all(alloc, market, &calls) {
         have_opened(rt, &replies);
         return;
     }
     let after = what_is_seen(market);
     same(rt, after, before);
-    let _ = market.seats();
+    market.has_a_seat();
     let Ok(replies) = apply_all(alloc, market, &calls) else {
         panic!(rt; "no memory");
     };
