@@ -1,9 +1,8 @@
 -- What a meter counts at least, and just so many where a level's arenas stand in one leaf.
-use Rattle.std.proofs.Common.{◌≡◌, ℕ, zero, suc, ◌+◌, ◌<◌, ◌≤◌, true, false, cond, eqb, not, Bool, Option, None, Some, List, length, refl, ap, arith, inl, inr}
+use Rattle.std.proofs.Common.{◌≡◌, ℕ, zero, suc, ◌+◌, ◌<◌, ◌≤◌, true, false, cond, eqb, not, Bool, Option, None, Some, List, [], ◌∷◌, length, refl, ap, arith, inl, inr}
 use Rattle.std.specs.List.{All}
 use Rattle.std.proofs.lemmas.Bool.{cases_lt, lt-ltb, le-ltb, eq-eqb, ne_eqb}
 use Rattle.std.proofs.lemmas.Int.Digits.{length-digits_of_step, length-digits_of-le}
-use Rattle.std.proofs.lemmas.List.Sums.{length-filter, count_by-le-length}
 use Rattle.market_types.specs.State.{State, Arena}
 use Rattle.market_types.specs.Claims.{request_of}
 use Rattle.market_types.specs.Allotment.{at_level, limit_of}
@@ -14,17 +13,24 @@ use Rattle.arena_store.specs.Ways.{least_way, least_node, least_put}
 use Rattle.market_core.specs.Visits.{least_picked, least_extra, least_share, least_seen}
 use Rattle.market_core.proofs.Numbers.{some-level}
 
--- ---- a level has no more arenas than there are
+-- ---- a level has no more arenas once one is gone
 
-pub level-few : (level : ℕ) (arenas : List Arena) → length (at_level level arenas) ≤ length arenas
-level-few level arenas =
-    let p = λ (a : Arena). eqb a.level level in
-    omega (arith, length-filter p arenas, count_by-le-length p arenas)
-
-pub rest-few : (n : ℕ) (arenas : List Arena) → length (without n arenas) ≤ length arenas
-rest-few n arenas =
-    let p = λ (a : Arena). not (has_number n a) in
-    omega (arith, length-filter p arenas, count_by-le-length p arenas)
+pub rest-few : (level n : ℕ) (arenas : List Arena) → length (at_level level (without n arenas)) ≤ length (at_level level arenas)
+rest-few level n [] = omega arith
+rest-few level n (a ∷ arenas) =
+    let rest = rest-few level n arenas in
+    elim (not (has_number n a)) as (λ b. length (at_level level (cond b (a ∷ without n arenas) (without n arenas))) ≤ length (at_level level (a ∷ arenas))) [
+      | true ↦
+          elim (eqb a.level level) as (λ b. length (cond b (a ∷ at_level level (without n arenas)) (at_level level (without n arenas))) ≤ length (cond b (a ∷ at_level level arenas) (at_level level arenas))) [
+            | true ↦ omega (arith, rest)
+            | false ↦ rest
+          ]
+      | false ↦
+          elim (eqb a.level level) as (λ b. length (at_level level (without n arenas)) ≤ length (cond b (a ∷ at_level level arenas) (at_level level arenas))) [
+            | true ↦ omega (arith, rest)
+            | false ↦ rest
+          ]
+    ]
 
 -- ---- one node of a level
 
@@ -101,10 +107,10 @@ seen-some s o a e = rw e refl
 
 -- ---- where an arena stands
 
--- no more stand beside it than there are
-pub beside-few : (n : ℕ) (arenas : List Arena) → beside n arenas ≤ length arenas
-beside-few n arenas = of (arena_at n arenas)
+-- few stand beside it where no level has many
+pub beside-few : (n : ℕ) (arenas : List Arena) → ((level : ℕ) → length (at_level level arenas) ≤ 12) → beside n arenas ≤ 12
+beside-few n arenas few = of (arena_at n arenas)
   where
-    of : (o : Option Arena) → len_beside o arenas ≤ length arenas
+    of : (o : Option Arena) → len_beside o arenas ≤ 12
     of None = omega arith
-    of (Some a) = level-few a.level arenas
+    of (Some a) = few a.level

@@ -1,6 +1,6 @@
 -- How many visits a command makes: a node of k keys that is entered counts as many as k has binary digits, a run of k sums in one node that
 -- is passed over the same, a row that is looked at one (own).
-use Rattle.std.specs.Prelude.{ℕ, zero, suc, Bool, true, false, Option, None, Some, List, ◌+◌, ◌*◌, ◌==◌, length, is_some, min, max, if◌then◌else◌}
+use Rattle.std.specs.Prelude.{ℕ, zero, suc, Bool, true, false, Option, None, Some, List, ◌+◌, ◌*◌, ◌≤◌, ◌==◌, length, is_some, min, max, if◌then◌else◌}
 use Rattle.std.specs.List.{count_by}
 use Rattle.market_types.specs.declared.command.Cmd.{Cmd}
 use Rattle.market_types.specs.declared.command.Cmd.TheVariants.{Open, Close, Priority, Resize, Request, Join, Stay, Show, Lists}
@@ -45,6 +45,10 @@ looks_in_order _ = false
 -- where some worker may be active, at how many arenas a Join has to look: those that are allotted a worker, until one has too few
 abbrev pub searched : State → ℕ
 searched s = if limit_of s == 0 then 0 else searches (rows_of s)
+
+-- no level has more than 12 arenas, so that each has one leaf, and all calls but Join and Lists count just their fewest
+abbrev pub HasSmallLevels : State → Type 0
+HasSmallLevels s = (level : ℕ) → length (at_level level s.arenas) ≤ 12
 
 -- the fewest to look for the arena whose enqueued work is served at the first levels: one node of each
 abbrev pub least_picked : List Arena → ℕ → ℕ

@@ -5,7 +5,7 @@ ghost use Rattle.market_types.specs.Step.{arena_at, view_of};
 ghost use Rattle.allotment.specs.Levels.{AreDemandsOf, ArePicksOf, IsLeveled, pick_of};
 ghost use Rattle.arena_store.specs.Bits.{bits};
 ghost use Rattle.market_core.specs.Divided.{IsDivisionOf};
-ghost use Rattle.market_core.specs.Visits.{extra_visits, least_extra, least_picked, least_seen, least_share};
+ghost use Rattle.market_core.specs.Visits.{HasSmallLevels, extra_visits, least_extra, least_picked, least_seen, least_share};
 ghost use Rattle.market_types.specs.State.{State};
 ghost use Rattle.market_types.specs.Claims.{request_of};
 ghost use Rattle.market_core.specs.Allotted.{IsWithin, level_allotment};
@@ -32,7 +32,7 @@ impl Market {
     fn picks(&self) -> ([Option<ArenaId>; 8], u32)
         ensures exact { ArePicksOf self.now result.0 }
         ensures least { least_picked self.now.arenas self.now.levels ≤ result.1 }
-        ensures alone { length self.now.arenas ≤ 12 → result.1 ≡ least_picked self.now.arenas self.now.levels }
+        ensures alone { HasSmallLevels self.now → result.1 ≡ least_picked self.now.arenas self.now.levels }
         ensures visits { result.1 ≤ self.now.levels * (2 * bits (length self.now.arenas)) }
         ensures few { result.1 ≤ 176 }
     {
@@ -55,7 +55,7 @@ impl Market {
     fn pick(&self) -> (Option<ArenaId>, u32)
         ensures exact { result.0 ≡ pick_of self.now }
         ensures least { least_picked self.now.arenas self.now.levels ≤ result.1 }
-        ensures alone { length self.now.arenas ≤ 12 → result.1 ≡ least_picked self.now.arenas self.now.levels }
+        ensures alone { HasSmallLevels self.now → result.1 ≡ least_picked self.now.arenas self.now.levels }
         ensures visits { result.1 ≤ self.now.levels * (2 * bits (length self.now.arenas)) }
         ensures few { result.1 ≤ 176 }
     {
@@ -69,7 +69,7 @@ impl Market {
     pub(super) fn divide(&self) -> Division
         ensures exact { IsDivisionOf self.now result }
         ensures least { least_extra self.now ≤ result.visits }
-        ensures alone { length self.now.arenas ≤ 12 → result.visits ≡ least_extra self.now }
+        ensures alone { HasSmallLevels self.now → result.visits ≡ least_extra self.now }
         ensures visits { result.visits ≤ extra_visits self.now }
         ensures few { result.visits ≤ 176 }
     {
@@ -101,7 +101,7 @@ impl Market {
         requires divided { IsDivisionOf self.now division.now }
         ensures exact { result.0 ≡ allotment_of self.now stored.number }
         ensures least { least_share self.now stored ≤ result.1 }
-        ensures alone { length self.now.arenas ≤ 12 → result.1 ≡ least_share self.now stored }
+        ensures alone { HasSmallLevels self.now → result.1 ≡ least_share self.now stored }
         ensures visits { result.1 ≤ 2 * bits (length self.now.arenas) }
         ensures few { result.1 ≤ 22 }
     {
@@ -127,7 +127,7 @@ impl Market {
         ensures exact { result.0 ≡ view_of self.now stored }
         ensures small { result.0.request ≤ 65535 }
         ensures least { least_seen self.now (Some stored) ≤ result.1 }
-        ensures alone { length self.now.arenas ≤ 12 → result.1 ≡ least_seen self.now (Some stored) }
+        ensures alone { HasSmallLevels self.now → result.1 ≡ least_seen self.now (Some stored) }
         ensures visits { result.1 ≤ 2 * bits (length self.now.arenas) + extra_visits self.now }
     {
         let division = &self.divide();
@@ -207,7 +207,7 @@ impl Market {
     pub(super) fn allotment_by_number(&self, arena: ArenaId) -> (u32, u32)
         ensures exact { result.0 ≡ allotment_of self.now arena }
         ensures least { least_seen self.now (arena_at arena self.now.arenas) ≤ result.1 }
-        ensures alone { length self.now.arenas ≤ 12 → result.1 ≡ least_seen self.now (arena_at arena self.now.arenas) }
+        ensures alone { HasSmallLevels self.now → result.1 ≡ least_seen self.now (arena_at arena self.now.arenas) }
         ensures visits { result.1 ≤ 2 * bits (length self.now.arenas) + extra_visits self.now }
     {
         self.arenas_are_within();

@@ -5,7 +5,7 @@ ghost use Rattle.market_types.specs.Step.{open_step, close_step, priority_step, 
 ghost use Rattle.market_types.specs.declared.command.Cmd.TheVariants.{Open, Close, Priority, Resize, Request, Join, Stay, Show, Lists};
 ghost use Rattle.market_types.specs.declared.reply.Reply.TheVariants.{Idle, Listed};
 ghost use Rattle.market_core.specs.Memory.{is_refusal, takes_memory};
-ghost use Rattle.market_core.specs.Visits.{most_visits, most_listed, most_joined, least_visits, looks_in_order, lists_all};
+ghost use Rattle.market_core.specs.Visits.{HasSmallLevels, most_visits, most_listed, most_joined, least_visits, looks_in_order, lists_all};
 
 use super::Market;
 use arena_record::ArenaRecord;
@@ -51,7 +51,7 @@ impl Market {
     /// number of arenas at its level has binary digits, and 4 for 8 or more; one for an arena that is put in or set; one for
     /// each arena that is allotted a worker, up to the one that a Join finds; for Lists one for each arena up to the last that
     /// has seats, and for each behind it that is allotted a worker; and where no worker may be active, one for each level that
-    /// has arenas. Among at most 12 arenas they are just so many as the state and the reply say, but for Join and Lists.
+    /// has arenas. Where no level has more than 12 arenas they are just so many, but for Join and Lists.
     #[inline(always)]
     pub fn apply_counted(
         &mut self,
@@ -66,7 +66,7 @@ impl Market {
         ensures no_memory { takes_memory cmd ≡ false → IsOk result }
         ensures memory_last { OnErr result (is_refusal (step self.old seat cmd).0 ≡ false) }
         ensures least { IfOk result (λ answer. least_visits self.old cmd answer.0 ≤ answer.1) }
-        ensures alone { length self.old.arenas ≤ 12 → looks_in_order cmd ≡ false → IfOk result (λ answer. answer.1 ≡ least_visits self.old cmd answer.0) }
+        ensures alone { HasSmallLevels self.old → looks_in_order cmd ≡ false → IfOk result (λ answer. answer.1 ≡ least_visits self.old cmd answer.0) }
         ensures visits { looks_in_order cmd ≡ false → IfOk result (λ answer. answer.1 ≤ most_visits self.old) }
         ensures listed { lists_all cmd ≡ true → IfOk result (λ answer. answer.1 ≤ most_listed self.old) }
         ensures joined { cmd ≡ Join → IfOk result (λ answer. answer.1 ≤ most_joined self.old) }
@@ -104,7 +104,7 @@ impl Market {
         ensures unchanged { OnErr result (self.new ≡ self.old) }
         ensures memory_last { OnErr result (is_refusal (open_step self.old slots reserved level).0 ≡ false) }
         ensures least { IfOk result (λ answer. least_visits self.old (Open slots reserved level) answer.0 ≤ answer.1) }
-        ensures alone { length self.old.arenas ≤ 12 → IfOk result (λ answer. answer.1 ≡ least_visits self.old (Open slots reserved level) answer.0) }
+        ensures alone { HasSmallLevels self.old → IfOk result (λ answer. answer.1 ≡ least_visits self.old (Open slots reserved level) answer.0) }
         ensures visits { IfOk result (λ answer. answer.1 ≤ most_visits self.old) }
     {
         let claim = match ArenaRecord::new(slots, reserved) {
@@ -139,7 +139,7 @@ impl Market {
         ensures reply { result.0 ≡ (close_step self.old arena).0 }
         ensures next { self.new ≡ (close_step self.old arena).1 }
         ensures least { least_visits self.old (Close arena) result.0 ≤ result.1 }
-        ensures alone { length self.old.arenas ≤ 12 → result.1 ≡ least_visits self.old (Close arena) result.0 }
+        ensures alone { HasSmallLevels self.old → result.1 ≡ least_visits self.old (Close arena) result.0 }
         ensures visits { result.1 ≤ most_visits self.old }
     {
         let active = self.roster.active(arena);
@@ -162,7 +162,7 @@ impl Market {
         ensures reply { result.0 ≡ (priority_step self.old arena level).0 }
         ensures next { self.new ≡ (priority_step self.old arena level).1 }
         ensures least { least_visits self.old (Priority arena level) result.0 ≤ result.1 }
-        ensures alone { length self.old.arenas ≤ 12 → result.1 ≡ least_visits self.old (Priority arena level) result.0 }
+        ensures alone { HasSmallLevels self.old → result.1 ≡ least_visits self.old (Priority arena level) result.0 }
         ensures visits { result.1 ≤ most_visits self.old }
     {
         if self.opening.levels < level.get() {
@@ -188,7 +188,7 @@ impl Market {
         ensures reply { result.0 ≡ (resize_step self.old arena slots reserved).0 }
         ensures next { self.new ≡ (resize_step self.old arena slots reserved).1 }
         ensures least { least_visits self.old (Resize arena slots reserved) result.0 ≤ result.1 }
-        ensures alone { length self.old.arenas ≤ 12 → result.1 ≡ least_visits self.old (Resize arena slots reserved) result.0 }
+        ensures alone { HasSmallLevels self.old → result.1 ≡ least_visits self.old (Resize arena slots reserved) result.0 }
         ensures visits { result.1 ≤ most_visits self.old }
     {
         if let Err(fault) = ArenaRecord::new(slots, reserved) {
@@ -207,7 +207,7 @@ impl Market {
         ensures reply { result.0 ≡ (request_step self.old arena workers mandatory).0 }
         ensures next { self.new ≡ (request_step self.old arena workers mandatory).1 }
         ensures least { least_visits self.old (Request arena workers mandatory) result.0 ≤ result.1 }
-        ensures alone { length self.old.arenas ≤ 12 → result.1 ≡ least_visits self.old (Request arena workers mandatory) result.0 }
+        ensures alone { HasSmallLevels self.old → result.1 ≡ least_visits self.old (Request arena workers mandatory) result.0 }
         ensures visits { result.1 ≤ most_visits self.old }
     {
         self.nobody_needed = false;
@@ -283,7 +283,7 @@ impl Market {
         ensures reply { result.0 ≡ (stay_from self.old seat (place_of self.old seat)).0 }
         ensures next { self.new ≡ (stay_from self.old seat (place_of self.old seat)).1 }
         ensures least { least_visits self.old Stay result.0 ≤ result.1 }
-        ensures alone { length self.old.arenas ≤ 12 → result.1 ≡ least_visits self.old Stay result.0 }
+        ensures alone { HasSmallLevels self.old → result.1 ≡ least_visits self.old Stay result.0 }
         ensures visits { result.1 ≤ most_visits self.old }
     {
         let Some(arena) = self.roster.at(seat) else {
@@ -325,7 +325,7 @@ impl Market {
     fn show(&self, arena: ArenaId) -> (Reply, u64)
         ensures reply { result.0 ≡ (show_step self.now arena).0 }
         ensures least { least_visits self.now (Show arena) result.0 ≤ result.1 }
-        ensures alone { length self.now.arenas ≤ 12 → result.1 ≡ least_visits self.now (Show arena) result.0 }
+        ensures alone { HasSmallLevels self.now → result.1 ≡ least_visits self.now (Show arena) result.0 }
         ensures visits { result.1 ≤ most_visits self.now }
     {
         let Some(stored) = self.arenas.get(arena) else {

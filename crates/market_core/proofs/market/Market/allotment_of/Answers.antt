@@ -8,7 +8,7 @@ use Rattle.arena_store.specs.Bits.{bits}
 use Rattle.arena_store.specs.Ways.{least_way}
 use Rattle.market_core.specs.Visits.{least_share}
 use Rattle.market_core.proofs.Numbers.{All-found}
-use Rattle.market_core.proofs.Meters.{level-few, way-alone, share-nobody, share-unasked, share-way}
+use Rattle.market_core.proofs.Meters.{way-alone, share-nobody, share-unasked, share-way}
 use Rattle.market_core.proofs.Allotted.{allotment_of-found, request-within}
 use Rattle.market_core.proofs.market.Market.allotment_of.Goals as goal
 use Rattle.market_core.proofs.market.Market.allotment_of.Goals.{After-before-before}
@@ -119,7 +119,7 @@ pub returns-clause-alone : goal.returns-clause-alone
 returns-clause-alone c few =
     let at : c.level-level.result ≡ c.args.stored.level = c.level-level.ensures in
     let arenas : c.self.inside.arenas ≡ c.args.self.now.arenas = ap (λ (s : State). s.arenas) c.self.view_is in
-    let here : length (at_level c.args.stored.level c.args.self.now.arenas) ≤ 12 = omega (arith, few, level-few c.args.stored.level c.args.self.now.arenas) in
+    let here : length (at_level c.args.stored.level c.args.self.now.arenas) ≤ 12 = few c.args.stored.level in
     let is = way (goal.at.returns-clause-alone c).After-before-before (omega (arith, c.requires.divided.limit, c.if-division-eq0.false)) (omega (arith, c.if-request-eq0.false)) in
     let alone : length (at_level c.args.stored.level c.args.self.now.arenas) ≤ 12 → c.before-before.result.1 ≡ bits (length (at_level c.args.stored.level c.args.self.now.arenas)) = rw (← at, ← arenas) c.before-before.ensures.alone in
     omega (arith, is, alone here, way-alone (length (at_level c.args.stored.level c.args.self.now.arenas)) here)

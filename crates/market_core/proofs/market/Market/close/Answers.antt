@@ -16,7 +16,7 @@ invariant_of-self c = record { sound = rw c.remove.ensures.exact (sound-removed 
 pub returns-clause-alone : goal.returns-clause-alone
 returns-clause-alone c few =
     let arenas : c.self.inside.arenas ≡ c.args.self.now.arenas = ap (λ (s : State). s.arenas) c.self.view_is in
-    let short : beside c.args.arena c.args.self.now.arenas ≤ 12 = omega (arith, few, beside-few c.args.arena c.args.self.now.arenas) in
+    let short : beside c.args.arena c.args.self.now.arenas ≤ 12 = beside-few c.args.arena c.args.self.now.arenas few in
     let is = way-alone (beside c.args.arena c.args.self.now.arenas) short in
     elim c.match-remove.branch as (λ _. c.match-remove.result.1 ≡ least_visits c.args.self.now (Close c.args.arena) c.match-remove.result.0) [
       | in-Some-remove w ↦

@@ -3,7 +3,7 @@ use Rattle.std.specs.List.{All}
 use Rattle.market_types.specs.State.{State, Arena}
 use Rattle.market_types.specs.Allotment.{at_level}
 use Rattle.arena_store.specs.Bits.{bits}
-use Rattle.market_core.proofs.Meters.{level-few, put-alone}
+use Rattle.market_core.proofs.Meters.{put-alone}
 use Rattle.market_core.proofs.market.Market.open.Goals as goal
 
 pub push-requires-clause-room : goal.push-requires-clause-room
@@ -21,6 +21,6 @@ pub returns-clause-alone : goal.returns-clause-alone
 returns-clause-alone c few =
     let level : c.new-stored.result.level ≡ c.args.level = ap (λ (a : Arena). a.level) c.new-stored.ensures in
     let arenas : c.self.inside.arenas ≡ c.args.self.now.arenas = ap (λ (s : State). s.arenas) c.self.view_is in
-    let short : length (at_level c.args.level c.args.self.now.arenas) ≤ 12 = omega (arith, few, level-few c.args.level c.args.self.now.arenas) in
+    let short : length (at_level c.args.level c.args.self.now.arenas) ≤ 12 = few c.args.level in
     let alone : length (at_level c.args.level c.args.self.now.arenas) ≤ 12 → c.in_ok-visits.visits ≡ bits (length (at_level c.args.level c.args.self.now.arenas) + 1) = rw (← level, ← arenas) c.in_ok-visits.ensures.alone in
     omega (arith, c.from.ensures, alone short, put-alone (length (at_level c.args.level c.args.self.now.arenas)) short)

@@ -15,7 +15,7 @@ invariant-loop-index l =
       exact : (k : ℕ) → k < l.index → get_or l.picks k None ≡ number_of (find (λ (a : Arena). is_mandated a.claim) (at_level (k + 1) l.self-inside.arenas));
       above : (k : ℕ) → l.index ≤ k → get_or l.picks k None ≡ None;
       least : least_picked l.self-inside.arenas l.index ≤ l.visits;
-      alone : length l.self-inside.arenas ≤ 12 → l.visits ≡ least_picked l.self-inside.arenas l.index;
+      alone : ((level : ℕ) → length (at_level level l.self-inside.arenas) ≤ 12) → l.visits ≡ least_picked l.self-inside.arenas l.index;
       visits : l.visits ≤ l.index * (2 * bits (length l.self-inside.arenas));
       few : l.visits ≤ l.index * 22;
     }

@@ -5,7 +5,7 @@ use Rattle.market_types.specs.Step.{arena_at, without}
 use Rattle.arena_store.specs.Arenas.{beside}
 use Rattle.arena_store.specs.Bits.{bits}
 use Rattle.arena_store.specs.Ways.{least_way, least_put}
-use Rattle.market_core.proofs.Meters.{beside-few, level-few, rest-few, way-alone, put-alone}
+use Rattle.market_core.proofs.Meters.{beside-few, rest-few, way-alone, put-alone}
 use Rattle.market_core.specs.Shown.{shown}
 use Rattle.market_core.proofs.Steps.{sound-promoted}
 use Rattle.market_core.proofs.market.Market.priority.Goals as goal
@@ -31,7 +31,7 @@ returns-clause-alone c few =
     let xs = c.args.self.now.arenas in
     let arenas : c.self.inside.arenas ≡ xs = ap (λ (s : State). s.arenas) c.self.view_is in
     let rest = without c.args.arena xs in
-    let short : beside c.args.arena xs ≤ 12 = omega (arith, few, beside-few c.args.arena xs) in
-    let shorter : length (at_level c.args.level rest) ≤ 12 = omega (arith, few, level-few c.args.level rest, rest-few c.args.arena xs) in
+    let short : beside c.args.arena xs ≤ 12 = beside-few c.args.arena xs few in
+    let shorter : length (at_level c.args.level rest) ≤ 12 = omega (arith, few c.args.level, rest-few c.args.level c.args.arena xs) in
     let alone : beside c.args.arena xs ≤ 12 → length (at_level c.args.level (without c.args.arena xs)) ≤ 12 → c.in-Some-promote.visits ≡ bits (beside c.args.arena xs) + bits (length (at_level c.args.level (without c.args.arena xs)) + 1) = rw (← arenas) c.in-Some-promote.ensures.alone in
     omega (arith, c.from.ensures, alone short shorter, way-alone (beside c.args.arena xs) short, put-alone (length (at_level c.args.level rest)) shorter)

@@ -20,7 +20,7 @@ invariant_of-self c =
 pub returns-clause-alone : goal.returns-clause-alone
 returns-clause-alone c few =
     let arenas : c.self.inside.arenas ≡ c.args.self.now.arenas = ap (λ (s : State). s.arenas) c.self.view_is in
-    let short : beside c.args.arena c.args.self.now.arenas ≤ 12 = omega (arith, few, beside-few c.args.arena c.args.self.now.arenas) in
+    let short : beside c.args.arena c.args.self.now.arenas ≤ 12 = beside-few c.args.arena c.args.self.now.arenas few in
     let is = node-alone (beside c.args.arena c.args.self.now.arenas) short in
     elim c.match-change.branch as (λ _. c.match-change.result.1 ≡ least_visits c.args.self.now (Resize c.args.arena c.args.slots c.args.reserved) c.match-change.result.0) [
       | in-Ok w ↦
