@@ -173,6 +173,7 @@ impl Level {
         ensures changed { self.new ≡ record self.old { rows = set_row row.now.stamp request mandated self.old.rows } }
         ensures sound { IsLevel self.new }
         ensures least { visits.old + least_node (length self.old.rows) ≤ visits.new }
+        ensures far { near.new ≢ near.old → visits.old + least_way (length self.old.rows) ≤ visits.new }
         ensures alone { length self.old.rows ≤ 12 → visits.new ≡ visits.old + bits (length self.old.rows) }
         ensures visits { visits.new ≤ visits.old + 2 * bits (length self.old.rows) }
     {

@@ -23,7 +23,7 @@
 //!   use, and as many shelves as they can. So a leaf is always spare. A row that finds its level's one leaf full needs a shelf:
 //!   that level counts among those with 13 rows and has none yet, so a shelf is spare too.
 //! - A promoted row is out for a moment: n - 1 rows need no more than n.
-ghost use Rattle.std.specs.Prelude.{◌≡◌, ℕ, ◌+◌, ◌*◌, ◌<◌, ◌≤◌, [], ◌∷◌, length, replicate, slice_get, slice_set, Some, All, IsSome, IfOk, IfSome, OnOk, OnErr};
+ghost use Rattle.std.specs.Prelude.{◌≡◌, ◌≢◌, ℕ, ◌+◌, ◌*◌, ◌<◌, ◌≤◌, [], ◌∷◌, length, replicate, slice_get, slice_set, Some, All, IsSome, IfOk, IfSome, OnOk, OnErr};
 ghost use Rattle.market_types.specs.declared.row.Row.{Row};
 ghost use Rattle.prefix_tree.specs.Rows.{IsNewestFirst, requests, requests_above, first_mandated, row_at, without, set_row};
 ghost use Rattle.prefix_tree.specs.Bits.{bits};
@@ -178,6 +178,7 @@ impl Levels {
         ensures rows { self.new ≡ slice_set self.old level (set_row row.stamp request mandated (rows_at level self.old)) }
         ensures newest_first { IsNewestFirst (rows_at level self.new) }
         ensures least { least_node (length (rows_at level self.old)) ≤ result }
+        ensures far { near.new ≢ near.old → least_way (length (rows_at level self.old)) ≤ result }
         ensures alone { length (rows_at level self.old) ≤ 12 → result ≡ bits (length (rows_at level self.old)) }
         ensures visits { result ≤ 2 * bits (length (rows_at level self.old)) }
     {

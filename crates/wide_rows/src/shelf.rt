@@ -10,8 +10,8 @@
 //! is full; a row that goes leaves a gap in its own leaf alone. So a call touches one leaf, one block and the top.
 //!
 //! A visit is one binary digit of the number of keys of a node that is entered: a way down enters the top, a block and a leaf,
-//! which is at most twice the binary digits of the number of rows.
-ghost use Rattle.std.specs.Prelude.{◌≡◌, ℕ, ◌+◌, ◌*◌, ◌/◌, ◌^◌, ◌<◌, ◌≤◌, List, [], ◌∷◌, ◌++◌, length, slice_get, Some, All, IfOk, IfSome, MatchOption, Box, true, false};
+//! which is at least 4 visits, and at most twice the binary digits of the number of rows.
+ghost use Rattle.std.specs.Prelude.{◌≡◌, ◌≢◌, ℕ, ◌+◌, ◌*◌, ◌/◌, ◌^◌, ◌<◌, ◌≤◌, List, [], ◌∷◌, ◌++◌, length, slice_get, Some, All, IfOk, IfSome, MatchOption, Box, true, false};
 ghost use Rattle.market_types.specs.declared.row.Row.{Row};
 ghost use Rattle.std.specs.Vec.{vec_capacity};
 ghost use Rattle.std.specs.declared.alloc.Global.{Global};
@@ -207,6 +207,7 @@ impl Shelf {
         requires few { visits.old < 2 ^ 31 }
         ensures changed { self.new ≡ record self.old { rows = set_row row.now.stamp request mandated self.old.rows } }
         ensures entered { visits.old + 1 ≤ visits.new }
+        ensures far { near.new ≢ near.old → visits.old + 4 ≤ visits.new }
         ensures visits { visits.new ≤ visits.old + 2 * bits (length self.old.rows) }
     {
         let place = self

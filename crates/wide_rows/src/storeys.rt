@@ -8,7 +8,7 @@
 //!
 //! A search goes down the top, one block and one leaf, each without a branch that is guessed. The `oldest` of the very first
 //! leaf counts as 0, and that of a block is its first leaf's, so there is always a lane to go down.
-ghost use Rattle.std.specs.Prelude.{◌≡◌, ℕ, ◌+◌, ◌/◌, ◌^◌, ◌<◌, ◌≤◌, List, [], length, min, All};
+ghost use Rattle.std.specs.Prelude.{◌≡◌, ◌≢◌, ℕ, ◌+◌, ◌/◌, ◌^◌, ◌<◌, ◌≤◌, List, [], length, min, All};
 ghost use Rattle.market_types.specs.declared.row.Row.{Row};
 ghost use Rattle.prefix_tree.specs.Bits.{bits};
 ghost use Rattle.prefix_tree.specs.Rows.{requests};
@@ -138,6 +138,7 @@ impl Storeys {
         requires few { visits.old < 2 ^ 31 }
         ensures at { IsAt stamp (leaf_at leaves.now.items) (length leaves.now.items) result }
         ensures entered { visits.old + bits (length (leaf_at leaves.now.items result)) ≤ visits.new }
+        ensures far { result ≢ near → visits.new ≡ visits.old + bits (blocks_for (length leaves.now.items)) + bits (lanes (length leaves.now.items) (result / 16)) + bits (length (leaf_at leaves.now.items result)) }
         ensures visits { visits.new ≤ visits.old + bits (blocks_for (length leaves.now.items)) + bits (min 16 (length leaves.now.items)) + 5 }
     {
         if near < leaves.len() {

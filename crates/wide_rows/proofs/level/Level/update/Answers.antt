@@ -1,4 +1,4 @@
-use Rattle.std.proofs.Common.{◌≡◌, ◌+◌, ◌-◌, ◌<◌, length, refl, ap, arith, Some}
+use Rattle.std.proofs.Common.{◌≡◌, ◌+◌, ◌-◌, ◌<◌, length, refl, ap, ◌∙◌, arith, Some}
 use Rattle.prefix_tree.specs.Bits.{bits}
 use Rattle.prefix_tree.specs.Rows.{row_at, set_row}
 use Rattle.prefix_tree.proofs.Updates.{set-requests, request-within}
@@ -74,3 +74,10 @@ returns-clause-alone c few =
           omega (arith, w.enter.ensures.counted, ap bits long, w.visits-is)
       | in-Shelf w ↦ absurd (omega (arith, few, same, c.self.invariant.sound.boxes.shelves, ap (λ form. (leveled form).shelves) w.in-Shelf.is))
     ]
+
+pub returns-clause-far : goal.returns-clause-far
+returns-clause-far c moved = elim c.match-self.branch [
+  | in-Empty w ↦ absurd (moved w.near-is)
+  | in-Leaf w ↦ absurd (moved w.near-is)
+  | in-Shelf w ↦ omega (arith, w.update.ensures.far (λ e. moved (w.near-is ∙ e)), w.visits-is)
+]

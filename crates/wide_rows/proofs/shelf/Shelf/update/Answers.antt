@@ -1,12 +1,12 @@
 use Rattle.std.specs.Box.{with_value}
-use Rattle.std.proofs.Common.{◌≡◌, Some, length, ap, ◌∙◌, arith}
+use Rattle.std.proofs.Common.{◌≡◌, ◌<◌, Some, length, ap, ◌∙◌, arith}
 use Rattle.std.proofs.lemmas.List.{length-set}
 use Rattle.prefix_tree.specs.Rows.{row_at, set_row}
 use Rattle.prefix_tree.specs.Bits.{bits}
 use Rattle.wide_rows.specs.Shelves.{Shelved, rows_of, leaf_at}
 use Rattle.wide_rows.proofs.OfShelves.{leaf_there}
 use Rattle.wide_rows.proofs.NodeDigits.{bits-some}
-use Rattle.wide_rows.proofs.WayDown.{way_down}
+use Rattle.wide_rows.proofs.WayDown.{way_down, down_at}
 use Rattle.wide_rows.proofs.Edits.{was_put, rows_set, leaves_set, change_set}
 use Rattle.wide_rows.proofs.TwoStoreys.{known}
 use Rattle.wide_rows.proofs.shelf.Shelf.update.Goals as goal
@@ -75,3 +75,10 @@ returns-clause-visits c =
       way_down c.self.inside.storeys c.self.inside.leaves.items c.self.invariant.leaves (c.self.invariant.known.indexed (omega (arith, c.requires.some, ap (λ (v : Shelved). v.leaves) c.self.view_is))) (omega (arith, c.requires.some, ap (λ (v : Shelved). v.leaves) c.self.view_is)),
       ap (λ (v : Shelved). bits (length v.rows)) c.self.view_is,
     )
+
+pub returns-clause-far : goal.returns-clause-far
+returns-clause-far c moved =
+    let k = c.find_near-place.result in
+    let two : 1 < length c.self.inside.leaves.items = omega (arith, c.requires.some, ap (λ (v : Shelved). v.leaves) c.self.view_is) in
+    let down = down_at c.self.inside.storeys c.self.inside.leaves.items c.self.invariant.leaves c.self.invariant.indexed two k c.find_near-place.ensures.at.there in
+    omega (arith, c.find_near-place.ensures.far (λ e. moved (e ∙ c.from.ensures)), down)
