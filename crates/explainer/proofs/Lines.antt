@@ -1,5 +1,5 @@
 -- What is written of a line, of a level's arenas, and of the levels.
-use Rattle.std.proofs.Common.{◌≡◌, ℕ, zero, suc, ◌+◌, ◌-◌, ◌<◌, ◌≤◌, true, false, eqb, ltb, List, [], ◌∷◌, ◌++◌, drop, codes, Option, None, Some, option_map, Result, Ok, Err, OnOk, refl, sym, ap, ◌∙◌, arith, inl, inr, append_assoc, append-nil}
+use Rattle.std.proofs.Common.{◌≡◌, ℕ, zero, suc, ◌+◌, ◌-◌, ◌<◌, true, false, eqb, ltb, List, [], ◌∷◌, ◌++◌, drop, codes, Option, None, Some, option_map, Result, Ok, Err, OnOk, refl, sym, ap, ◌∙◌, arith, inl, inr, append_assoc, append-nil}
 use Rattle.std.specs.Prelude.{slice_get}
 use Rattle.std.specs.List.{sum_by, range_with_len}
 use Rattle.std.proofs.Math.Seq.{drop-cons}
@@ -130,12 +130,6 @@ level-written s i v out mid out' whole more so_far view line arenas none =
     ∙ ap (λ n. out ++ (first ++ (codes "\n" ++ (those ++ level_lines s n rest)))) (sym none)
     ∙ ap (λ n. out ++ level_lines s 0 (range_with_len (i + 1) n)) (sym count)
     ∙ so_far
-
--- all levels are
-pub levels-written : (s : State) (i : ℕ) (out whole : List ℕ) → s.levels ≤ i → out ++ level_lines s 0 (range_with_len (i + 1) (s.levels - i)) ≡ whole → out ≡ whole
-levels-written s i out whole all so_far =
-    let none : s.levels - i ≡ 0 = omega arith in
-    sym (append-nil out) ∙ ap (λ n. out ++ level_lines s 0 (range_with_len (i + 1) n)) (sym none) ∙ so_far
 
 -- what a level leaves
 pub left-more : (s : State) (i left : ℕ) → left ≡ bound_of s - sum_by (level_allotment s) (range_with_len 1 i) → left - level_allotment s (i + 1) ≡ left_after s (i + 1)

@@ -1,16 +1,10 @@
 -- What is written of answers is the outcome of their plan.
-use Rattle.std.proofs.Common.{◌≡◌, ℕ, suc, ◌+◌, ◌<◌, List, [], ◌∷◌, ◌++◌, length, get_or, drop, drop-cons, slice_index_or, add-one, refl, ap, ap₂, ◌∙◌, arith}
+use Rattle.std.proofs.Common.{◌≡◌, ℕ, suc, ◌+◌, ◌<◌, List, [], ◌∷◌, ◌++◌, length, slice_index_or, refl, ap, ap₂, ◌∙◌, arith}
 use Rattle.drive_plan.specs.declared.task.PlannedJob.{PlannedJob}
 use Rattle.drive_plan.specs.declared.task.Done.{Done}
 use Rattle.drive_plan.specs.Values.{value_of}
 use Rattle.drive_plan.specs.Outcome.{IsOutcome}
 use Rattle.market_prog.specs.DriveTexts.{answer_lines, job_line, outcome_lines}
-
--- the line of the answer at a place, and those behind it
-pub answers-next : (ds : List Done) (i : ℕ) (d : Done) → i < length ds → d ≡ get_or ds i d → answer_lines (drop i ds) ≡ job_line d.number d.value ++ answer_lines (drop (i + 1) ds)
-answers-next ds i d h is =
-    let next : drop i ds ≡ d ∷ drop (i + 1) ds = rw (add-one, drop-cons ds i d, ← is) refl in
-    ap answer_lines next
 
 -- answers with the jobs' values, the first of which has this number
 lines-are : (n : ℕ) (jobs : List PlannedJob) (ds : List Done) → length ds ≡ length jobs

@@ -35,9 +35,6 @@ answer-handed s form line h = answer-at (nat_lt 256 (length line)) s form line r
 abbrev pub state_after : ℕ → Told → State × ℕ
 state_after unread told = (told.last, unread + told.unread)
 
-after-told : (n : ℕ) (a b : Told) → a ≡ b → state_after n a ≡ state_after n b
-after-told n a b e = ap (state_after n) e
-
 same-state : (s : State) (m n : ℕ) → m ≡ n → (let x : State × ℕ = (s, m) in x) ≡ (s, n)
 same-state s m n e = ap (λ (k : ℕ). let x : State × ℕ = (s, k) in x) e
 

@@ -8,9 +8,6 @@ use Rattle.market_types.specs.declared.reply.Entry.{Entry}
 pub still-written : (n : ℕ) (old new : List Entry) → IsPrefix old new → n ≤ length old → take n new ≡ take n old
 still-written n old new front small = ap (take n) (sym front.1) ∙ take-append-le n old front.0 small
 
-pub still-fits : (n : ℕ) (old new : List Entry) → IsPrefix old new → n ≤ length old → n ≤ length new
-still-fits n old new front small = omega (arith, ap length front.1, length-append old front.0, small)
-
 module _ (n : ℕ) (old new before part : List Entry) (front : IsPrefix old new) (small : n ≤ length old) (is : new ≡ before ++ part) (at : length before ≡ n) where
   pub was-before : take n old ≡ before
   was-before = sym (still-written n old new front small) ∙ (ap (take n) is ∙ take_at before part n at)
