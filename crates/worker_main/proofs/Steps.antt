@@ -35,9 +35,6 @@ balanced_none stations takers k s p q at old new =
       ap (λ (t : OfTaker Job). t.empties) same ∙ (let e : p.empties ≡ p.empties + 0 = omega arith in e),
     )
 
-balanced_join : (stations : List Station) (takers : List (OfTaker Job)) (seat : ℕ) → IsBalanced stations takers takers (entry seat Join Idle ∷ [])
-balanced_join stations takers seat k s p q at old new = balanced_none stations takers k s p q at old new
-
 -- the taker at place `here` took what a turn at that station's arena tells
 balanced_turn : (stations : List Station) (takers : List (OfTaker Job)) (here seat : ℕ) (s : Station) (p q : OfTaker Job) (t : Turn)
     → AllPairs HaveOwnArenas stations → slice_get stations here ≡ Some s → slice_get takers here ≡ Some p → t.station ≡ s
@@ -87,9 +84,6 @@ turned stations takers here s p q a b c own in' at there seat joins u = (
   (u.turn, subst (Contains stations) (sym u.at) in', refl),
   balanced_turn stations takers here a.seat s p q u.turn own at there u.at u.jobs u.misses,
 )
-
-pub last_join : (stations : List Station) (takers : List (OfTaker Job)) (a b : OfPass) → b.mine ≡ a.mine ++ entry a.seat Join Idle ∷ [] → HasAdded IsLastJoin stations takers takers a b
-last_join stations takers a b e = (entry a.seat Join Idle ∷ [], e, refl, balanced_join stations takers a.seat)
 
 pub more_turns : (stations : List Station) (old mid new : List (OfTaker Job)) (a b c : OfPass) → AllZip IsTakerAfter old mid → b.seat ≡ a.seat → HasAdded (AreWhole stations) stations old mid a b → HasAdded (IsTurnOf stations) stations mid new b c
     → HasAdded (AreWhole stations) stations old new a c
