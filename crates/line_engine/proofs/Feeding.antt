@@ -75,14 +75,6 @@ module _ {S : Type 0} (rule : LineRule S) (longest : ℕ) where
     line-fault s now a b input waiting u rest line more (Taker fault) f is free why limit text short =
         (short, refl, refl, feeding-stops s now a b input waiting u rest line more fault f is free why)
 
--- the last line was not taken
-pub last-fault : {F : Type 0} (stops : F → Type 0) (fault : InputFault F) → IsLineFault stops fault → IsPieceFault stops fault false
-last-fault stops Read why limit text short = absurd why
-last-fault stops TooLong why limit text short = absurd why
-last-fault stops Write why limit text short = absurd why
-last-fault stops Memory why limit text short = (short, refl, refl)
-last-fault stops (Taker fault) why limit text short = (short, refl, refl, why)
-
 pub line-fault-weaker : {F : Type 0} (P Q : F → Type 0) → ((fault : F) → P fault → Q fault) → (fault : InputFault F) → IsLineFault P fault → IsLineFault Q fault
 line-fault-weaker P Q h Read why = why
 line-fault-weaker P Q h TooLong why = why
