@@ -1,2 +1,4 @@
 pub mod Callers
 pub mod Rooms
+pub mod Works
+pub mod Members

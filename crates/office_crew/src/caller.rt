@@ -1,6 +1,6 @@
 //! A caller of an office, and what it does in its thread.
-ghost use Rattle.std.specs.Prelude.{◌≡◌};
-ghost use Rattle.market_lock.specs.Seen.{IsSamePass};
+ghost use Rattle.std.specs.Prelude.{◌≡◌, Bool};
+ghost use Rattle.market_lock.specs.Seen.{IsSamePass, OfPass};
 ghost use Rattle.office_crew.specs.Callers.{who_is};
 
 use market_lock::{Office, Pass, Placed};
@@ -16,8 +16,14 @@ pub enum Caller<P, Q> {
     Working(Q),
 }
 
-/// What a thread does with its caller.
+/// What a thread does with its caller. Contracts of a meeting speak of tasks in words of their own, `worked` and `lets`: what a task
+/// was and has become by its work, and between what its caller was and has become; and whether it lets others work. A task that
+/// has nothing to say of them leaves them out.
 pub trait Task {
+    ghost worked: { Self → OfPass → Self → OfPass → Type 0 } = { λ _ _ _ _. Unit {0} };
+
+    ghost lets: { Self → Bool → Type 0 } = { λ _ _. Unit {0} };
+
     /// Works until it is done. The caller that comes back is the one that was given, a pass or placed.
     fn work<C: Ledger, W: Ledger, R: Wait>(
         &mut self,
@@ -27,8 +33,10 @@ pub trait Task {
         caller: Caller<Pass<C, W>, Placed<C, W>>,
     ) -> Caller<Pass<C, W>, Placed<C, W>>
         requires office { (who_is caller).table ≡ office.now.table }
-        ensures same { IsSamePass (who_is caller) (who_is result) };
+        ensures same { IsSamePass (who_is caller) (who_is result) }
+        ensures worked { worked self.old (who_is caller) self.new (who_is result) };
 
     /// Whether the tasks that come after it may work. An opener alone is asked, and only when it has ended its work.
-    fn lets_others_work(&self) -> bool;
+    fn lets_others_work(&self) -> bool
+        ensures lets { lets self.now result };
 }

@@ -1,15 +1,18 @@
 //! An office is opened, its callers work, and it is closed.
-ghost use Rattle.std.specs.Prelude.{◌≡◌, ◌⊎◌, Err, ◌+◌, ◌≤◌, vec_len, vec_capacity, length, IfOk, IfErr, All};
+ghost use Rattle.std.specs.Prelude.{◌≡◌, ◌⊎◌, Err, Some, ◌+◌, ◌<◌, ◌≤◌, ◌++◌, [], ℕ, Bool, reverse, slice_get, vec_len, vec_capacity, length, IfOk, IfErr, All};
+ghost use Rattle.std.specs.List.{AllZip};
 ghost use Rattle.market_types.specs.State.{opening_to};
 ghost use Rattle.market_lock.specs.Headline.{IsGivenBy};
-ghost use Rattle.market_lock.specs.Seen.{OfPass, OfPlaced};
+ghost use Rattle.market_lock.specs.Seen.{OfPass, OfPlaced, fresh};
 ghost use Rattle.market_lock.specs.Views.{opening_of, chronicle_cut};
 ghost use Rattle.edit_history.specs.Chronicled.{market_of, opened_by};
 ghost use Rattle.edit_history.specs.Places.{placed as seats_placed};
 ghost use Rattle.office_crew.specs.Callers.{terms_of};
+ghost use Rattle.office_crew.specs.Members.{AreSeated, HasDone, OfMember, free_of, tasks_of, working_of};
+ghost use Rattle.office_crew.specs.Works.{HasFollowed, HaveWorked};
 
 use crate::caller::{Caller, Task};
-use crate::member::{Member, Order, Room, work_all};
+use crate::member::{Member, Room, let_others_work, work_at_once, work_in_turn};
 use edit_history::{Keeping, Terms as OfficeTerms};
 use market_lock::{Closed, Office, Pass, Placed};
 use market_types::{LastNumber, OpenFault};
@@ -84,9 +87,11 @@ fn seated<C: Ledger, W: Ledger, B: Room, T: Task>(
     requires own { All (λ (p : OfPass). p.table ≡ B.table) passes.old.items }
     requires enough { vec_len tasks.old ≤ vec_len passes.old }
     requires room { (vec_len members.old ≡ 0) × (vec_len tasks.old ≤ vec_capacity members.old) }
+    requires empty { members.old.items ≡ [] }
     ensures own { All (λ (p : OfPass). p.table ≡ B.table) passes.new.items }
     ensures all { vec_len members.new ≡ vec_len tasks.old }
-    ensures none_left { vec_len tasks.new ≡ 0 }
+    ensures seated { AreSeated passes.old.items passes.new.items tasks.old.items tasks.new.items members.new.items }
+    ensures none_left { tasks.new.items ≡ [] }
     ensures left { vec_len passes.new + vec_len tasks.old ≡ vec_len passes.old }
     ensures capacity { (vec_capacity passes.new ≡ vec_capacity passes.old) × (vec_capacity tasks.new ≡ vec_capacity tasks.old) }
 {
@@ -111,7 +116,10 @@ fn gathered<C: Ledger, W: Ledger, B: Room, T: Task>(
     ensures own { All (λ (p : OfPass). p.table ≡ B.table) passes.new.items }
     ensures own_placed { All (λ (p : OfPlaced). p.who.table ≡ B.table) placed.new.items }
     ensures all { vec_len passes.new + vec_len placed.new ≡ (vec_len passes.old + vec_len placed.old) + vec_len members }
-    ensures tasks { vec_len tasks.new ≡ vec_len tasks.old + vec_len members }
+    ensures count { vec_len tasks.new ≡ vec_len tasks.old + vec_len members }
+    ensures tasks { tasks.new.items ≡ tasks.old.items ++ tasks_of (reverse members.items) }
+    ensures free { passes.new.items ≡ passes.old.items ++ free_of (reverse members.items) }
+    ensures working { placed.new.items ≡ placed.old.items ++ working_of (reverse members.items) }
     ensures capacity { (vec_capacity passes.new ≡ vec_capacity passes.old) × (vec_capacity placed.new ≡ vec_capacity placed.old) }
 {
     let mut left = members;
@@ -141,6 +149,7 @@ fn make_rooms<X, Y, Z>(
 ) -> Result<Rooms<X, Y, Z>, AllocError>
     requires few { openers + tasks ≤ 64 }
     ensures empty { IfOk result (λ rooms. (vec_len rooms.first ≡ 0) × (vec_len rooms.others ≡ 0) × (vec_len rooms.placed ≡ 0)) }
+    ensures fresh { IfOk result (λ rooms. (rooms.first.items ≡ []) × (rooms.others.items ≡ []) × (rooms.placed.items ≡ [])) }
     ensures room { IfOk result (λ rooms. (openers ≤ vec_capacity rooms.first) × (tasks ≤ vec_capacity rooms.others) × (openers + tasks ≤ vec_capacity rooms.placed)) }
 {
     let first = Vec::with_capacity(alloc, openers)?;
@@ -177,12 +186,14 @@ fn work_in_order<
 ) -> (Vec<Member<C, W, B, O>>, Vec<Member<C, W, B, T>>)
     requires { office.now.table ≡ B.table }
     ensures all { (vec_len result.0 ≡ vec_len first) × (vec_len result.1 ≡ vec_len others) }
+    ensures first { AllZip (HasDone O.worked) first.items result.0.items }
+    ensures others { HasFollowed (λ (m : OfMember O) (b : Bool). O.lets m.task b) result.0.items (AllZip (HasDone T.worked) others.items result.1.items) (result.1.items ≡ others.items) }
 {
-    let first = work_all(rt, alloc, office, Order::InTurn, first);
-    if !first.iter().all(|opener| opener.lets_others_work()) {
+    let first = work_in_turn(rt, alloc, office, first);
+    if !let_others_work(first.as_slice()) {
         return (first, others);
     }
-    (first, work_all(rt, alloc, office, Order::AtOnce, others))
+    (first, work_at_once(rt, alloc, office, others))
 }
 
 /// The callers of an open office work, and it is closed.
@@ -203,6 +214,7 @@ pub(crate) fn met<
 ) -> Result<Meeting<O, T>, Unmet<O, T>>
     requires office { office.table ≡ B.table }
     requires own { All (λ (p : OfPass). p.table ≡ office.table) passes.items }
+    requires unused { (k : ℕ) → k < office.terms.seats → slice_get passes.items k ≡ Some (fresh office k) }
     requires all { (vec_len passes ≡ office.terms.seats) × (vec_len openers + vec_len tasks ≡ office.terms.seats) }
     requires few { vec_len openers + vec_len tasks ≤ 64 }
     ensures headline { IfOk result (λ meeting. IsGivenBy (opening_of office.terms) meeting.closed.chronicle) }
@@ -210,6 +222,8 @@ pub(crate) fn met<
     ensures calls { IfOk result (λ meeting. meeting.closed.calls ≡ length meeting.closed.chronicle.log) }
     ensures workers { IfOk result (λ meeting. meeting.closed.workers ≡ seats_placed (market_of meeting.closed.chronicle)) }
     ensures tasks { IfOk result (λ meeting. (vec_len meeting.openers ≡ vec_len openers) × (vec_len meeting.tasks ≡ vec_len tasks)) }
+    ensures opened { IfOk result (λ meeting. HaveWorked O.worked office.terms meeting.closed.chronicle.log 0 openers.items meeting.openers.items) }
+    ensures worked { IfOk result (λ meeting. HasFollowed O.lets meeting.openers.items (HaveWorked T.worked office.terms meeting.closed.chronicle.log (vec_len openers) tasks.items meeting.tasks.items) (meeting.tasks.items ≡ tasks.items)) }
     ensures memory { IfErr result (λ unmet. unmet.fault ≡ OpenFault.Memory) }
     ensures unmet { IfErr result (λ unmet. (unmet.openers ≡ openers) × (unmet.tasks ≡ tasks)) }
 {
@@ -269,6 +283,8 @@ fn opened<
     ensures calls { IfOk result (λ meeting. meeting.closed.calls ≡ length meeting.closed.chronicle.log) }
     ensures workers { IfOk result (λ meeting. meeting.closed.workers ≡ seats_placed (market_of meeting.closed.chronicle)) }
     ensures tasks { IfOk result (λ meeting. (vec_len meeting.openers ≡ vec_len openers) × (vec_len meeting.tasks ≡ vec_len tasks)) }
+    ensures opened { IfOk result (λ meeting. HaveWorked O.worked (terms_of terms (vec_len openers + vec_len tasks)) meeting.closed.chronicle.log 0 openers.items meeting.openers.items) }
+    ensures worked { IfOk result (λ meeting. HasFollowed O.lets meeting.openers.items (HaveWorked T.worked (terms_of terms (vec_len openers + vec_len tasks)) meeting.closed.chronicle.log (vec_len openers) tasks.items meeting.tasks.items) (meeting.tasks.items ≡ tasks.items)) }
     ensures refused { IfErr result (λ unmet. (unmet.fault ≡ OpenFault.Memory) ⊎ (opened_by (terms_of terms (vec_len openers + vec_len tasks)) ≡ Err unmet.fault)) }
     ensures unmet { IfErr result (λ unmet. (unmet.openers ≡ openers) × (unmet.tasks ≡ tasks)) }
 {
@@ -293,11 +309,13 @@ fn opened<
     }
 }
 
-/// Opens an office with a seat for each opener and then each task, and lets each work in a thread of its own with its seat's
-/// pass: the openers one after the other; when all have ended, and let others work, the tasks at the same time. It waits for
-/// all of them, and closes the office. Where no thread can be made they work in the calling thread. The history that is left is
-/// the whole one; the entries of it that can still be read are those that the office kept. The faults are those of
-/// `Office::on_terms`, and `Memory`; nobody has worked then, and all come back.
+/// Opens an office with a seat for each opener and then each task, and lets each work once with its seat's pass: the openers one
+/// after the other, in the calling thread; when all have ended, and let others work, the tasks at the same time, each in a thread
+/// of its own, of which the calling thread is one. Where no thread can be made they work in the calling thread. It waits for all
+/// of them, and closes the office. They come back in the order of their seats, and what each says of its work by `worked` is so
+/// of what it was and has become, of its seat's new pass and of that pass in the end. The history that is left is the whole one;
+/// the entries of it that can still be read are those that the office kept. The faults are those of `Office::on_terms`, and
+/// `Memory`; nobody has worked then, and all come back.
 pub fn meet<O: Task + Send, T: Task + Send, R: Threads + Wait + Sync>(
     rt: &R,
     alloc: Global,
@@ -311,6 +329,8 @@ pub fn meet<O: Task + Send, T: Task + Send, R: Threads + Wait + Sync>(
     ensures calls { IfOk result (λ meeting. meeting.closed.calls ≡ length meeting.closed.chronicle.log) }
     ensures workers { IfOk result (λ meeting. meeting.closed.workers ≡ seats_placed (market_of meeting.closed.chronicle)) }
     ensures tasks { IfOk result (λ meeting. (vec_len meeting.openers ≡ vec_len openers) × (vec_len meeting.tasks ≡ vec_len tasks)) }
+    ensures opened { IfOk result (λ meeting. HaveWorked O.worked (terms_of terms (vec_len openers + vec_len tasks)) meeting.closed.chronicle.log 0 openers.items meeting.openers.items) }
+    ensures worked { IfOk result (λ meeting. HasFollowed O.lets meeting.openers.items (HaveWorked T.worked (terms_of terms (vec_len openers + vec_len tasks)) meeting.closed.chronicle.log (vec_len openers) tasks.items meeting.tasks.items) (meeting.tasks.items ≡ tasks.items)) }
     ensures refused { IfErr result (λ unmet. (unmet.fault ≡ OpenFault.Memory) ⊎ (opened_by (terms_of terms (vec_len openers + vec_len tasks)) ≡ Err unmet.fault)) }
     ensures unmet { IfErr result (λ unmet. (unmet.openers ≡ openers) × (unmet.tasks ≡ tasks)) }
 {

@@ -1,6 +1,9 @@
 //! A caller with its task, in a place that a thread can borrow.
-ghost use Rattle.std.specs.Prelude.{◌≡◌, vec_len};
+ghost use Rattle.std.specs.Prelude.{◌≡◌, Some, true, false, vec_len, All, Contains};
+ghost use Rattle.std.specs.List.{AllZip};
 ghost use Rattle.office_crew.specs.Callers.{who_is};
+ghost use Rattle.office_crew.specs.Members.{HasDone, OfMember};
+ghost use Rattle.office_crew.specs.declared.caller.Caller.TheVariants.{Free};
 
 use crate::caller::{Caller, Task};
 use market_lock::{Office, Pass, Placed};
@@ -24,15 +27,6 @@ impl Room for Brand {
     ghost table = { no_table };
 }
 
-/// Who works when.
-#[derive(Clone, Copy, PartialEq, Eq)]
-pub(crate) enum Order {
-    /// All at the same time.
-    AtOnce,
-    /// Each when the one of the seat before has ended its work.
-    InTurn,
-}
-
 /// A caller of the room's office and its task. The caller is away only while its task has it.
 pub(crate) struct Member<C: Ledger, W: Ledger, B: Room, T> {
     caller: Option<Caller<Pass<C, W>, Placed<C, W>>>,
@@ -41,12 +35,13 @@ pub(crate) struct Member<C: Ledger, W: Ledger, B: Room, T> {
 }
 
 impl<C: Ledger, W: Ledger, B: Room, T> Model for Member<C, W, B, T> {
-    ghost use Rattle.std.specs.Prelude.{◌≡◌, ℕ, IsSomeAnd};
+    ghost use Rattle.std.specs.Prelude.{◌≡◌, IsSomeAnd};
     ghost use Rattle.office_crew.specs.Callers.{who_is};
+    ghost use Rattle.office_crew.specs.Members.{OfMember};
 
-    ghost Value = { ℕ };
+    ghost Value = { OfMember T };
 
-    ghost view = { λ _. 0 };
+    ghost view = { λ m. record { caller = m.caller; task = m.task } };
 
     ghost invariant = { λ m. IsSomeAnd m.caller (λ c. (who_is c).table ≡ B.table) };
 }
@@ -55,6 +50,8 @@ impl<C: Ledger, W: Ledger, B: Room, T: Task> Member<C, W, B, T> {
     /// A pass with its task.
     pub(crate) fn new(pass: Pass<C, W>, task: T) -> Self
         requires { pass.table ≡ B.table }
+        ensures caller { result.caller ≡ Some (Free pass) }
+        ensures task { result.task ≡ task }
     {
         Member {
             caller: Some(Caller::Free(pass)),
@@ -66,6 +63,7 @@ impl<C: Ledger, W: Ledger, B: Room, T: Task> Member<C, W, B, T> {
     /// The task works.
     fn work<R: Wait>(&mut self, rt: &R, alloc: Global, office: &Office<C, W>)
         requires { office.now.table ≡ B.table }
+        ensures { HasDone T.worked self.old self.new }
     {
         let taken = self.caller.take();
         let Some(caller) = taken else { unreachable!() };
@@ -75,13 +73,17 @@ impl<C: Ledger, W: Ledger, B: Room, T: Task> Member<C, W, B, T> {
     }
 
     /// Whether others may work after it.
-    pub(crate) fn lets_others_work(&self) -> bool {
+    pub(crate) fn lets_others_work(&self) -> bool
+        ensures { T.lets self.now.task result }
+    {
         self.task.lets_others_work()
     }
 
     /// The caller, and the task.
     pub(crate) fn into_parts(self) -> (Caller<Pass<C, W>, Placed<C, W>>, T)
-        ensures { (who_is result.0).table ≡ B.table }
+        ensures own { (who_is result.0).table ≡ B.table }
+        ensures caller { self.caller ≡ Some result.0 }
+        ensures task { self.task ≡ result.1 }
     {
         let Member {
             caller,
@@ -93,6 +95,7 @@ impl<C: Ledger, W: Ledger, B: Room, T: Task> Member<C, W, B, T> {
     }
 }
 
+/// A member's task works.
 fn work_one<C: Ledger, W: Ledger, B: Room, T: Task, R: Wait>(
     rt: &R,
     alloc: Global,
@@ -100,12 +103,78 @@ fn work_one<C: Ledger, W: Ledger, B: Room, T: Task, R: Wait>(
     member: &mut Member<C, W, B, T>,
 )
     requires { office.now.table ≡ B.table }
+    ensures { HasDone T.worked member.old member.new }
 {
     member.work(rt, alloc, office)
 }
 
-/// Each works in a thread of its own, or in this one where none can be made, in order. All have met then.
-pub(crate) fn work_all<
+/// Whether all of them let others work.
+pub(crate) fn let_others_work<C: Ledger, W: Ledger, B: Room, T: Task>(
+    members: &[Member<C, W, B, T>],
+) -> bool
+    ensures all { result ≡ true → All (λ (m : OfMember T). T.lets m.task true) members.now }
+    ensures one { result ≡ false → (m : OfMember T) × Contains members.now m × T.lets m.task false }
+{
+    for member in members {
+        if !member.lets_others_work() {
+            return false;
+        }
+    }
+    true
+}
+
+/// Each works, when the one before has ended its work.
+fn work_slice_in_turn<C: Ledger, W: Ledger, B: Room, T: Task, R: Wait>(
+    rt: &R,
+    alloc: Global,
+    office: &Office<C, W>,
+    members: &mut [Member<C, W, B, T>],
+)
+    requires { office.now.table ≡ B.table }
+    ensures { AllZip (HasDone T.worked) members.old members.new }
+{
+    for place in 0..members.len() {
+        work_one(rt, alloc, office, &mut members[place]);
+    }
+}
+
+/// The same of a vector of them.
+pub(crate) fn work_in_turn<C: Ledger, W: Ledger, B: Room, T: Task, R: Wait>(
+    rt: &R,
+    alloc: Global,
+    office: &Office<C, W>,
+    members: Vec<Member<C, W, B, T>>,
+) -> Vec<Member<C, W, B, T>>
+    requires { office.now.table ≡ B.table }
+    ensures all { vec_len result ≡ vec_len members }
+    ensures done { AllZip (HasDone T.worked) members.items result.items }
+{
+    let mut members = members;
+    work_slice_in_turn(rt, alloc, office, members.as_mut_slice());
+    members
+}
+
+/// All work at the same time, each in a thread of its own, of which this one is one; where none can be made, one after the other.
+fn work_slice_at_once<
+    C: Ledger + Send + Sync,
+    W: Ledger + Send + Sync,
+    B: Room + Send,
+    T: Task + Send,
+    R: Threads + Wait + Sync,
+>(rt: &R, alloc: Global, office: &Office<C, W>, members: &mut [Member<C, W, B, T>])
+    requires { office.now.table ≡ B.table }
+    ensures { AllZip (HasDone T.worked) members.old members.new }
+{
+    let threads = members.len().max(1);
+    let work = |_: usize, member: &mut Member<C, W, B, T>|
+        requires { office.now.table ≡ B.table }
+        ensures { HasDone T.worked member.entry.now member.exit.now }
+    { work_one(rt, alloc, office, member) };
+    thread::for_each_mut(rt, members, threads, &work);
+}
+
+/// The same of a vector of them.
+pub(crate) fn work_at_once<
     C: Ledger + Send + Sync,
     W: Ledger + Send + Sync,
     B: Room + Send,
@@ -115,36 +184,13 @@ pub(crate) fn work_all<
     rt: &R,
     alloc: Global,
     office: &Office<C, W>,
-    order: Order,
     members: Vec<Member<C, W, B, T>>,
 ) -> Vec<Member<C, W, B, T>>
     requires { office.now.table ≡ B.table }
     ensures all { vec_len result ≡ vec_len members }
+    ensures done { AllZip (HasDone T.worked) members.items result.items }
 {
     let mut members = members;
-    let places = members.as_mut_slice();
-    thread::scope(
-        thread::scope_env(),
-        rt,
-        |scope|
-            requires { office.now.table ≡ B.table }
-        {
-            for member in places {
-                let started = scope.spawn(
-                    move ||
-                        requires { office.now.table ≡ B.table }
-                    { work_one(rt, alloc, office, member) },
-                );
-                match started {
-                    Ok(handle) => {
-                        if order == Order::InTurn {
-                            handle.join(rt);
-                        }
-                    }
-                    Err(refused) => (refused.value)(),
-                }
-            }
-        },
-    );
+    work_slice_at_once(rt, alloc, office, members.as_mut_slice());
     members
 }
