@@ -66,7 +66,8 @@ impl<'a, R: Clock + Eprint> ProgressGate<'a, R> {
 }
 
 impl<'a, R: Clock + Eprint> Gate for ProgressGate<'a, R> {
-    fn before(&self, number: u32) -> bool {
+    fn before(&self, number: u32, earlier: u64) -> bool {
+        let _ = earlier;
         let _ = number;
         true
     }

@@ -111,7 +111,8 @@ fn an_arena_to_which_no_worker_comes_is_told(rt: HostRuntime) {
 struct Shut;
 
 impl Gate for Shut {
-    fn before(&self, number: u32) -> bool {
+    fn before(&self, number: u32, earlier: u64) -> bool {
+        let _ = earlier;
         let _ = number;
         false
     }

@@ -1,5 +1,5 @@
 -- What a worker took, what it has to show for it, and what it called (own).
-use Rattle.std.specs.Prelude.{◌≡◌, ℕ, ◌+◌, ◌≤◌, List, [], ◌∷◌, ◌++◌, length, map, slice_get, Some, ⊤}
+use Rattle.std.specs.Prelude.{◌≡◌, ℕ, ◌+◌, ◌<◌, ◌≤◌, List, [], ◌∷◌, ◌++◌, length, map, slice_get, Some, ⊤}
 use mathlib.Core.List.{IsPrefix}
 use Rattle.market_types.specs.declared.reply.Entry.{Entry}
 use Rattle.market_types.specs.declared.command.Cmd.{Cmd}
@@ -45,6 +45,10 @@ IfShut ended P = ⊤
 abbrev pub IfFull : Ended → Type 0 → Type 0
 IfFull (Call fault.HistoryFull) P = P
 IfFull ended P = ⊤
+
+-- a gate refused the job of this number at each of so many questions, from the first on
+abbrev pub HasRefused : (ℕ → ℕ → Type 0) → ℕ → ℕ → Type 0
+HasRefused refused number turns = (k : ℕ) → k < turns → refused number k
 
 -- between the two, the history as the caller then saw it had too few free places for a call of its seat
 abbrev pub HasLackedPlaces : OfPass → OfPass → Type 0

@@ -1,6 +1,6 @@
 //! One turn of a worker at an arena.
-ghost use Rattle.std.specs.Prelude.{◌≡◌, ◌<◌, ◌++◌, All, IfNone, IfSome, neg_ℤ, pos};
-ghost use Rattle.worker_main.specs.Books.{HasLackedPlaces, IfFull, IfShut, results};
+ghost use Rattle.std.specs.Prelude.{◌≡◌, ◌++◌, All, IfNone, IfSome, neg_ℤ, pos};
+ghost use Rattle.worker_main.specs.Books.{HasLackedPlaces, HasRefused, IfFull, IfShut, results};
 ghost use Rattle.worker_main.specs.Steps.{HasGivenBack, HasGoneOn, HasLooked, HasPopped, HasTurned, IfShutOut, IsBrokenOff, IsFault, still_held};
 ghost use Rattle.drive_plan.specs.declared.task.Done.{Done};
 
@@ -39,7 +39,7 @@ fn run_next<G: Gate, R: Wait>(
     requires queue { taker.old.queue ≡ station.now.queue.id }
     ensures exact { HasLooked taker.old (results done.old.items) result taker.new (results done.new.items) }
     ensures gate { All (λ (d : Done). G.passed gate.now d.number × G.told gate.now d.number) done.old.items → All (λ (d : Done). G.passed gate.now d.number × G.told gate.now d.number) done.new.items }
-    ensures shut { 0 < turns → IfShutOut result (λ job. G.refused gate.now job.number) }
+    ensures shut { IfShutOut result (λ job. HasRefused (G.refused gate.now) job.number turns) }
 {
     let Ok(()) = done.reserve(1) else {
         return Looked::NoRoom;
@@ -112,7 +112,7 @@ pub(crate) fn take_turn<C: Ledger, W: Ledger, G: Gate, R: Wait>(
     ensures ended { IfSome result.1 IsBrokenOff }
     ensures full { IfSome result.1 (λ ended. IfFull ended (HasLackedPlaces placed.who result.0)) }
     ensures gate { All (λ (d : Done). G.passed gate.now d.number × G.told gate.now d.number) done.old.items → All (λ (d : Done). G.passed gate.now d.number × G.told gate.now d.number) done.new.items }
-    ensures shut { 0 < turns → IfSome result.1 (λ ended. IfShut ended (λ job. G.refused gate.now job.number)) }
+    ensures shut { IfSome result.1 (λ ended. IfShut ended (λ job. HasRefused (G.refused gate.now) job.number turns)) }
 {
     let mut placed = placed;
     for _ in rt.forever() {

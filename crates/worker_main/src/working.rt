@@ -1,12 +1,12 @@
 //! The loop.
-ghost use Rattle.std.specs.Prelude.{◌≡◌, ◌<◌, ◌++◌, All, IfNone, IfSome, AllPairs, IsPermutation};
+ghost use Rattle.std.specs.Prelude.{◌≡◌, ◌++◌, All, IfNone, IfSome, AllPairs, IsPermutation};
 ghost use Rattle.std.specs.List.{AllZip};
 ghost use mathlib.Core.List.{IsPrefix};
 ghost use Rattle.job_queue.specs.Seen.{all_taken};
 ghost use Rattle.market_lock.specs.Seen.{IsSamePass};
 ghost use Rattle.worker_main.specs.Stations.{HaveOwnArenas, IsTakerOf, IsWithout};
 ghost use Rattle.worker_main.specs.Turns.{AreTurnsOf, IsLastJoin, IsTurnOf};
-ghost use Rattle.worker_main.specs.Books.{HasAdded, HasLackedPlaces, IfFull, IfIdle, IfNoStation, IfShut, IsTakerAfter, jobs_of, kept_back, results};
+ghost use Rattle.worker_main.specs.Books.{HasAdded, HasLackedPlaces, HasRefused, IfFull, IfIdle, IfNoStation, IfShut, IsTakerAfter, jobs_of, kept_back, results};
 ghost use Rattle.drive_plan.specs.declared.task.Done.{Done};
 ghost use Rattle.worker_main.specs.Steps.{HasEarned, HasGoneOn, still_held};
 
@@ -45,7 +45,7 @@ fn visit<C: Ledger, W: Ledger, G: Gate, R: Wait>(
     ensures idle { IfSome result.1 (λ ended. IfIdle ended (HasAdded IsLastJoin stations.now takers.old.items takers.new.items pass result.0)) }
     ensures full { IfSome result.1 (λ ended. IfFull ended (HasLackedPlaces pass result.0)) }
     ensures gate { All (λ (d : Done). G.passed gate.now d.number × G.told gate.now d.number) done.old.items → All (λ (d : Done). G.passed gate.now d.number × G.told gate.now d.number) done.new.items }
-    ensures shut { 0 < turns → IfSome result.1 (λ ended. IfShut ended (λ job. G.refused gate.now job.number)) }
+    ensures shut { IfSome result.1 (λ ended. IfShut ended (λ job. HasRefused (G.refused gate.now) job.number turns)) }
 {
     let placed = match office.join(rt, alloc, pass) {
         Joined::Placed(placed) => placed,
@@ -71,8 +71,8 @@ fn visit<C: Ledger, W: Ledger, G: Gate, R: Wait>(
 
 /// Works with a pass until there is nothing left to do at these stations: taker k is of station k's queue.
 ///
-/// It ends where no arena is in need of a worker (`Idle`); where it took a job and the gate did not let it through in so many
-/// `turns` (`GateShut`); where it was placed at an arena without a station (`NoStation`); where the office did not answer a call
+/// It ends where no arena is in need of a worker (`Idle`); where it took a job and the gate was asked about it so many `turns` and
+/// refused it at each (`GateShut`); where it was placed at an arena without a station (`NoStation`); where the office did not answer a call
 /// (`Call`): `HistoryFull` only where places were lacking in the history as the caller saw it then; and where there was no memory
 /// for a result (`Memory`), before a job is taken for it. The worker has left then, and pass, takers and results come back. Each
 /// job that it answered the gate had let through, and was told of.
@@ -100,7 +100,7 @@ pub fn work<C: Ledger, W: Ledger, G: Gate, R: Wait>(
     ensures turns { IfIdle result.ended (HasAdded (AreTurnsOf stations.now) stations.now takers.items result.takers.items pass result.pass) }
     ensures full { IfFull result.ended (HasLackedPlaces pass result.pass) }
     ensures gate { All (λ (d : Done). G.passed gate.now d.number × G.told gate.now d.number) result.done.items }
-    ensures shut { 0 < turns → IfShut result.ended (λ job. G.refused gate.now job.number) }
+    ensures shut { IfShut result.ended (λ job. HasRefused (G.refused gate.now) job.number turns) }
 {
     let mut pass = pass;
     let mut takers = takers;

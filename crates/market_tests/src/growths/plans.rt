@@ -154,7 +154,8 @@ impl SecondFirst {
 }
 
 impl Gate for SecondFirst {
-    fn before(&self, number: u32) -> bool {
+    fn before(&self, number: u32, earlier: u64) -> bool {
+        let _ = earlier;
         number != 1
             || self.done.load(Ordering::SeqCst) == 1
             || self.asked.fetch_add(1, Ordering::SeqCst) > 100_000

@@ -83,7 +83,8 @@ struct SecondFirst {
 }
 
 impl Gate for SecondFirst {
-    fn before(&self, number: u32) -> bool {
+    fn before(&self, number: u32, earlier: u64) -> bool {
+        let _ = earlier;
         number != 1 || self.done.load(Ordering::SeqCst) == 1
     }
 
@@ -102,7 +103,8 @@ struct AllBut {
 }
 
 impl Gate for AllBut {
-    fn before(&self, number: u32) -> bool {
+    fn before(&self, number: u32, earlier: u64) -> bool {
+        let _ = earlier;
         if number == self.shut {
             self.asked.fetch_add(1, Ordering::SeqCst);
         }

@@ -22,7 +22,8 @@ struct Order {
 }
 
 impl Gate for Order {
-    fn before(&self, number: u32) -> bool {
+    fn before(&self, number: u32, earlier: u64) -> bool {
+        let _ = earlier;
         let _ = number;
         true
     }

@@ -56,7 +56,8 @@ struct Left {
 struct UpTo(u32);
 
 impl Gate for UpTo {
-    fn before(&self, number: u32) -> bool {
+    fn before(&self, number: u32, earlier: u64) -> bool {
+        let _ = earlier;
         number < self.0
     }
 
@@ -73,7 +74,8 @@ struct Second {
 }
 
 impl Gate for Second {
-    fn before(&self, number: u32) -> bool {
+    fn before(&self, number: u32, earlier: u64) -> bool {
+        let _ = earlier;
         self.asked.swap(u64::from(number), Ordering::SeqCst) == u64::from(number)
     }
 
@@ -113,10 +115,10 @@ impl Patient {
 }
 
 impl Gate for Patient {
-    fn before(&self, number: u32) -> bool {
-        self.note(question_about(number));
-        let earlier = self.asked.fetch_add(1, Ordering::SeqCst);
-        let opens = earlier.wrapping_add(1) == self.opens_at;
+    fn before(&self, number: u32, earlier: u64) -> bool {
+        self.note(question_about(number, earlier));
+        let asked = self.asked.fetch_add(1, Ordering::SeqCst);
+        let opens = asked.wrapping_add(1) == self.opens_at;
         if opens {
             self.asked.store(0, Ordering::SeqCst);
         }
@@ -128,8 +130,11 @@ impl Gate for Patient {
     }
 }
 
-fn question_about(number: u32) -> u64 {
-    u64::from(number) * 2
+/// What is noted of a question about a job after so many earlier ones.
+fn question_about(number: u32, earlier: u64) -> u64 {
+    earlier
+        .wrapping_mul(1_000)
+        .wrapping_add(u64::from(number) * 2)
 }
 
 fn end_of(number: u32) -> u64 {
@@ -487,8 +492,8 @@ fn each_job_is_asked_about_until_it_may_run_and_then_told(rt: HostRuntime) {
     same(&rt, left.ended, Ended::Idle);
     let mut due = 0;
     for number in 1..=3 {
-        for _ in 0..3 {
-            due = with_event(due, question_about(number));
+        for earlier in 0..3 {
+            due = with_event(due, question_about(number, earlier));
         }
         due = with_event(due, end_of(number));
     }
@@ -503,8 +508,8 @@ fn a_gate_that_would_open_at_the_fourth_question_is_asked_three_times(rt: HostRu
     same(&rt, left.ended, Ended::GateShut(FIRST));
     same(&rt, gate.asked.load(Ordering::SeqCst), 3);
     let mut due = 0;
-    for _ in 0..3 {
-        due = with_event(due, question_about(1));
+    for earlier in 0..3 {
+        due = with_event(due, question_about(1, earlier));
     }
     same(&rt, gate.events.load(Ordering::SeqCst), due);
     drop(left);

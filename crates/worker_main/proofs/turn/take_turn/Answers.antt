@@ -1,6 +1,6 @@
 use Rattle.std.proofs.Common.{[], ◌∷◌, ◌++◌, refl, ap, ◌∙◌, append-nil}
 use Rattle.std.proofs.lemmas.Option.{IfSome_then}
-use Rattle.worker_main.specs.Books.{results}
+use Rattle.worker_main.specs.Books.{results, HasRefused}
 use Rattle.market_types.specs.declared.command.Cmd.TheVariants.{Stay}
 use Rattle.worker_main.proofs.Takers.{popped_nothing, popped_one, popped_none}
 use Rattle.worker_main.proofs.Calls.{goes_on, goes_further, called, failed, just_inside, stayed_on, was_recalled, was_emptied, if_none_then, fault_holds, fault_breaks, fault_passes, lacked, full_earlier}
@@ -88,8 +88,8 @@ pub returns-in-Empty-clause-full : goal.returns-in-Empty-clause-full
 returns-in-Empty-clause-full g c = full_earlier c.args.placed.who c.loop.placed.who c.give_back.result.0 c.give_back.result.1 c.loop.invariant.0 c.give_back.ensures.full
 
 pub returns-in-Empty-clause-shut : goal.returns-in-Empty-clause-shut
-returns-in-Empty-clause-shut g c some =
-    IfSome_then c.give_back.result.1 c.give_back.ensures.fault (λ e. fault_passes e (λ job. g.G.Gate.refused c.args.gate.now job.number))
+returns-in-Empty-clause-shut g c =
+    IfSome_then c.give_back.result.1 c.give_back.ensures.fault (λ e. fault_passes e (λ job. HasRefused (g.G.Gate.refused c.args.gate.now) job.number c.args.turns))
 
 pub returns-in-Failed-clause-gate : goal.returns-in-Failed-clause-gate
 returns-in-Failed-clause-gate g c h = c.run_next.ensures.gate (c.loop.invariant.4 h)

@@ -1,7 +1,7 @@
 use Rattle.std.proofs.Common.{All, [], sym, subst, arith, IfNone, IfSome}
 use Rattle.drive_plan.specs.declared.task.Done.{Done}
 use Rattle.worker_main.specs.Turns.{IsTurnOf, IsLastJoin}
-use Rattle.worker_main.specs.Books.{results, HasAdded, HasLackedPlaces, IfFull, IfIdle, IfShut}
+use Rattle.worker_main.specs.Books.{results, HasAdded, HasLackedPlaces, HasRefused, IfFull, IfIdle, IfShut}
 use Rattle.worker_main.specs.Steps.{HasEarned}
 use Rattle.worker_main.proofs.Takers.{still_of, takers_self, takers_trans, earned_nothing, earned_trans, earned_whole, earned_with, earned_from_nothing}
 use Rattle.worker_main.proofs.Calls.{goes_on, goes_further, full_earlier, if_idle_then}
@@ -78,5 +78,5 @@ pub returns-in-Some-ended-clause-gate : goal.returns-in-Some-ended-clause-gate
 returns-in-Some-ended-clause-gate g c = c.visit-next.ensures.gate c.loop.invariant.4
 
 pub returns-in-Some-ended-clause-shut : goal.returns-in-Some-ended-clause-shut
-returns-in-Some-ended-clause-shut g c some =
-    subst (λ o. IfSome o (λ e. IfShut e (λ job. g.G.Gate.refused c.args.gate.now job.number))) c.in-Some-ended.is (c.visit-next.ensures.shut some)
+returns-in-Some-ended-clause-shut g c =
+    subst (λ o. IfSome o (λ e. IfShut e (λ job. HasRefused (g.G.Gate.refused c.args.gate.now) job.number c.args.turns))) c.in-Some-ended.is c.visit-next.ensures.shut
