@@ -5,12 +5,13 @@ use crate::asserts::{holds, same};
 use edit_history::{Chronicle, Keeping};
 use market_lock::{Office, Pass, Placed};
 use market_types::{ArenaId, Cmd, LastNumber, Level, SeatNo, push_reply};
-use office_crew::{Caller, Meeting, Script, Task, Terms, ask, meet};
+use office_crew::{Asked, Caller, Meeting, Script, Task, Terms, ask, meet};
 use std::alloc::Global;
 use std::process::Abort;
 use std::rt::HostRuntime;
 use std::sync::Wait;
 use std::sync::ledger::Ledger;
+use std::thread;
 use std::thread::Threads;
 
 const TERMS: Terms = Terms {
@@ -410,4 +411,73 @@ fn each_caller_works_once_and_comes_back_in_the_order_of_its_seat(rt: HostRuntim
         Cmd::Open(6, 1, low),
     ];
     each_works_once(&rt, rt.alloc(), &cmds);
+}
+
+/// Lets other threads run so often, and then gives a command.
+#[derive(Drop)]
+struct Late {
+    yields: u32,
+    cmd: Cmd,
+}
+
+impl Task for Late {
+    fn work<C: Ledger, W: Ledger, R: Wait>(
+        &mut self,
+        rt: &R,
+        alloc: Global,
+        office: &Office<C, W>,
+        caller: Caller<Pass<C, W>, Placed<C, W>>,
+    ) -> Caller<Pass<C, W>, Placed<C, W>> {
+        for _ in 0..self.yields {
+            thread::yield_now();
+        }
+        let Asked { caller, answer } = ask(rt, alloc, office, caller, self.cmd);
+        let _ = answer;
+        caller
+    }
+
+    fn lets_others_work(&self) -> bool {
+        true
+    }
+}
+
+/// One for each command, of which the first comes so late.
+fn first_is_late(rt: &impl Abort, alloc: Global, cmds: &[Cmd], yields: u32) -> Vec<Late> {
+    let mut late = Vec::new(alloc);
+    let mut yields = yields;
+    for cmd in cmds {
+        holds(rt, late.push(Late { yields, cmd: *cmd }).is_ok());
+        yields = 0;
+    }
+    late
+}
+
+/// The first opener takes long. This refuses openers that work at the same time, or in another order, and tasks that do not wait.
+fn wait_for_each_opener<R: Threads + Wait + Sync + Abort>(rt: &R, alloc: Global, cmds: &[Cmd])
+    requires { length cmds.now ≡ 4 }
+{
+    let openers = first_is_late(rt, alloc, &cmds[..3], 100_000);
+    let tasks = first_is_late(rt, alloc, &cmds[3..], 0);
+    holds(rt, openers.len() == 3 && tasks.len() == 1);
+    let Ok(meeting) = meet(rt, alloc, TERMS, openers, tasks) else {
+        panic!(rt; "no office");
+    };
+    let kept = meeting.closed.chronicle.kept();
+    same(rt, kept.len(), 4);
+    for (entry, cmd) in kept.iter().zip(cmds.iter()) {
+        holds(rt, entry.call.cmd == *cmd);
+    }
+    drop(meeting);
+}
+
+#[test]
+fn each_opener_is_waited_for(rt: HostRuntime) {
+    let low = Level::from_index(2);
+    let cmds = [
+        Cmd::Open(1, 1, low),
+        Cmd::Open(2, 1, low),
+        Cmd::Open(3, 1, low),
+        Cmd::Open(4, 1, low),
+    ];
+    wait_for_each_opener(&rt, rt.alloc(), &cmds);
 }
