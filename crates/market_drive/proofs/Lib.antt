@@ -3,3 +3,4 @@ pub mod Sums
 pub mod Fed
 pub mod Once
 pub mod Openings
+pub mod Endings

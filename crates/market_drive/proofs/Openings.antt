@@ -1,8 +1,8 @@
 -- What an opener has called, a command more.
-use Rattle.std.proofs.Common.{◌≡◌, ◌<◌, ℕ, ◌+◌, true, false, true≢false, not, cond, List, [], ◌∷◌, ◌++◌, length, map, take, get_or, refl, ap, sym, ◌∙◌, append_assoc, append-nil, Result, Ok, Err, Option, Some, None, is_some}
+use Rattle.std.proofs.Common.{◌≡◌, ◌<◌, subst, ℕ, ◌+◌, true, false, true≢false, not, cond, List, [], ◌∷◌, ◌++◌, length, map, take, get_or, refl, ap, sym, ◌∙◌, append_assoc, append-nil, Result, Ok, Err, Option, Some, None, is_some}
 use Rattle.std.proofs.lemmas.List.{map-append, take_more}
 use Rattle.std.proofs.lemmas.List.Elements.{filter-append}
-use Rattle.std.proofs.lemmas.Option.{none-some}
+use Rattle.std.proofs.lemmas.Option.{none-some, same_Some}
 use Rattle.market_types.specs.declared.command.Cmd.{Cmd}
 use Rattle.market_types.specs.declared.command.Cmd.TheVariants as cmd
 use Rattle.market_types.specs.declared.reply.Entry.{Entry}
@@ -15,6 +15,8 @@ use Rattle.market_lock.specs.Seen.{OfPass, OfPlaced}
 use Rattle.office_crew.specs.Callers.{may_ask, who_is}
 use Rattle.office_crew.specs.declared.caller.Caller.{Caller}
 use Rattle.office_crew.specs.declared.caller.Caller.TheVariants.{Free, Working}
+use Rattle.worker_main.specs.Steps.{HasGoneOn}
+use Rattle.worker_main.proofs.Calls.{called, goes_on}
 use Rattle.market_drive.specs.Opening.{HasGiven, fault_in, still}
 
 still_more : (cmds : List Cmd) (k : ℕ) (c : Cmd) → k < length cmds → c ≡ get_or cmds k c → still (take (k + 1) cmds) ≡ still (take k cmds) ++ still (c ∷ [])
@@ -78,6 +80,19 @@ pub given_on : (cmds : List Cmd) (k : ℕ) (c : Cmd) (p : OfPass) (caller next :
 given_on cmds k c p caller next None low is before none answered asked unasked = given_still cmds k c p (who_is caller) (who_is next) low is before (unasked refl) (not_asked caller c (sym asked))
 given_on cmds k c p caller next (Some (Ok reply)) low is before none answered asked unasked = given_more cmds k c p (who_is caller) (who_is next) low is before reply (answered reply refl).2.3
 given_on cmds k c p caller next (Some (Err fault)) low is before none answered asked unasked = absurd (none-some fault (sym none))
+
+-- it knows more of the history then
+pub gone_on : (caller next : Caller OfPass OfPlaced) (c : Cmd) (answer : Option (Result Reply CallFault)) → fault_in answer ≡ None → ((reply : Reply) → answer ≡ Some (Ok reply) → Called (who_is caller) c reply (who_is next))
+    → (answer ≡ None → who_is next ≡ who_is caller) → HasGoneOn (who_is caller) (who_is next)
+gone_on caller next c None none answered unasked = subst (HasGoneOn (who_is caller)) (sym (unasked refl)) (goes_on (who_is caller))
+gone_on caller next c (Some (Ok reply)) none answered unasked = called (who_is caller) (who_is next) c reply (answered reply refl)
+gone_on caller next c (Some (Err fault)) none answered unasked = absurd (none-some fault (sym none))
+
+-- a fault is one of a call
+pub fault_was : (answer : Option (Result Reply CallFault)) (fault : CallFault) → fault_in answer ≡ Some fault → answer ≡ Some (Err fault)
+fault_was None fault e = absurd (none-some fault e)
+fault_was (Some (Ok reply)) fault e = absurd (none-some fault e)
+fault_was (Some (Err other)) fault e = ap (λ f. Some (Err f)) (same_Some other fault e)
 
 pub none_given : (p : OfPass) → HasGiven [] p p
 none_given p = ([], sym (append-nil p.mine), refl)

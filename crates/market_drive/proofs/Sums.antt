@@ -10,14 +10,11 @@ use Rattle.job_queue.specs.Jobs.{fed_from}
 use Rattle.job_queue.specs.Seen.{QueueId, OfFeeder, OfTaker, fresh_taker, all_stored, all_taken, AllTaken, IsLeft}
 use Rattle.drive_plan.specs.declared.task.Job.{Job}
 use Rattle.drive_plan.specs.declared.task.Done.{Done}
-use Rattle.edit_history.specs.declared.fault.CallFault.{CallFault}
 use Rattle.worker_main.specs.declared.report.Ended.{Ended}
-use Rattle.worker_main.specs.declared.report.Ended.TheVariants.{Call}
-use Rattle.market_drive.specs.declared.opener.Opener.{Opener}
 use Rattle.worker_main.specs.Books.{jobs_of, results, kept_back}
 use Rattle.market_drive.specs.Racks.{OfEnds, OfRack}
 use Rattle.market_drive.specs.Jobs.{taken_by, taken_weight, fed_weight, all_kept_back, HasShown}
-use Rattle.market_drive.specs.Reports.{OfReports, told, shown, weight_if}
+use Rattle.market_drive.specs.Reports.{OfReports, told, shown}
 
 module _ (weigh : Job → ℕ) where
   -- ---- a taker, a rack, or a queue's ends more
@@ -93,10 +90,6 @@ module _ (weigh : Job → ℕ) where
 
   pub shown_none : (ts : List (OfTaker Job)) (ds : List Done) (o : Option Ended) → o ≡ None → HasShown ts ds o → sum_by weigh (taken_by ts) ≡ 0
   shown_none ts ds o is h = let none = (subst (HasShown ts ds) is h).0 in ap (sum_by weigh) none
-
--- what the fault of an opener weighs as an end
-abbrev pub fault_weight : (Ended → ℕ) → Opener → ℕ
-fault_weight weigh o = weight_if (λ (fault : CallFault). weigh (Call fault)) o.fault
 
 -- ---- nothing was taken where it weighs nothing
 nothing : (jobs : List Job) → sum_by (λ (job : Job). 1) jobs ≡ 0 → jobs ≡ []

@@ -1,5 +1,5 @@
 -- What driving a plan answers (own).
-use Rattle.std.specs.Prelude.{◌≡◌, ℕ, ◌+◌, ◌<◌, ◌≤◌, List, length, Ok, Err, ⊤}
+use Rattle.std.specs.Prelude.{◌≡◌, ℕ, ◌+◌, ◌<◌, ◌≤◌, List, length, Option, Some, None, Ok, Err, ⊤}
 use Rattle.market_types.specs.State.{opening_to, usual_last}
 use Rattle.market_lock.specs.Headline.{IsGivenBy}
 use Rattle.market_lock.specs.declared.office.Closed.{Closed}
@@ -9,6 +9,9 @@ use Rattle.drive_plan.specs.Outcome.{IsOutcome}
 use Rattle.drive_plan.specs.declared.task.Done.{Done}
 use Rattle.drive_plan.specs.declared.reader.PlanFault.TheVariants as plan
 use Rattle.plan_market.specs.Servable.{IsUnservable, IsLeastUnservable}
+use Rattle.worker_main.specs.declared.report.Ended.{Ended}
+use Rattle.market_drive.specs.Causes.{AreEnds, CanEndIn, terms_of_plan}
+use Rattle.market_drive.specs.Ending.{end_fault}
 use Rattle.market_drive.specs.declared.fault.DriveFault.{DriveFault}
 use Rattle.market_drive.specs.declared.fault.DriveFault.TheVariants.{BadPlan, Unservable, Unfinished, Doubled, Missing, Memory}
 
@@ -52,6 +55,34 @@ IsEnding p Unfinished = ⊤
 IsEnding p (Doubled number) = ⊥
 IsEnding p (Missing number) = (0 < number) × (number ≤ length p.jobs)
 IsEnding p Memory = ⊤
+
+-- how a drive of the plan by so many workers ended, at a gate that refuses so: the office of the plan's market, and the ends of all its
+-- workers, or that its opening was not answered. They come to this
+pub record HasEnded (refused : ℕ → ℕ → Type 0) (p : Planned) (workers : ℕ) (due : Option DriveFault) : Type 0 where
+  pub closed : Closed
+  pub office : IsOfficeOf p workers closed
+  pub ended : List Ended
+  pub ends : AreEnds (CanEndIn p refused) (terms_of_plan p workers) closed.chronicle.log workers ended
+  pub due_is : end_fault ended ≡ due
+
+-- what is told beside a fault: where it is unfinished, that a worker or the opening was broken off, and none for want of memory; where an
+-- answer is missing, that all workers ended for want of work
+abbrev pub HasCause : (ℕ → ℕ → Type 0) → Planned → ℕ → DriveFault → Type 0
+HasCause refused p workers Unfinished = HasEnded refused p workers (Some Unfinished)
+HasCause refused p workers (Missing number) = HasEnded refused p workers None
+HasCause refused p workers fault = ⊤
+
+-- the same of the text's plan
+abbrev pub HasCauseIn : (ℕ → ℕ → Type 0) → List ℕ → ℕ → DriveFault → Type 0
+HasCauseIn refused text workers Unfinished = (p : Planned) × (plan_of text ≡ Ok p) × HasCause refused p workers Unfinished
+HasCauseIn refused text workers (Missing number) = (p : Planned) × (plan_of text ≡ Ok p) × HasCause refused p workers (Missing number)
+HasCauseIn refused text workers fault = ⊤
+
+-- a fault of a text, or want of memory
+abbrev pub IsOfText : DriveFault → Type 0
+IsOfText (BadPlan line) = ⊤
+IsOfText Memory = ⊤
+IsOfText fault = ⊥
 
 -- a fault that comes only after the office was opened, or want of memory
 abbrev pub IsLate : DriveFault → Type 0

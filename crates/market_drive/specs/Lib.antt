@@ -5,4 +5,5 @@ pub mod Jobs
 pub mod Reports
 pub mod Opening
 pub mod Ending
+pub mod Causes
 pub mod Driving

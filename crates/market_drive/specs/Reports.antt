@@ -1,14 +1,13 @@
 -- What the workers of a plan have told. No clause of a public call has these words (own).
-use Rattle.std.specs.Prelude.{◌≡◌, ℕ, Bool, false, List, [], ◌∷◌, ◌++◌, Option, Some, None}
-use Rattle.edit_history.specs.Chronicled.{entry}
-use Rattle.market_types.specs.declared.command.Cmd.TheVariants.{Join}
-use Rattle.market_types.specs.declared.reply.Entry.{Entry}
-use Rattle.market_types.specs.declared.reply.Reply.TheVariants.{Idle}
-use Rattle.market_lock.specs.Seen.{OfPass}
+use Rattle.std.specs.Prelude.{Bool, false, List, [], ◌∷◌, ◌++◌, Option, Some, None}
+use Rattle.std.specs.List.{flat_map}
+use Rattle.std.specs.Option.{option_to_list}
+use Rattle.edit_history.specs.declared.fault.CallFault.{CallFault}
 use Rattle.drive_plan.specs.declared.task.Job.{Job}
 use Rattle.drive_plan.specs.declared.task.Done.{Done}
 use Rattle.worker_main.specs.declared.report.Ended.{Ended}
-use Rattle.worker_main.specs.Books.{results, IfIdle, IfFull, HasLackedPlaces}
+use Rattle.worker_main.specs.declared.report.Ended.TheVariants.{Call}
+use Rattle.worker_main.specs.Books.{results}
 use Rattle.market_drive.specs.Jobs.{all_kept_back}
 
 -- all answers, how each ended, and whether something is missing for which there was no memory
@@ -29,13 +28,11 @@ told r ds ended = record { done = r.done ++ ds; ended = r.ended ++ ended ∷ [];
 abbrev pub shown : OfReports → List Job
 shown r = results r.done ++ all_kept_back r.ended
 
--- what an end weighs, if there is one; and what an opener's fault does
-abbrev pub weight_if : {A : Type 0} → (A → ℕ) → Option A → ℕ
-weight_if weigh None = 0
-weight_if weigh (Some x) = weigh x
+-- the ends that are told, of these who may have ended
+abbrev pub ends_of : List (Option Ended) → List Ended
+ends_of es = flat_map option_to_list es
 
--- between the two a caller ended so: at Idle its last call was a Join that placed it nowhere, and at a full history places were lacking
-abbrev pub HasEndedSo : OfPass → OfPass → Ended → Type 0
-HasEndedSo p q ended =
-    IfIdle ended ((before : List Entry) × (q.mine ≡ p.mine ++ (before ++ entry p.seat Join Idle ∷ [])))
-    × IfFull ended (HasLackedPlaces p q)
+-- the end that a fault is
+abbrev pub end_for : Option CallFault → Option Ended
+end_for None = None
+end_for (Some fault) = Some (Call fault)

@@ -2,7 +2,7 @@
 ghost use Rattle.std.specs.Prelude.{◌≡◌, ◌<◌, ◌≤◌, Ok, IfOk, IfErr};
 ghost use Rattle.drive_plan.specs.Format.{plan_of};
 ghost use Rattle.drive_plan.specs.Outcome.{IsOutcome};
-ghost use Rattle.market_drive.specs.Driving.{IsDriven, IsDue, IsEnding, IsLate, IsOfficeOf, IsOfficeOfText};
+ghost use Rattle.market_drive.specs.Driving.{HasCause, HasCauseIn, IsDriven, IsDue, IsEnding, IsLate, IsOfText, IsOfficeOf, IsOfficeOfText};
 
 use crate::driven::Driven;
 use crate::fault::DriveFault;
@@ -20,6 +20,7 @@ use worker_main::Gate;
 fn read(alloc: Global, text: &[u8]) -> Result<Plan, DriveFault>
     ensures plan { IfOk result (λ plan. plan_of text.now ≡ Ok plan) }
     ensures fault { IfErr result (IsDue text.now) }
+    ensures early { IfErr result IsOfText }
 {
     match read_plan(alloc, text) {
         Ok(plan) => Ok(plan),
@@ -41,6 +42,7 @@ fn drive_plan_of<G: Gate + Sync, R: Threads + Wait + Sync>(
     ensures office { IfOk result (λ driven. IsOfficeOf plan.now workers driven.closed) }
     ensures late { IfErr result IsLate }
     ensures ending { IfErr result (IsEnding plan.now) }
+    ensures cause { IfErr result (HasCause (G.refused gate.now) plan.now workers) }
 {
     let Ok(cmds) = plan_commands(alloc, plan) else {
         return Err(DriveFault::Memory);
@@ -73,7 +75,9 @@ fn drive_plan_of<G: Gate + Sync, R: Threads + Wait + Sync>(
 ///
 /// `BadPlan` comes first, where the text is no plan; then `Unservable`, where an arena with jobs would never be allotted a worker.
 /// The others come only after the office was opened, with all workers back and the office closed: `Memory`, `Unfinished`,
-/// `Missing`, in this order. `Memory` may come at any time, and `Doubled` never does.
+/// `Missing`, in this order. `Memory` may come at any time, and `Doubled` never does. `Unfinished` comes where a worker ended at a
+/// gate that refused its job 1,000,000 times, at an arena without a station, or where the history was full, as it may be for who
+/// opens the market, too; `Missing` only where all workers ended for want of work.
 pub fn drive_to_close<G: Gate + Sync, R: Threads + Wait + Sync>(
     rt: &R,
     alloc: Global,
@@ -85,6 +89,7 @@ pub fn drive_to_close<G: Gate + Sync, R: Threads + Wait + Sync>(
     ensures outcome { IfOk result (λ driven. IsDriven text.now driven.done.items) }
     ensures office { IfOk result (λ driven. IsOfficeOfText text.now workers driven.closed) }
     ensures fault { IfErr result (IsDue text.now) }
+    ensures cause { IfErr result (HasCauseIn (G.refused gate.now) text.now workers) }
 {
     let plan = match read(alloc, text) {
         Ok(plan) => plan,
@@ -108,6 +113,7 @@ pub fn drive<G: Gate + Sync, R: Threads + Wait + Sync>(
     requires workers { (0 < workers) × (workers ≤ 16) }
     ensures outcome { IfOk result (λ done. IsDriven text.now done.items) }
     ensures fault { IfErr result (IsDue text.now) }
+    ensures cause { IfErr result (HasCauseIn (G.refused gate.now) text.now workers) }
 {
     match drive_to_close(rt, alloc, text, workers, gate) {
         Ok(driven) => {

@@ -5,7 +5,7 @@ ghost use Rattle.drive_plan.specs.declared.task.Job.{Job};
 ghost use Rattle.market_drive.specs.Jobs.{AreFed, HaveRequestsOf, IsUnfed, fed_weight, numbered, taken_weight};
 ghost use Rattle.market_drive.specs.Racks.{AreAway, IsFor, unfed};
 ghost use Rattle.market_drive.specs.Lines.{queues_at};
-ghost use Rattle.market_drive.specs.Arenas.{HasRoomFor};
+ghost use Rattle.market_drive.specs.Arenas.{AreNumbered, HasRoomFor};
 ghost use Rattle.drive_plan.specs.Plans.{FitsJob};
 ghost use Rattle.worker_main.specs.Stations.{HaveOwnArenas};
 
@@ -54,6 +54,7 @@ impl Lines {
     pub(crate) fn stations(&self) -> &[Station]
         ensures exact { result.now ≡ self.now.stations }
         ensures apart { AllPairs HaveOwnArenas result.now }
+        ensures numbered { AreNumbered result.now }
     {
         self.stations.as_slice()
     }

@@ -1,8 +1,10 @@
 //! Who opens a plan's market.
-ghost use Rattle.std.specs.Prelude.{◌≡◌, None, is_none, IfNone};
+ghost use Rattle.std.specs.Prelude.{◌≡◌, None, is_none, IfNone, IfSome};
 ghost use Rattle.market_lock.specs.Seen.{IsSamePass};
 ghost use Rattle.office_crew.specs.Callers.{who_is};
 ghost use Rattle.market_drive.specs.Opening.{HasGiven, fault_in};
+ghost use Rattle.market_drive.specs.Causes.{HasEndedSo};
+ghost use Rattle.worker_main.specs.declared.report.Ended.TheVariants.{Call};
 
 use edit_history::CallFault;
 use market_lock::{Office, Pass, Placed};
@@ -40,7 +42,17 @@ impl<'a> Opener<'a> {
 }
 
 impl Task for Opener<'_> {
-    /// Where it tells no fault, each of its commands was answered, but for those that would move its seat.
+    ghost use Rattle.std.specs.Prelude.{◌≡◌, None, is_none, IfNone, IfSome};
+    ghost use Rattle.market_drive.specs.Opening.{HasGiven};
+    ghost use Rattle.market_drive.specs.Causes.{HasEndedSo};
+    ghost use Rattle.worker_main.specs.declared.report.Ended.TheVariants.{Call};
+
+    ghost worked = { λ before p after q. IfNone after.fault (HasGiven before.cmds.now p q) × (before.fault ≡ None → IfSome after.fault (λ fault. HasEndedSo p q (Call fault))) };
+
+    ghost lets = { λ opener lets. lets ≡ is_none opener.fault };
+
+    /// Where it tells no fault, each of its commands was answered, but for those that would move its seat; where it tells a full
+    /// history, places were lacking.
     fn work<C: Ledger, W: Ledger, R: Wait>(
         &mut self,
         rt: &R,
@@ -50,7 +62,7 @@ impl Task for Opener<'_> {
     ) -> Caller<Pass<C, W>, Placed<C, W>>
         requires office { (who_is caller).table ≡ office.now.table }
         ensures same { IsSamePass (who_is caller) (who_is result) }
-        ensures given { IfNone self.new.fault (HasGiven self.old.cmds.now (who_is caller) (who_is result)) }
+        ensures worked { IfNone self.new.fault (HasGiven self.old.cmds.now (who_is caller) (who_is result)) × (self.old.fault ≡ None → IfSome self.new.fault (λ fault. HasEndedSo (who_is caller) (who_is result) (Call fault))) }
     {
         let mut caller = caller;
         for cmd in self.cmds {

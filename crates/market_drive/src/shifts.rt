@@ -1,5 +1,5 @@
 //! All workers of a plan work, each in a thread of its own.
-ghost use Rattle.std.specs.Prelude.{◌≡◌, ◌+◌, ◌<◌, ◌≤◌, [], ℕ, false, length, vec_len, vec_capacity, AllPairs, IfOk, IfSome};
+ghost use Rattle.std.specs.Prelude.{◌≡◌, ◌+◌, ◌<◌, ◌≤◌, ◌++◌, [], ℕ, None, Option, false, length, map, reverse, vec_len, vec_capacity, AllPairs, IfOk, IfSome};
 ghost use Rattle.std.specs.List.{All, sum_by};
 ghost use Rattle.market_types.specs.State.{opening_to};
 ghost use Rattle.edit_history.specs.declared.keeping.Keeping.TheVariants.{Everything};
@@ -9,11 +9,12 @@ ghost use Rattle.market_drive.specs.declared.opener.Opener.{Opener};
 ghost use Rattle.market_drive.specs.Driving.{IsOfficeOf};
 ghost use Rattle.market_drive.specs.Jobs.{taken_by, taken_weight};
 ghost use Rattle.market_drive.specs.Racks.{IsFor, OfRack};
-ghost use Rattle.market_drive.specs.Reports.{shown, weight_if};
+ghost use Rattle.market_drive.specs.Causes.{AreEnds, CanEndAt, terms_of_plan};
+ghost use Rattle.market_drive.specs.Reports.{end_for, ends_of, shown, untold};
+ghost use Rattle.office_crew.specs.Callers.{terms_of};
 ghost use Rattle.market_drive.specs.Lines.{queues_at};
 ghost use Rattle.worker_main.specs.Stations.{HaveOwnArenas};
 ghost use Rattle.worker_main.specs.declared.report.Ended.{Ended};
-ghost use Rattle.worker_main.specs.declared.report.Ended.TheVariants.{Call};
 
 use crate::opener::Opener;
 use crate::racks::Racks;
@@ -42,16 +43,19 @@ fn man<'a, Y: Yard, G: Gate>(
     requires racks { All (IsFor Y.queues) racks.old }
     requires unused { All (λ (r : OfRack). taken_by r.takers ≡ []) racks.old }
     requires room { (vec_len workers.old ≡ 0) × (length racks.old ≤ vec_capacity workers.old) }
+    requires empty { workers.old.items ≡ [] }
+    requires ends { (e : Ended) → CanEndAt stations.now (G.refused gate.now) e → Y.ends e }
     ensures none { racks.new ≡ [] }
     ensures each { vec_len workers.new ≡ length racks.old }
+    ensures fresh { All (λ (w : Option Ended). w ≡ None) workers.new.items }
 {
     while let Some(rack) = racks.pop() {
         workers.push_reserved(Worker::new(alloc, stations, gate, rack));
     }
 }
 
-/// The racks of the workers, which leave their reports: where there was memory for them, they tell each end, and of each job that was
-/// taken that it was answered or is kept back.
+/// The racks of the workers, which leave their reports: where there was memory for them, they tell each end, in the order of the
+/// workers, and of each job that was taken that it was answered or is kept back.
 fn relieve<Y: Yard, G: Gate>(
     workers: Vec<Worker<'_, G, Y>>,
     racks: Racks,
@@ -62,10 +66,11 @@ fn relieve<Y: Yard, G: Gate>(
     ensures racks { All (IsFor Y.queues) result }
     ensures each { length result ≡ vec_len workers.entry }
     ensures whole { reports.new.torn ≡ false → reports.old.torn ≡ false }
-    ensures ends { reports.new.torn ≡ false → (weigh : Ended → ℕ) → sum_by weigh reports.new.ended ≡ sum_by weigh reports.old.ended + sum_by (weight_if weigh) workers.entry.items }
+    ensures ends { reports.new.torn ≡ false → reports.new.ended ≡ reports.old.ended ++ ends_of workers.entry.items }
     ensures shown { reports.new.torn ≡ false → (weigh : Job → ℕ) → sum_by weigh (shown reports.new) ≡ sum_by weigh (shown reports.old) + taken_weight weigh result }
 {
     let mut left = workers;
+    left.reverse();
     let mut racks = racks;
     while let Some(worker) = left.pop() {
         let Shift { rack, done, ended } = worker.into_shift();
@@ -81,7 +86,7 @@ fn relieve<Y: Yard, G: Gate>(
 /// The openers tell the commands that were not answered.
 fn hear(openers: Vec<Opener<'_>>, reports: &mut Reports)
     ensures whole { reports.new.torn ≡ false → reports.old.torn ≡ false }
-    ensures ends { reports.new.torn ≡ false → (weigh : Ended → ℕ) → sum_by weigh reports.new.ended ≡ sum_by weigh reports.old.ended + sum_by (λ (o : Opener). weight_if (λ fault. weigh (Call fault)) o.fault) openers.entry.items }
+    ensures ends { reports.new.torn ≡ false → reports.new.ended ≡ reports.old.ended ++ ends_of (map (λ (o : Opener). end_for o.fault) (reverse openers.entry.items)) }
     ensures shown { reports.new.torn ≡ false → (weigh : Job → ℕ) → sum_by weigh (shown reports.new) ≡ sum_by weigh (shown reports.old) }
 {
     let mut left = openers;
@@ -94,7 +99,8 @@ fn hear(openers: Vec<Opener<'_>>, reports: &mut Reports)
 
 /// Who gives the commands.
 fn openers<'a>(alloc: Global, cmds: &'a [Cmd]) -> Result<Vec<Opener<'a>>, AllocError>
-    ensures { IfOk result (λ openers. vec_len openers ≡ 1) }
+    ensures one { IfOk result (λ openers. vec_len openers ≡ 1) }
+    ensures fresh { IfOk result (λ openers. All (λ (o : Opener). o.fault ≡ None) openers.items) }
 {
     let mut openers = Vec::with_capacity(alloc, 1)?;
     openers.push_reserved(Opener::new(cmds));
@@ -112,7 +118,9 @@ fn work_together<Y: Yard + Send + Sync, G: Gate + Sync, R: Threads + Wait + Sync
     racks: Racks,
     reports: &mut Reports,
 ) -> (Racks, Option<Closed>)
-    requires few { (vec_len openers ≤ 1) × (vec_len workers ≤ 16) }
+    requires few { (vec_len openers ≡ 1) × (vec_len workers ≤ 16) }
+    requires fresh { All (λ (o : Opener). o.fault ≡ None) openers.items × All (λ (w : Option Ended). w ≡ None) workers.items }
+    requires untold { reports.old ≡ untold }
     requires racks { racks ≡ [] }
     ensures racks { All (IsFor Y.queues) result.0 }
     ensures each { length result.0 ≡ vec_len workers.entry }
@@ -120,6 +128,7 @@ fn work_together<Y: Yard + Send + Sync, G: Gate + Sync, R: Threads + Wait + Sync
     ensures calls { IfSome result.1 (λ closed. closed.calls ≡ length closed.chronicle.log) }
     ensures whole { terms.keeping ≡ Everything → IfSome result.1 (λ closed. closed.chronicle.from ≡ 0) }
     ensures places { IfSome result.1 (λ closed. closed.chronicle.places ≡ terms.places) }
+    ensures ends { reports.new.torn ≡ false → IfSome result.1 (λ closed. AreEnds Y.ends (terms_of terms (1 + vec_len workers.entry)) closed.chronicle.log (vec_len workers.entry) reports.new.ended) }
     ensures shown { reports.new.torn ≡ false → (weigh : Job → ℕ) → sum_by weigh (shown reports.new) ≡ sum_by weigh (shown reports.old) + taken_weight weigh result.0 }
 {
     match meet(rt, alloc, terms, openers, workers) {
@@ -169,9 +178,11 @@ pub(crate) fn work_shifts<Y: Yard + Send + Sync, G: Gate + Sync, R: Threads + Wa
     requires apart { AllPairs HaveOwnArenas stations.now }
     requires racks { All (IsFor Y.queues) racks }
     requires unused { (weigh : Job → ℕ) → taken_weight weigh racks ≡ 0 }
+    requires ends { (e : Ended) → CanEndAt stations.now (G.refused gate.now) e → Y.ends e }
     ensures racks { All (IsFor Y.queues) result.racks }
     ensures each { length result.racks ≡ length racks }
     ensures office { IfSome result.closed (IsOfficeOf plan.now (length racks)) }
+    ensures ends { result.reports.torn ≡ false → IfSome result.closed (λ closed. AreEnds Y.ends (terms_of_plan plan.now (length racks)) closed.chronicle.log (length racks) result.reports.ended) }
     ensures shown { result.reports.torn ≡ false → (weigh : Job → ℕ) → sum_by weigh (shown result.reports) ≡ taken_weight weigh result.racks }
 {
     let mut reports = Reports::new(alloc);

@@ -1,11 +1,13 @@
 //! A worker of a plan, in a place that a thread can borrow.
-ghost use Rattle.std.specs.Prelude.{◌≡◌, [], None, IsSomeAnd, AllPairs};
+ghost use Rattle.std.specs.Prelude.{◌≡◌, ◌<◌, [], None, IsSomeAnd, AllPairs};
 ghost use Rattle.market_lock.specs.Seen.{IsSamePass};
+ghost use Rattle.office_crew.specs.Callers.{who_is};
 ghost use Rattle.market_drive.specs.Racks.{IsFor};
 ghost use Rattle.market_drive.specs.Lines.{queues_at};
 ghost use Rattle.market_drive.specs.Jobs.{HasShown, taken_by};
-ghost use Rattle.market_drive.specs.Reports.{HasEndedSo};
+ghost use Rattle.market_drive.specs.Causes.{CanEndAt, HasEndedSo};
 ghost use Rattle.worker_main.specs.Stations.{HaveOwnArenas};
+ghost use Rattle.worker_main.specs.declared.report.Ended.{Ended as AnEnd};
 
 use crate::racks::Rack;
 use drive_plan::Done;
@@ -21,22 +23,27 @@ use worker_main::{Ended, Gate, Report, Station, work};
 /// How often a worker asks a gate at most, before it gives up.
 const TURNS: u64 = 1_000_000;
 
-/// Names the queues of one plan.
+/// Names the queues of one plan, and how its workers can end.
 pub(crate) trait Yard {
     ghost use Rattle.std.specs.Prelude.{List};
     ghost use Rattle.job_queue.specs.Seen.{QueueId};
+    ghost use Rattle.worker_main.specs.declared.report.Ended.{Ended};
 
     ghost queues: { List QueueId };
+
+    ghost ends: { Ended → Type 0 };
 }
 
 impl Yard for Brand {
     ghost use Rattle.std.specs.Prelude.{[]};
 
     ghost queues = { [] };
+
+    ghost ends = { λ _. Unit {0} };
 }
 
 /// A worker of the yard's queues. Its rack is away only while it works.
-pub(crate) struct Worker<'a, G, Y: Yard> {
+pub(crate) struct Worker<'a, G: Gate, Y: Yard> {
     stations: &'a [Station],
     gate: &'a G,
     rack: Option<Rack>,
@@ -46,19 +53,20 @@ pub(crate) struct Worker<'a, G, Y: Yard> {
     yard: PhantomData<Y>,
 }
 
-impl<'a, G, Y: Yard> Model for Worker<'a, G, Y> {
+impl<'a, G: Gate, Y: Yard> Model for Worker<'a, G, Y> {
     ghost use Rattle.std.specs.Prelude.{◌≡◌, Option, IsSomeAnd, AllPairs};
     ghost use Rattle.worker_main.specs.Stations.{HaveOwnArenas};
     ghost use Rattle.worker_main.specs.declared.report.Ended.{Ended};
     ghost use Rattle.market_drive.specs.Racks.{OfRack, IsFor};
     ghost use Rattle.market_drive.specs.Lines.{queues_at};
     ghost use Rattle.market_drive.specs.Jobs.{HasShown};
+    ghost use Rattle.market_drive.specs.Causes.{CanEndAt};
 
     ghost Value = { Option Ended };
 
     ghost view = { λ w. w.ended };
 
-    ghost invariant = { λ w. IsSomeAnd w.rack (λ (r : OfRack). IsFor Y.queues r × HasShown r.takers w.done.items w.ended) × (queues_at w.stations.now ≡ Y.queues) × AllPairs HaveOwnArenas w.stations.now };
+    ghost invariant = { λ w. IsSomeAnd w.rack (λ (r : OfRack). IsFor Y.queues r × HasShown r.takers w.done.items w.ended) × (queues_at w.stations.now ≡ Y.queues) × AllPairs HaveOwnArenas w.stations.now × ((e : Ended) → CanEndAt w.stations.now (G.refused w.gate.now) e → Y.ends e) };
 }
 
 /// What a worker leaves.
@@ -76,6 +84,7 @@ impl<'a, G: Gate, Y: Yard> Worker<'a, G, Y> {
         requires unused { taken_by rack.takers ≡ [] }
         requires stations { queues_at stations.now ≡ Y.queues }
         requires apart { AllPairs HaveOwnArenas stations.now }
+        requires ends { (e : AnEnd) → CanEndAt stations.now (G.refused gate.now) e → Y.ends e }
         ensures { result ≡ None }
     {
         Worker {
@@ -99,7 +108,7 @@ impl<'a, G: Gate, Y: Yard> Worker<'a, G, Y> {
         requires office { pass.table ≡ office.now.table }
         requires first { self.old ≡ None }
         ensures same { IsSamePass pass result }
-        ensures ended { IsSomeAnd self.new (HasEndedSo pass result) }
+        ensures ended { IsSomeAnd self.new (λ ended. Y.ends ended × HasEndedSo pass result ended) }
     {
         let taken = self.rack.take();
         let Some(rack) = taken else { unreachable!() };
@@ -145,6 +154,12 @@ impl<'a, G: Gate, Y: Yard> Worker<'a, G, Y> {
 }
 
 impl<'a, G: Gate, Y: Yard> Task for Worker<'a, G, Y> {
+    ghost use Rattle.std.specs.Prelude.{◌≡◌, None, IsSomeAnd};
+    ghost use Rattle.market_drive.specs.Causes.{HasEndedSo};
+
+    ghost worked = { λ before p after q. before ≡ None → IsSomeAnd after (λ ended. Y.ends ended × HasEndedSo p q ended) };
+
+    /// Where it has not worked before, it ends in one of the ways in which its yard's workers can end.
     fn work<C: Ledger, W: Ledger, R: Wait>(
         &mut self,
         rt: &R,
@@ -156,11 +171,13 @@ impl<'a, G: Gate, Y: Yard> Task for Worker<'a, G, Y> {
         if self.ended.is_some() {
             return caller;
         }
-        let pass = match caller {
-            Caller::Free(pass) => pass,
-            Caller::Working(placed) => office.leave(rt, placed),
-        };
-        Caller::Free(self.work_with(rt, alloc, office, pass))
+        match caller {
+            Caller::Free(pass) => Caller::Free(self.work_with(rt, alloc, office, pass)),
+            Caller::Working(placed) => {
+                let pass = office.leave(rt, placed);
+                Caller::Free(self.work_with(rt, alloc, office, pass))
+            }
+        }
     }
 
     fn lets_others_work(&self) -> bool {

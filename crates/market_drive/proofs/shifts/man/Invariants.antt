@@ -1,4 +1,5 @@
-use Rattle.std.proofs.Common.{◌≡◌, ◌+◌, ◌≤◌, [], length, vec_len, vec_capacity, All}
+use Rattle.std.proofs.Common.{◌≡◌, ◌+◌, ◌≤◌, [], length, vec_len, vec_capacity, All, Option, None}
+use Rattle.worker_main.specs.declared.report.Ended.{Ended}
 use Rattle.market_drive.specs.Jobs.{taken_by}
 use Rattle.market_drive.specs.Racks.{IsFor, OfRack}
 use Rattle.market_drive.proofs.shifts.man.Given as goal
@@ -9,6 +10,7 @@ invariant-loop-rack g l =
     × (length l.fn.racks ≤ vec_capacity l.workers)
     × All (IsFor g.Y.Yard.queues) l.racks
     × All (λ (r : OfRack). taken_by r.takers ≡ []) l.racks
+    × All (λ (w : Option Ended). w ≡ None) l.workers.items
 
 abbrev pub decreases-loop-rack : goal.decreases-loop-rack
 decreases-loop-rack g l = length l.racks

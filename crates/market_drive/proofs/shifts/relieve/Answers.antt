@@ -2,9 +2,9 @@ use Rattle.std.proofs.Common.{◌≡◌, ◌+◌, ◌∙◌, ◌∷◌, [], ap, 
 use Rattle.std.specs.List.{sum_by}
 use Rattle.std.proofs.lemmas.List.{length-append}
 use Rattle.std.proofs.lemmas.List.Elements.{All-push}
-use Rattle.std.proofs.lemmas.List.Sums.{sum_by_push}
 use Rattle.market_drive.specs.Racks.{IsFor, OfRack}
-use Rattle.market_drive.specs.Reports.{OfReports, shown, weight_if}
+use Rattle.market_drive.specs.Reports.{OfReports, shown}
+use Rattle.market_drive.proofs.Endings.{ends_more, ends_same}
 use Rattle.market_drive.proofs.Sums.{racks_more, shown_more, shown_none, shown_so}
 use Rattle.market_drive.proofs.shifts.relieve.Goals as goal
 
@@ -18,11 +18,7 @@ loop-worker-preserved g c =
       i.1,
       rw c.with-racks.ensures (All-push (IsFor g.Y.Yard.queues) c.loop-worker.racks c.into_shift-rack.result.rack i.2 c.into_shift-rack.ensures.rack),
       i.3,
-      λ whole weigh.
-          let rest = ap (sum_by (weight_if weigh)) c.in-Some.ensures.items ∙ sum_by_push (weight_if weigh) c.pop.new.self.items c.in-Some.worker in
-          let none = ap (weight_if weigh) (sym c.into_shift-rack.ensures.ended ∙ c.in_default-ended.is) in
-          let before = i.4 whole weigh in
-          omega arith,
+      λ whole. ends_same c.loop-worker.reports.ended c.loop-worker.left.items c.pop.new.self.items c.in-Some.worker c.in-Some.ensures.items (sym c.into_shift-rack.ensures.ended ∙ c.in_default-ended.is) ∙ i.4 whole,
       λ whole weigh.
           let more = racks_more weigh c.loop-worker.racks c.with-racks.result c.into_shift-rack.result.rack c.with-racks.ensures in
           let none = shown_none weigh c.into_shift-rack.result.rack.takers c.into_shift-rack.result.done.items c.into_shift-rack.result.ended c.in_default-ended.is c.into_shift-rack.ensures.shown in
@@ -40,13 +36,11 @@ loop-worker-preserved-in-Some-ended g c =
       i.1,
       rw c.with-racks.ensures (All-push (IsFor g.Y.Yard.queues) c.loop-worker.racks c.into_shift-rack.result.rack i.2 c.into_shift-rack.ensures.rack),
       λ whole. i.3 (c.add.ensures.kept whole).0,
-      λ whole weigh.
+      λ whole.
           let kept = c.add.ensures.kept whole in
-          let rest = ap (sum_by (weight_if weigh)) c.in-Some.ensures.items ∙ sum_by_push (weight_if weigh) c.pop.new.self.items c.in-Some.worker in
-          let own = ap (weight_if weigh) (sym c.into_shift-rack.ensures.ended ∙ c.in-Some-ended.is) in
-          let told = ap (λ (r : OfReports). sum_by weigh r.ended) kept.1 ∙ sum_by_push weigh c.loop-worker.reports.ended c.in-Some-ended.ended in
-          let before = i.4 kept.0 weigh in
-          omega arith,
+          let told = ap (λ (r : OfReports). r.ended) kept.1 in
+          ends_more c.loop-worker.reports.ended c.add.new.self.ended c.loop-worker.left.items c.pop.new.self.items c.in-Some.worker c.in-Some-ended.ended told c.in-Some.ensures.items (sym c.into_shift-rack.ensures.ended ∙ c.in-Some-ended.is)
+          ∙ i.4 kept.0,
       λ whole weigh.
           let kept = c.add.ensures.kept whole in
           let shift = c.into_shift-rack.result in

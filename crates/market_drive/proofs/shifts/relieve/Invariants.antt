@@ -1,10 +1,9 @@
-use Rattle.std.proofs.Common.{◌≡◌, ◌+◌, ◌≤◌, ℕ, false, length, vec_len, All}
+use Rattle.std.proofs.Common.{◌≡◌, ◌+◌, ◌≤◌, ◌++◌, ℕ, false, length, reverse, vec_len, All}
 use Rattle.std.specs.List.{sum_by}
 use Rattle.drive_plan.specs.declared.task.Job.{Job}
-use Rattle.worker_main.specs.declared.report.Ended.{Ended}
 use Rattle.market_drive.specs.Jobs.{taken_weight}
 use Rattle.market_drive.specs.Racks.{IsFor}
-use Rattle.market_drive.specs.Reports.{shown, weight_if}
+use Rattle.market_drive.specs.Reports.{ends_of, shown}
 use Rattle.market_drive.proofs.shifts.relieve.Given as goal
 
 abbrev pub invariant-loop-worker : goal.invariant-loop-worker
@@ -13,7 +12,7 @@ invariant-loop-worker g l =
     × (vec_len l.fn.workers ≤ 16)
     × All (IsFor g.Y.Yard.queues) l.racks
     × (l.reports.torn ≡ false → l.fn.reports.torn ≡ false)
-    × (l.reports.torn ≡ false → (weigh : Ended → ℕ) → sum_by weigh l.reports.ended + sum_by (weight_if weigh) l.left.items ≡ sum_by weigh l.fn.reports.ended + sum_by (weight_if weigh) l.fn.workers.items)
+    × (l.reports.torn ≡ false → l.reports.ended ++ ends_of (reverse l.left.items) ≡ l.fn.reports.ended ++ ends_of l.fn.workers.items)
     × (l.reports.torn ≡ false → (weigh : Job → ℕ) → sum_by weigh (shown l.reports) ≡ sum_by weigh (shown l.fn.reports) + taken_weight weigh l.racks)
 
 abbrev pub decreases-loop-worker : goal.decreases-loop-worker

@@ -20,4 +20,4 @@ invariant_of-self g c =
     let jobs : IsPermutation (taken_by report.takers.items) (results report.done.items ++ kept_back report.ended) =
     subst (λ l. IsPermutation (taken_by report.takers.items) (l ++ (results report.done.items ++ kept_back report.ended))) unused c.work-pass.ensures.jobs in
     let shown : HasShown c.of.result.takers report.done.items (Some report.ended) = subst (λ ts. HasShown ts report.done.items (Some report.ended)) (sym c.of.ensures.1) jobs in
-    (subst (λ o. IsSomeAnd o (λ (r : OfRack). IsFor g.Y.Yard.queues r × HasShown r.takers report.done.items (Some report.ended))) (sym c.replace-away.ensures.after) (back, shown), c.self.invariant.1, c.self.invariant.2)
+    (subst (λ o. IsSomeAnd o (λ (r : OfRack). IsFor g.Y.Yard.queues r × HasShown r.takers report.done.items (Some report.ended))) (sym c.replace-away.ensures.after) (back, shown), c.self.invariant.1, c.self.invariant.2, c.self.invariant.3)

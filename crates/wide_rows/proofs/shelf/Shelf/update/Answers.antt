@@ -80,5 +80,5 @@ pub returns-clause-far : goal.returns-clause-far
 returns-clause-far c moved =
     let k = c.find_near-place.result in
     let two : 1 < length c.self.inside.leaves.items = omega (arith, c.requires.some, ap (λ (v : Shelved). v.leaves) c.self.view_is) in
-    let down = down_at c.self.inside.storeys c.self.inside.leaves.items c.self.invariant.leaves c.self.invariant.indexed two k c.find_near-place.ensures.at.there in
+    let down = down_at c.self.inside.storeys c.self.inside.leaves.items c.self.invariant.leaves (c.self.invariant.known.indexed (omega (arith, c.requires.some, ap (λ (v : Shelved). v.leaves) c.self.view_is))) two k c.find_near-place.ensures.at.there in
     omega (arith, c.find_near-place.ensures.far (λ e. moved (e ∙ c.from.ensures)), down)

@@ -1,0 +1,52 @@
+-- How those who called at a plan's office ended (own).
+use Rattle.std.specs.Prelude.{◌≡◌, ◌≢◌, ◌⊎◌, ℕ, ◌+◌, ◌<◌, List, [], ◌∷◌, ◌++◌, length, ⊤}
+use Rattle.market_types.specs.declared.command.Cmd.TheVariants.{Join}
+use Rattle.market_types.specs.declared.reply.Entry.{Entry}
+use Rattle.market_types.specs.declared.reply.Reply.TheVariants.{Idle}
+use Rattle.market_types.specs.State.{usual_last}
+use Rattle.edit_history.specs.Chronicled.{entry}
+use Rattle.edit_history.specs.declared.fault.CallFault.{CallFault}
+use Rattle.edit_history.specs.declared.keeping.Keeping.TheVariants.{Everything}
+use Rattle.edit_history.specs.declared.terms.Terms.{Terms}
+use Rattle.market_lock.specs.Seen.{OfPass, IsSamePass, Met}
+use Rattle.office_crew.specs.Works.{IsUnused}
+use Rattle.drive_plan.specs.Plans.{Planned}
+use Rattle.worker_main.specs.declared.station.Station.{Station}
+use Rattle.worker_main.specs.declared.report.Ended.{Ended}
+use Rattle.worker_main.specs.declared.report.Ended.TheVariants.{Call}
+use Rattle.worker_main.specs.Books.{IfIdle, IfFull, IfShut, IfNoStation, HasRefused, HasLackedPlaces}
+use Rattle.worker_main.specs.Stations.{IsWithout}
+
+-- between the two a caller ended so: at Idle its last call was a Join that placed it nowhere, and at a full history places were lacking
+abbrev pub HasEndedSo : OfPass → OfPass → Ended → Type 0
+HasEndedSo p q ended =
+    IfIdle ended ((before : List Entry) × (q.mine ≡ p.mine ++ (before ++ entry p.seat Join Idle ∷ [])))
+    × IfFull ended (HasLackedPlaces p q)
+
+-- a worker at these stations, whose gate refuses so, can end so: at GateShut the gate refused the job at each of 1,000,000 questions,
+-- and at NoStation none of the stations is the arena's
+abbrev pub CanEndAt : List Station → (ℕ → ℕ → Type 0) → Ended → Type 0
+CanEndAt stations refused ended = IfShut ended (λ job. HasRefused refused job.number 1000000) × IfNoStation ended (IsWithout stations)
+
+-- the same of a worker of the plan: at NoStation the arena is none of the plan's
+abbrev pub CanEndIn : Planned → (ℕ → ℕ → Type 0) → Ended → Type 0
+CanEndIn p refused ended =
+    IfShut ended (λ job. HasRefused refused job.number 1000000) × IfNoStation ended (λ arena. (k : ℕ) → k < length p.arenas → arena ≢ k + 1)
+
+-- the terms of the plan's office, with a seat for who gives the plan's commands and one for each of so many workers
+abbrev pub terms_of_plan : Planned → ℕ → Terms
+terms_of_plan p workers = record { base = p.base; hard = p.hard; seats = 1 + workers; places = 1048576; levels = p.levels; last = usual_last; keeping = Everything }
+
+-- the caller of this seat came with its new pass, and ended so; its calls are all that the office's history has of the seat
+abbrev pub HasEndedAt : Terms → List Entry → ℕ → Ended → Type 0
+HasEndedAt terms history seat ended = (p : OfPass) × (q : OfPass) × IsUnused terms seat p × IsSamePass p q × Met history q × HasEndedSo p q ended
+
+-- so ended the worker of this seat, that of the next, and so on
+abbrev pub AreEndsFrom : (Ended → Type 0) → Terms → List Entry → ℕ → List Ended → Type 0
+AreEndsFrom CanEnd terms history seat [] = ⊤
+AreEndsFrom CanEnd terms history seat (e ∷ es) = (CanEnd e × HasEndedAt terms history seat e) × AreEndsFrom CanEnd terms history (seat + 1) es
+
+-- the ends of all workers, so many; or nobody has worked, since a command of who opens the market was not answered
+abbrev pub AreEnds : (Ended → Type 0) → Terms → List Entry → ℕ → List Ended → Type 0
+AreEnds CanEnd terms history workers es =
+    (AreEndsFrom CanEnd terms history 1 es × (length es ≡ workers)) ⊎ ((fault : CallFault) × (es ≡ Call fault ∷ []) × HasEndedAt terms history 0 (Call fault))
