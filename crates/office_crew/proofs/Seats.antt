@@ -5,7 +5,7 @@ use Rattle.std.specs.Option.{IsSomeAnd}
 use Rattle.std.proofs.lemmas.Grind.{reverse_onto}
 use Rattle.std.proofs.lemmas.Bool.{cases_lt}
 use Rattle.std.proofs.lemmas.List.{get_or_default, get_or-set_same, get_or-set_other, map-append, reverse-append, reverse-reverse, length-map, get_or-map}
-use Rattle.std.proofs.lemmas.List.Elements.{All-map, recursion_from_All}
+use Rattle.std.proofs.lemmas.List.Elements.{AllZip-push, All-map, recursion_from_All}
 use Rattle.std.proofs.lemmas.Option.{same_Some}
 use Rattle.market_types.specs.declared.reply.Entry.{Entry}
 use Rattle.edit_history.specs.declared.terms.Terms.{Terms}
@@ -33,6 +33,19 @@ zip_from R [] [] e f = tt
 zip_from R [] (y ∷ ys) e f = absurd (omega arith)
 zip_from R (x ∷ xs) [] e f = absurd (omega arith)
 zip_from R (x ∷ xs) (y ∷ ys) e f = (f 0 x (omega arith), zip_from R xs ys (omega arith) (λ k d lt. f (suc k) d (omega arith)))
+
+pub zip_reverse : {A : Type 0} (R : A → A → Type 0) (xs ys : List A) → AllZip R xs ys → AllZip R (reverse xs) (reverse ys)
+zip_reverse R [] [] z = tt
+zip_reverse R [] (y ∷ ys) z = absurd z
+zip_reverse R (x ∷ xs) [] z = absurd z
+zip_reverse R (x ∷ xs) (y ∷ ys) z =
+    subst (λ l. AllZip R l (reverse (y ∷ ys))) (sym (reverse_cons x xs)) (subst (AllZip R (reverse xs ++ x ∷ [])) (sym (reverse_cons y ys)) (AllZip-push R (reverse xs) (reverse ys) x y (zip_reverse R xs ys z.1) z.0))
+
+-- what was turned round, and is turned back
+pub zip_turned : {A : Type 0} (R : A → A → Type 0) (xs zs ys ws : List A) → zs ≡ reverse xs → AllZip R zs ys → ws ≡ reverse ys → AllZip R xs ws
+zip_turned R xs zs ys ws a z b =
+    let back : reverse zs ≡ xs = ap reverse a ∙ reverse-reverse xs in
+    subst (AllZip R xs) (sym b) (subst (λ l. AllZip R l (reverse ys)) back (zip_reverse R zs ys z))
 
 -- the first so many of them are done, and one more
 pub done_more : {A : Type 0} (R : A → A → Type 0) (xs ys : List A) (k : ℕ) (x y : A) → k < length ys → x ≡ get_or ys k x → R x y

@@ -174,7 +174,7 @@ fn work_slice_at_once<
 }
 
 /// The same of a vector of them.
-pub(crate) fn work_at_once<
+fn work_vec_at_once<
     C: Ledger + Send + Sync,
     W: Ledger + Send + Sync,
     B: Room + Send,
@@ -192,5 +192,30 @@ pub(crate) fn work_at_once<
 {
     let mut members = members;
     work_slice_at_once(rt, alloc, office, members.as_mut_slice());
+    members
+}
+
+/// The same. Where no thread can be made, std's call goes from the last place to the first: so they stand the other way round
+/// meanwhile, and work in the order of their seats.
+pub(crate) fn work_at_once<
+    C: Ledger + Send + Sync,
+    W: Ledger + Send + Sync,
+    B: Room + Send,
+    T: Task + Send,
+    R: Threads + Wait + Sync,
+>(
+    rt: &R,
+    alloc: Global,
+    office: &Office<C, W>,
+    members: Vec<Member<C, W, B, T>>,
+) -> Vec<Member<C, W, B, T>>
+    requires { office.now.table ≡ B.table }
+    ensures all { vec_len result ≡ vec_len members }
+    ensures done { AllZip (HasDone T.worked) members.items result.items }
+{
+    let mut members = members;
+    members.reverse();
+    let mut members = work_vec_at_once(rt, alloc, office, members);
+    members.reverse();
     members
 }
