@@ -1,6 +1,6 @@
 -- What an opener has called, a command more.
-use Rattle.std.proofs.Common.{◌≡◌, ◌<◌, subst, ℕ, ◌+◌, true, false, true≢false, not, cond, List, [], ◌∷◌, ◌++◌, length, map, take, get_or, refl, ap, sym, ◌∙◌, append_assoc, append-nil, Result, Ok, Err, Option, Some, None, is_some}
-use Rattle.std.proofs.lemmas.List.{map-append, take_more}
+use Rattle.std.proofs.Common.{◌≡◌, ◌<◌, ◌≤◌, subst, IfNone, ℕ, ◌+◌, true, false, true≢false, not, cond, List, [], ◌∷◌, ◌++◌, length, map, take, get_or, refl, ap, sym, ◌∙◌, append_assoc, append-nil, Result, Ok, Err, Option, Some, None, is_some}
+use Rattle.std.proofs.lemmas.List.{map-append, take_all, take_more}
 use Rattle.std.proofs.lemmas.List.Elements.{filter-append}
 use Rattle.std.proofs.lemmas.Option.{none-some, same_Some}
 use Rattle.market_types.specs.declared.command.Cmd.{Cmd}
@@ -93,6 +93,10 @@ pub fault_was : (answer : Option (Result Reply CallFault)) (fault : CallFault) �
 fault_was None fault e = absurd (none-some fault e)
 fault_was (Some (Ok reply)) fault e = absurd (none-some fault e)
 fault_was (Some (Err other)) fault e = ap (λ f. Some (Err f)) (same_Some other fault e)
+
+pub given_all : (cmds : List Cmd) (k : ℕ) (p q : OfPass) (o : Option CallFault) → length cmds ≤ k → HasGiven (take k cmds) p q → IfNone o (HasGiven cmds p q)
+given_all cmds k p q None all given = subst (λ l. HasGiven l p q) (take_all k cmds all) given
+given_all cmds k p q (Some fault) all given = tt
 
 pub none_given : (p : OfPass) → HasGiven [] p p
 none_given p = ([], sym (append-nil p.mine), refl)
