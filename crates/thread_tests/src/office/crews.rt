@@ -121,13 +121,14 @@ fn a_recalled_worker_is_a_pass_again(rt: HostRuntime) {
     is_told(&rt, rt.alloc(), TERMS, &cmds, due, (6, 0));
 }
 
-/// The first caller gives two commands in its thread; when it has met, the second gives the last.
+/// The first caller gives two commands; when it has ended, another gives the last in a thread that is made for it. One that has no
+/// command is in the calling thread meanwhile.
 fn is_seen_next<R: Threads + Wait + Sync + Abort>(rt: &R, alloc: Global, cmds: &[Cmd])
     requires { length cmds.now ≡ 3 }
 {
     let openers = scripts_of(rt, alloc, &[&cmds[..2]]);
-    let tasks = scripts_of(rt, alloc, &[&cmds[2..]]);
-    holds(rt, openers.len() == 1 && tasks.len() == 1);
+    let tasks = scripts_of(rt, alloc, &[&cmds[..0], &cmds[2..]]);
+    holds(rt, openers.len() == 1 && tasks.len() == 2);
     let Ok(meeting) = meet(rt, alloc, TERMS, openers, tasks) else {
         panic!(rt; "no office");
     };
@@ -141,11 +142,9 @@ fn is_seen_next<R: Threads + Wait + Sync + Abort>(rt: &R, alloc: Global, cmds: &
         rt,
         openers.iter().all(|script| script.told() == b"arena 1\nrequest 3\n".as_slice()),
     );
-    holds(
-        rt,
-        tasks.iter().all(|script| script.told() == seen.as_slice()),
-    );
-    same(rt, (openers.len(), tasks.len()), (1, 1));
+    same(rt, (openers.len(), tasks.len()), (1, 2));
+    same(rt, tasks[0].told(), b"".as_slice());
+    same(rt, tasks[1].told(), seen.as_slice());
     same(
         rt,
         (closed.calls, closed.workers, closed.chronicle.len()),
