@@ -5,3 +5,4 @@ pub mod Shares
 pub mod Searches
 pub mod Listings
 pub mod Askers
+pub mod Single

@@ -19,7 +19,8 @@ pub enum Sharing {
 }
 
 /// How many whole workers are `due`, a number of parts of which `demand` make a worker, and what is left, the carry. It
-/// divides only where these are not the workers that there are, `active`, or one more.
+/// divides only where these are more than one, and neither the workers that there are, `active`, nor one more. Where they are one or none,
+/// the carry waits for no look at who has workers.
 #[inline(always)]
 pub(crate) fn whole(due: u64, demand: u64, active: u32) -> (u32, u64)
     requires some { 0 < demand }
@@ -28,6 +29,13 @@ pub(crate) fn whole(due: u64, demand: u64, active: u32) -> (u32, u64)
     ensures whole { result.0 ≡ due / demand }
     ensures carry { result.1 ≡ due % demand }
 {
+    if due < demand {
+        return (0, due);
+    }
+    let past_one = due - demand;
+    if past_one < demand {
+        return (1, past_one);
+    }
     let kept = u64::from(active) * demand;
     if kept <= due {
         let rest = due - kept;

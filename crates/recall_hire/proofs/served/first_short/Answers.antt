@@ -1,4 +1,4 @@
-use Rattle.std.proofs.Common.{◌≡◌, ◌+◌, ◌*◌, ◌≤◌, ◌++◌, [], length, arith}
+use Rattle.std.proofs.Common.{◌≡◌, ◌*◌, ◌≤◌, ◌++◌, [], length, arith}
 use Rattle.prefix_tree.specs.Bits.{bits}
 use Rattle.wide_rows.proofs.Counted.{bits-mono}
 use Rattle.recall_hire.proofs.Searches.{IsPart, next-part, due-past, none-due, search-ends, search-finds, search-goes-on}

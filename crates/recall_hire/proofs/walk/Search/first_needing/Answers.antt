@@ -1,4 +1,4 @@
-use Rattle.std.proofs.Common.{◌≡◌, ◌+◌, ◌*◌, ◌≤◌, ap, length, refl, arith}
+use Rattle.std.proofs.Common.{◌*◌, ap, length, refl, arith}
 use Rattle.prefix_tree.specs.Bits.{bits}
 use Rattle.wide_rows.proofs.Counted.{bits-mono}
 use Rattle.recall_hire.proofs.Shares.{after-le}

@@ -1,6 +1,6 @@
-use Rattle.std.proofs.Common.{ℕ, ◌+◌, ◌*◌, ◌<◌, ◌≤◌, [], ◌∷◌, None, refl}
+use Rattle.std.proofs.Common.{◌+◌, ◌*◌, ◌<◌, ◌≤◌, [], ◌∷◌, None, refl}
 use Rattle.prefix_tree.specs.Bits.{bits}
-use Rattle.recall_hire.proofs.Searches.{IsNext, next-only, only-idle, only-ends, look-ends, look-finds, look-goes-on, search-finds}
+use Rattle.recall_hire.proofs.Searches.{next-only, only-idle, only-ends, look-ends, look-finds, look-goes-on, search-finds}
 use Rattle.recall_hire.proofs.walk.Search.only_needing.Goals as goal
 
 pub returns-then-self-from : goal.returns-then-self-from

@@ -1,7 +1,7 @@
 use Rattle.std.proofs.Common.{ℕ, ◌+◌, ◌^◌, ◌<◌, ◌≤◌, length, Option}
 use Rattle.prefix_tree.specs.Rows.{requests}
 use Rattle.recall_hire.specs.Shared.{CanShare, IsLook}
-use Rattle.recall_hire.proofs.walk.Search.first_among.Given as goal
+use Rattle.recall_hire.proofs.walk.Search.first_by_rows.Given as goal
 
 -- a look at the rest is one at all
 abbrev pub invariant-loop-row : goal.invariant-loop-row

@@ -2,7 +2,7 @@ use Rattle.std.proofs.Common.{ap, length, ◌∙◌, arith}
 use Rattle.prefix_tree.specs.Rows.{requests}
 use Rattle.prefix_tree.proofs.Readings.{requests-cons}
 use Rattle.recall_hire.proofs.Searches.{look-ends, look-finds, look-goes-on}
-use Rattle.recall_hire.proofs.walk.Search.first_among.Goals as goal
+use Rattle.recall_hire.proofs.walk.Search.first_by_rows.Goals as goal
 
 pub returns-then-lacks : goal.returns-then-lacks
 returns-then-lacks c =
