@@ -1,12 +1,14 @@
 -- How many arenas a market has, and how large its numbers are.
 use Rattle.std.specs.Prelude.{nat_lt, nat_le, ◌==◌, ◌||◌, ◌&&◌, not, min, slice_index, flat_map}
-use Rattle.std.specs.List.{filter, list_any, range_with_len}
-use Rattle.std.proofs.Common.{◌≡◌, ℕ, zero, suc, ◌+◌, ◌-◌, ◌*◌, ◌/◌, ◌%◌, ◌<◌, ◌≤◌, ◌++◌, Bool, true, false, cond, List, [], ◌∷◌, length, map, Option, Some, None, Result, Ok, Err, refl, sym, ap, ◌∙◌, subst, arith, length-append}
+use Rattle.std.specs.List.{All, filter, list_any, count_by, range_with_len}
+use Rattle.std.proofs.Common.{◌≡◌, ℕ, zero, suc, ◌+◌, ◌-◌, ◌*◌, ◌/◌, ◌%◌, ◌<◌, ◌≤◌, ◌++◌, Bool, true, false, cond, List, [], ◌∷◌, length, map, Option, Some, None, Result, Ok, Err, refl, sym, ap, ◌∙◌, subst, arith, length-append, inl, inr}
 use Rattle.std.specs.Prelude.{ℤ, pos, negsuc, ◌+ℤ◌}
-use Rattle.std.proofs.lemmas.Bool.{eqb-true}
+use Rattle.std.proofs.lemmas.Bool.{cases_Bool, eq-eqb}
 use Rattle.std.proofs.lemmas.Bool.Decides.{nat_tests}
 use Rattle.std.proofs.lemmas.Option.{same_Some}
-use Rattle.std.proofs.lemmas.List.Sums.{count_by-le-length}
+use Rattle.std.proofs.lemmas.List.{length-map}
+use Rattle.std.proofs.lemmas.List.Elements.{All-head, All-tail, All-nil, All-cons, All-append, All-filter, All-map, All-weaker}
+use Rattle.std.proofs.lemmas.List.Sums.{count_by-le-length, length-filter, sum_by-cons}
 use Rattle.std.proofs.Math.Nat.{div-le_self, mod-le, mul-le-mul_left}
 use Rattle.market_types.specs.declared.command.Cmd.{Cmd}
 use Rattle.market_types.specs.declared.command.Cmd.TheVariants.{Open, Close, Priority, Resize, Request, Control, Uncontrol, Join, Stay, Leave, Show, Lists, Limit}
@@ -22,58 +24,30 @@ use Rattle.market_types.specs.Step.{Outcome, if_arena, if_claim, arena_at, witho
 abbrev pub IsBounded : Arena → Type 0
 IsBounded a = (a.number ≤ 4294967294) × (a.claim.slots ≤ 65535)
 
-abbrev pub AllBounded : List Arena → Type 0
-AllBounded [] = Unit {0}
-AllBounded (a ∷ arenas) = IsBounded a × AllBounded arenas
-
 pub record Few (arenas : List Arena) : Type 0 where
   pub few : length arenas ≤ 1024
-  pub all : AllBounded arenas
+  pub all : All IsBounded arenas
 
-bounded-kept : (b : Bool) (a : Arena) (arenas : List Arena) → IsBounded a → AllBounded arenas → AllBounded (cond b (a ∷ arenas) arenas)
-bounded-kept true a arenas h k = (h, k)
-bounded-kept false a arenas h k = k
+pub fewer : {A : Type 0} (p : A → Bool) (xs : List A) → length (filter p xs) ≤ length xs
+fewer p xs = omega (arith, length-filter p xs, count_by-le-length p xs)
 
-bounded-filter : (p : Arena → Bool) (arenas : List Arena) → AllBounded arenas → AllBounded (filter p arenas)
-bounded-filter p [] h = tt
-bounded-filter p (a ∷ arenas) h = bounded-kept (p a) a (filter p arenas) h.0 (bounded-filter p arenas h.1)
+longer : (b : Bool) (a : Arena) (arenas : List Arena) → length (cond b (a ∷ arenas) arenas) ≤ length arenas + 1
+longer true a arenas = omega arith
+longer false a arenas = omega arith
 
-length-kept : (b : Bool) (a : Arena) (arenas : List Arena) → length (cond b (a ∷ arenas) arenas) ≤ length arenas + 1
-length-kept true a arenas = omega arith
-length-kept false a arenas = omega arith
-
-length-filter_le : (p : Arena → Bool) (arenas : List Arena) → length (filter p arenas) ≤ length arenas
-length-filter_le p [] = omega arith
-length-filter_le p (a ∷ arenas) = omega (arith, length-kept (p a) a (filter p arenas), length-filter_le p arenas)
-
-same-number : (n : ℕ) → (n == n) ≡ true
-same-number n = grind (arith, nat_tests)
-
--- an arena that was found
-record Found (arenas : List Arena) (arena : Arena) : Type 0 where
-  pub bounded : AllBounded arenas → IsBounded arena
-  pub others : length (without arena.number arenas) + 1 ≤ length arenas
-
-found-by : (b : Bool) (n : ℕ) (a arena : Arena) (arenas : List Arena) → cond b (Some a) (arena_at n arenas) ≡ Some arena → (arena_at n arenas ≡ Some arena → Found arenas arena) → Found (a ∷ arenas) arena
-found-by true n a arena arenas is more =
-    let same : a ≡ arena = same_Some a arena is in
-    subst (λ (x : Arena). Found (a ∷ arenas) x) same
-    (
-    record {
-      bounded = λ h. h.0;
-      others = rw (same-number a.number) (omega (arith, length-filter_le (λ (x : Arena). not (x.number == a.number)) arenas));
-    }
-    )
-found-by false n a arena arenas is more =
-    let f = more is in
-    record {
-      bounded = λ h. f.bounded h.1;
-      others = omega (arith, f.others, length-kept (not (a.number == arena.number)) a (without arena.number arenas));
-    }
-
-found : (n : ℕ) (arenas : List Arena) (arena : Arena) → arena_at n arenas ≡ Some arena → Found arenas arena
-found n [] arena is = absurd (cc)
-found n (a ∷ arenas) arena is = found-by (a.number == n) n a arena arenas is (found n arenas arena)
+-- an arena that was found is one of them
+found : (n : ℕ) (arenas : List Arena) (arena : Arena) → arena_at n arenas ≡ Some arena → All IsBounded arenas → IsBounded arena × (length (without arena.number arenas) + 1 ≤ length arenas)
+found n [] arena is all = absurd (cc)
+found n (a ∷ arenas) arena is all = elim (cases_Bool (a.number == n)) [
+  | inl t ↦
+      let first : Some a ≡ Some arena = rw t at is in
+      subst (λ (x : Arena). IsBounded x × (length (without x.number (a ∷ arenas)) + 1 ≤ length (a ∷ arenas))) (same_Some a arena first)
+      (All-head IsBounded a arenas all, rw (eq-eqb a.number a.number refl) (omega (arith, fewer (λ (x : Arena). not (x.number == a.number)) arenas)))
+  | inr f ↦
+      let later : arena_at n arenas ≡ Some arena = rw f at is in
+      let h = found n arenas arena later (All-tail IsBounded a arenas all) in
+      (h.0, omega (arith, h.1, longer (not (a.number == arena.number)) a (without arena.number arenas)))
+]
 
 -- ---- what a step leaves of them
 
@@ -113,16 +87,12 @@ with-claim_by : (b : Bool) (claim : Claim) (a : Arena) → claim.slots ≤ 65535
 with-claim_by true claim a h k = (k.0, h)
 with-claim_by false claim a h k = k
 
-bounded-with : (n : ℕ) (claim : Claim) (arenas : List Arena) → claim.slots ≤ 65535 → AllBounded arenas → AllBounded (with_claim n claim arenas)
-bounded-with n claim [] small h = tt
-bounded-with n claim (a ∷ arenas) small h = (with-claim_by (a.number == n) claim a small h.0, bounded-with n claim arenas small h.1)
-
-length-with : (n : ℕ) (claim : Claim) (arenas : List Arena) → length (with_claim n claim arenas) ≡ length arenas
-length-with n claim [] = refl
-length-with n claim (a ∷ arenas) = ap (λ k. suc k) (length-with n claim arenas)
-
 few-with : (n : ℕ) (claim : Claim) (arenas : List Arena) → claim.slots ≤ 65535 → Few arenas → Few (with_claim n claim arenas)
-few-with n claim arenas small h = record { few = omega (arith, length-with n claim arenas, h.few); all = bounded-with n claim arenas small h.all }
+few-with n claim arenas small h = record {
+  few = omega (arith, length-map arenas (λ (b : Arena). cond (b.number == n) (record b { claim = claim }) b), h.few);
+  all = All-map IsBounded (λ (b : Arena). cond (b.number == n) (record b { claim = claim }) b) arenas
+      (All-weaker IsBounded (λ b. IsBounded (cond (b.number == n) (record b { claim = claim }) b)) (λ b k. with-claim_by (b.number == n) claim b small k) arenas h.all);
+}
 
 few-open : (s : State) (slots reserved level : ℕ) → s.last ≤ 4294967294 → Few s.arenas → Few (open_step s slots reserved level).1.arenas
 few-open s slots reserved level last h =
@@ -134,21 +104,21 @@ few-open s slots reserved level last h =
     let number : s.next_arena ≤ 4294967294 = grind (arith, nat_tests) in
     let fewer : length s.arenas < 1024 = grind (arith, nat_tests) in
     let small : claim.slots ≤ 65535 = omega (arith, slots_are.0, slots_are.1) in
-    record { few = omega arith; all = ((number, small), h.all) }))))
+    record { few = omega arith; all = All-cons IsBounded _ s.arenas (number, small) h.all }))))
 
 few-close : (s : State) (a : ℕ) → Few s.arenas → Few (close_step s a).1.arenas
 few-close s a h =
     few-arena s (arena_at a s.arenas) _ h (λ _ _.
     few-if (nat_lt 0 (active s a)) _ _ h (λ _.
-    record { few = omega (arith, length-filter_le (λ (x : Arena). not (x.number == a)) s.arenas, h.few); all = bounded-filter (λ (x : Arena). not (x.number == a)) s.arenas h.all }))
+    record { few = omega (arith, fewer (λ (x : Arena). not (x.number == a)) s.arenas, h.few); all = All-filter (λ (x : Arena). not (x.number == a)) IsBounded s.arenas h.all }))
 
 few-priority : (s : State) (a level : ℕ) → Few s.arenas → Few (priority_step s a level).1.arenas
 few-priority s a level h =
     few-if (nat_lt s.levels level) _ _ h (λ _.
     few-arena s (arena_at a s.arenas) _ h (λ arena is.
     few-if (nat_lt s.last s.next_stamp) _ _ h (λ _.
-    let f = found a s.arenas arena is in
-    record { few = omega (arith, f.others, h.few); all = (f.bounded h.all, bounded-filter (λ (x : Arena). not (x.number == arena.number)) s.arenas h.all) })))
+    let f = found a s.arenas arena is h.all in
+    record { few = omega (arith, f.1, h.few); all = All-cons IsBounded _ _ f.0 (All-filter (λ (x : Arena). not (x.number == arena.number)) IsBounded s.arenas h.all) })))
 
 few-resize : (s : State) (a slots reserved : ℕ) → Few s.arenas → Few (resize_step s a slots reserved).1.arenas
 few-resize s a slots reserved h =
@@ -159,9 +129,9 @@ few-request : (s : State) (a : ℕ) (workers mandatory : ℤ) → Few s.arenas �
 few-request s a workers mandatory h =
     few-arena s (arena_at a s.arenas) _ h (λ arena is.
     few-claim s (added_claim arena.claim workers mandatory) _ h (λ claim more.
-    let f = found a s.arenas arena is in
+    let f = found a s.arenas arena is h.all in
     let same = added-slots arena.claim workers mandatory claim more in
-    let small : claim.slots ≤ 65535 = omega (arith, (f.bounded h.all).1, same) in
+    let small : claim.slots ≤ 65535 = omega (arith, f.0.1, same) in
     few-with a claim s.arenas small h))
 
 few-control : (s : State) (value : ℕ) → Few s.arenas → Few (control_step s value).1.arenas
@@ -203,75 +173,42 @@ few-step s seat Limit last h = h
 
 -- ---- the arenas in order
 
-one-if : Bool → ℕ
-one-if true = 1
-one-if false = 0
+-- those at a level, and those at later ones
+level-by : (k : ℕ) (a : Arena) → cond (a.level == k) 1 0 + cond (nat_le (k + 1) a.level) 1 0 ≤ cond (nat_le k a.level) 1 0
+level-by k a = grind (arith, nat_tests)
 
--- how often a level stands among some
-hits : ℕ → List ℕ → ℕ
-hits n [] = 0
-hits n (l ∷ ls) = one-if (n == l) + hits n ls
-
-hits-above : (n k m : ℕ) → n < k → hits n (range_with_len k m) ≡ 0
-unfolding hits one-if
-hits-above n k zero h = refl
-hits-above n k (suc m) h = let no : (n == k) ≡ false = grind (arith, nat_tests) in rw no (omega (arith, hits-above n (k + 1) m (omega arith)))
-
-hits-once_by : (b : Bool) (n k m : ℕ) → (n == k) ≡ b → hits n (range_with_len (k + 1) m) ≤ 1 → one-if b + hits n (range_with_len (k + 1) m) ≤ 1
-unfolding hits one-if
-hits-once_by true n k m e h = let same : n ≡ k = eqb-true n k e in omega (arith, hits-above n (k + 1) m (omega arith))
-hits-once_by false n k m e h = omega arith
-
-hits-once : (n k m : ℕ) → hits n (range_with_len k m) ≤ 1
-unfolding hits
-hits-once n k zero = omega arith
-hits-once n k (suc m) = hits-once_by (n == k) n k m refl (hits-once n (k + 1) m)
-
--- the arenas of some levels
-of_levels : List ℕ → List Arena → List Arena
-of_levels ls arenas = flat_map (λ level. at_level level arenas) ls
-
-length-by : (b : Bool) (a : Arena) (xs : List Arena) → length (cond b (a ∷ xs) xs) ≡ one-if b + length xs
-unfolding one-if
-length-by true a xs = omega arith
-length-by false a xs = omega arith
-
-of_levels-more : (ls : List ℕ) (a : Arena) (arenas : List Arena) → length (of_levels ls (a ∷ arenas)) ≡ length (of_levels ls arenas) + hits a.level ls
-unfolding of_levels hits
-of_levels-more [] a arenas = omega arith
-of_levels-more (l ∷ ls) a arenas =
+level-from : (k : ℕ) (arenas : List Arena) → count_by (λ (a : Arena). a.level == k) arenas + count_by (λ (a : Arena). nat_le (k + 1) a.level) arenas ≤ count_by (λ (a : Arena). nat_le k a.level) arenas
+level-from k [] = omega arith
+level-from k (a ∷ arenas) =
     omega (
       arith,
-      length-append (at_level l (a ∷ arenas)) (of_levels ls (a ∷ arenas)),
-      length-append (at_level l arenas) (of_levels ls arenas),
-      length-by (a.level == l) a (at_level l arenas),
-      of_levels-more ls a arenas,
+      level-by k a,
+      level-from k arenas,
+      sum_by-cons (λ (b : Arena). cond (b.level == k) 1 0) a arenas,
+      sum_by-cons (λ (b : Arena). cond (nat_le (k + 1) b.level) 1 0) a arenas,
+      sum_by-cons (λ (b : Arena). cond (nat_le k b.level) 1 0) a arenas,
     )
 
-of_levels-none : (ls : List ℕ) → of_levels ls [] ≡ []
-unfolding of_levels
-of_levels-none [] = refl
-of_levels-none (l ∷ ls) = of_levels-none ls
+levels-few : (arenas : List Arena) (k m : ℕ) → length (flat_map (λ level. at_level level arenas) (range_with_len k m)) ≤ count_by (λ (a : Arena). nat_le k a.level) arenas
+levels-few arenas k zero = omega arith
+levels-few arenas k (suc m) =
+    omega (
+      arith,
+      length-append (at_level k arenas) (flat_map (λ level. at_level level arenas) (range_with_len (k + 1) m)),
+      length-filter (λ (a : Arena). a.level == k) arenas,
+      levels-few arenas (k + 1) m,
+      level-from k arenas,
+    )
 
-of_levels-length : (ls : List ℕ) (arenas : List Arena) → ((n : ℕ) → hits n ls ≤ 1) → length (of_levels ls arenas) ≤ length arenas
-of_levels-length ls [] once = omega (arith, ap length (of_levels-none ls))
-of_levels-length ls (a ∷ arenas) once = omega (arith, of_levels-more ls a arenas, once a.level, of_levels-length ls arenas once)
-
-bounded-append : (xs ys : List Arena) → AllBounded xs → AllBounded ys → AllBounded (xs ++ ys)
-bounded-append [] ys h k = k
-bounded-append (x ∷ xs) ys h k = (h.0, bounded-append xs ys h.1 k)
-
-of_levels-bounded : (ls : List ℕ) (arenas : List Arena) → AllBounded arenas → AllBounded (of_levels ls arenas)
-unfolding of_levels
-of_levels-bounded [] arenas h = tt
-of_levels-bounded (l ∷ ls) arenas h = bounded-append (at_level l arenas) (of_levels ls arenas) (bounded-filter (λ (a : Arena). a.level == l) arenas h) (of_levels-bounded ls arenas h)
+levels-bounded : (arenas : List Arena) (ls : List ℕ) → All IsBounded arenas → All IsBounded (flat_map (λ level. at_level level arenas) ls)
+levels-bounded arenas [] h = All-nil IsBounded
+levels-bounded arenas (l ∷ ls) h = All-append IsBounded (at_level l arenas) _ (All-filter (λ (a : Arena). a.level == l) IsBounded arenas h) (levels-bounded arenas ls h)
 
 pub few-in_order : (s : State) → Few s.arenas → Few (in_order s)
-unfolding of_levels
 few-in_order s h =
     record {
-      few = omega (arith, of_levels-length (levels_of s) s.arenas (λ n. hits-once n 1 s.levels), h.few);
-      all = of_levels-bounded (levels_of s) s.arenas h.all;
+      few = omega (arith, levels-few s.arenas 1 s.levels, count_by-le-length (λ (a : Arena). nat_le 1 a.level) s.arenas, h.few);
+      all = levels-bounded s.arenas (levels_of s) h.all;
     }
 
 -- ---- how many workers an arena is allotted, at most
@@ -317,14 +254,15 @@ at-by : (b : Bool) (x y m : ℕ) → x ≤ m → y ≤ m → cond b x y ≤ m
 at-by true x y m h k = h
 at-by false x y m h k = k
 
-count-small : (A D : ℕ → ℕ) (c n : ℕ) (arenas : List Arena) → ((l : ℕ) → A l ≤ 65535) → AllBounded arenas → count_at n (carried A D c arenas) ≤ c + 4294836225 * length arenas
+count-small : (A D : ℕ → ℕ) (c n : ℕ) (arenas : List Arena) → ((l : ℕ) → A l ≤ 65535) → All IsBounded arenas → count_at n (carried A D c arenas) ≤ c + 4294836225 * length arenas
 count-small A D c n [] small all = omega arith
 count-small A D c n (a ∷ arenas) small all =
+    let here = All-head IsBounded a arenas all in
     let q = request_of a.claim in
-    let product = product-small q (A a.level) (request-small a.claim all.0.1) (small a.level) in
+    let product = product-small q (A a.level) (request-small a.claim here.1) (small a.level) in
     let share = share-by (q == 0) q (A a.level) c (D a.level) in
     let past = past-by (q == 0) q (A a.level) c (D a.level) in
-    let rest = count-small A D (carry_past A D c a) n arenas small all.1 in
+    let rest = count-small A D (carry_past A D c a) n arenas small (All-tail IsBounded a arenas all) in
     at-by (a.number == n) (share_of A D c a) (count_at n (carried A D (carry_past A D c a) arenas)) (c + 4294836225 * length (a ∷ arenas)) (omega arith) (omega arith)
 
 all_to-small : (o : Option Arena) (workers n : ℕ) → workers ≤ 65535 → all_to o workers n ≤ 65535

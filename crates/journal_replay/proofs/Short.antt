@@ -1,13 +1,15 @@
 -- No line of a journal that was written is too long.
-use Rattle.std.specs.Prelude.{nat_lt, nat_le, ◌==◌, ◌||◌, ℤ, pos, negsuc}
+use Rattle.std.specs.Prelude.{nat_lt, ◌==◌, ℤ, pos, negsuc}
 use Rattle.std.specs.Char.{digit_char}
 use Rattle.std.specs.Fmt.{digits, digits_onto, digit_glyph, signed_decimal}
-use Rattle.std.specs.List.{All, list_any, join_with_byte}
+use Rattle.std.specs.List.{All, join_with_byte}
 use Rattle.std.specs.Str.{all_ascii_digits}
 use Rattle.std.specs.Str.Parse.{AllDigits, digits_value}
-use Rattle.std.proofs.Common.{◌≡◌, ℕ, zero, suc, ◌+◌, ◌*◌, ◌/◌, ◌%◌, ◌<◌, ◌≤◌, ◌^◌, ◌++◌, Bool, true, false, cond, List, [], ◌∷◌, length, map, Option, Some, None, Result, Ok, Err, codes, decimal, refl, sym, ap, ◌∙◌, subst, arith, length-append}
+use Rattle.std.proofs.Common.{◌≡◌, ℕ, zero, suc, ◌+◌, ◌*◌, ◌/◌, ◌%◌, ◌<◌, ◌≤◌, ◌^◌, ◌++◌, Bool, true, false, cond, List, [], ◌∷◌, length, map, Some, codes, decimal, refl, sym, ap, ◌∙◌, subst, arith, length-append, inl, inr}
 use Rattle.std.proofs.lemmas.List.Concat.{flat_map-append}
-use Rattle.std.proofs.lemmas.List.Elements.{All-nil, All-cons}
+use Rattle.std.proofs.lemmas.Bool.{cases_Bool}
+use Rattle.std.proofs.lemmas.List.{length-map}
+use Rattle.std.proofs.lemmas.List.Elements.{All-head, All-tail, All-nil, All-cons, All-filter, All-map, All-weaker}
 use Rattle.std.proofs.lemmas.Str.Parse.{IsNumeralModel, numerals_by_value, tells_all_ascii_digits, digit_from_value}
 use Rattle.std.proofs.lemmas.Fmt.{digits_decimal, length-decimal-le}
 use Rattle.json.specs.Print.{escape_letter, escape_byte, escape}
@@ -23,15 +25,15 @@ use Rattle.market_types.specs.declared.reply.Reply.{Reply}
 use Rattle.market_types.specs.declared.reply.Reply.TheVariants.{Opened, Closed, Moved, Resized, Requested, Controlled, Uncontrolled, Placed, Idle, Stays, Recalled, Left, Shown, Listed, Limits, Refused}
 use Rattle.market_types.specs.Replies.{is_listed}
 use Rattle.market_types.specs.Texts.{has_name, level_name, level_text, cmd_text, fault_text, yes_no, view_text, limit_text, count_text, counts_text, reply_text}
-use Rattle.market_types.specs.Claims.{new_claim, added_claim}
-use Rattle.market_types.specs.State.{Claim, Arena, Control as LivingControl, State}
-use Rattle.market_types.specs.Allotment.{in_order, recall, hire, active, need}
-use Rattle.market_types.specs.Step.{Outcome, if_arena, if_claim, arena_at, opened, open_step, close_step, priority_step, resize_step, request_step, control_step, uncontrol_step, place_of, join_at, join_from, stay_from, leave_from, show_step, above_zero, counts_of, step}
+use Rattle.market_types.specs.State.{Arena, State}
+use Rattle.market_types.specs.Allotment.{in_order, recall, hire}
+use Rattle.market_types.specs.Step.{Outcome, above_zero, counts_of, step}
 use Rattle.market_types.specs.History.{IsLegal}
 use Rattle.edit_history.specs.Chronicled.{IsOpening}
 use Rattle.journal_replay.specs.Journal.{fields_line}
 use Rattle.journal_replay.specs.Written.{IsShort}
-use Rattle.journal_replay.proofs.Few.{Few, AllBounded, few-step, few-in_order, allotment-small, active-small}
+use Rattle.market_core.proofs.Moved.{steps, same_seats}
+use Rattle.journal_replay.proofs.Few.{Few, IsBounded, fewer, few-step, few-in_order, allotment-small, active-small}
 
 -- ---- how long a text is as JSON, without its quotes
 
@@ -203,10 +205,6 @@ reply-size (Refused fault) e = let h = fault-size fault in omega arith
 abbrev IsSmall : ℕ × ℕ → Type 0
 IsSmall e = (e.0 ≤ 4294967294) × (e.1 ≤ 4397912294400)
 
-abbrev AllSmall : List (ℕ × ℕ) → Type 0
-AllSmall [] = Unit {0}
-AllSmall (e ∷ es) = IsSmall e × AllSmall es
-
 plain-more : (c : ℕ) (xs : List ℕ) → (c ≡ 34 → ⊥) → (c ≡ 92 → ⊥) → 32 ≤ c → size (c ∷ xs) ≡ 1 + size xs
 unfolding size
 plain-more c xs q b l = omega (arith, length-append (escape_byte c) (escape xs), ap length (escape_byte_plain c q b l))
@@ -218,33 +216,27 @@ count-size e h =
     let colon = plain-more 58 (decimal e.1) (λ e. omega arith) (λ e. omega arith) (omega arith) in
     omega (arith, size-append (decimal e.0) (codes ":" ++ decimal e.1))
 
-joined-size : (e : ℕ × ℕ) (es : List (ℕ × ℕ)) → AllSmall (e ∷ es) → size (join_with_byte 44 (map count_text (e ∷ es))) ≤ 25 * (1 + length es)
-joined-size e [] h = let one = count-size e h.0 in omega arith
+joined-size : (e : ℕ × ℕ) (es : List (ℕ × ℕ)) → All IsSmall (e ∷ es) → size (join_with_byte 44 (map count_text (e ∷ es))) ≤ 25 * (1 + length es)
+joined-size e [] h = let one = count-size e (All-head IsSmall e [] h) in omega arith
 joined-size e (f ∷ fs) h =
-    let one = count-size e h.0 in
-    let rest = joined-size f fs h.1 in
+    let one = count-size e (All-head IsSmall e (f ∷ fs) h) in
+    let rest = joined-size f fs (All-tail IsSmall e (f ∷ fs) h) in
     let comma = plain-more 44 (join_with_byte 44 (map count_text (f ∷ fs))) (λ e. omega arith) (λ e. omega arith) (omega arith) in
     omega (arith, size-append (count_text e) (44 ∷ join_with_byte 44 (map count_text (f ∷ fs))))
 
-counts-size : (es : List (ℕ × ℕ)) → AllSmall es → length es ≤ 1024 → size (counts_text es) ≤ 25600
+counts-size : (es : List (ℕ × ℕ)) → All IsSmall es → length es ≤ 1024 → size (counts_text es) ≤ 25600
 counts-size [] h few = let dash = lit (codes "-") (omega arith) in omega arith
 counts-size (e ∷ es) h few = let all = joined-size e es h in omega arith
 
-small-kept : (b : Bool) (e : ℕ × ℕ) (es : List (ℕ × ℕ)) → IsSmall e → AllSmall es → AllSmall (cond b (e ∷ es) es)
-small-kept true e es h k = (h, k)
-small-kept false e es h k = k
-
-length-kept : (b : Bool) (e : ℕ × ℕ) (es : List (ℕ × ℕ)) → length (cond b (e ∷ es) es) ≤ length es + 1
-length-kept true e es = omega arith
-length-kept false e es = omega arith
-
-above-small : (count : ℕ → ℕ) (arenas : List Arena) → AllBounded arenas → ((n : ℕ) → count n ≤ 4397912294400) → AllSmall (above_zero count arenas)
-above-small count [] all small = tt
-above-small count (a ∷ arenas) all small = small-kept (nat_lt 0 (count a.number)) (a.number, count a.number) (above_zero count arenas) (all.0.0, small a.number) (above-small count arenas all.1 small)
+above-small : (count : ℕ → ℕ) (arenas : List Arena) → All IsBounded arenas → ((n : ℕ) → count n ≤ 4397912294400) → All IsSmall (above_zero count arenas)
+above-small count arenas all small =
+    let listed : Arena → ℕ × ℕ = λ a. (a.number, count a.number) in
+    All-filter (λ (e : ℕ × ℕ). nat_lt 0 e.1) IsSmall (map listed arenas) (All-map IsSmall listed arenas (All-weaker IsBounded (λ a. IsSmall (listed a)) (λ a h. (h.0, small a.number)) arenas all))
 
 above-length : (count : ℕ → ℕ) (arenas : List Arena) → length (above_zero count arenas) ≤ length arenas
-above-length count [] = omega arith
-above-length count (a ∷ arenas) = omega (arith, length-kept (nat_lt 0 (count a.number)) (a.number, count a.number) (above_zero count arenas), above-length count arenas)
+above-length count arenas =
+    let listed : Arena → ℕ × ℕ = λ a. (a.number, count a.number) in
+    omega (arith, fewer (λ (e : ℕ × ℕ). nat_lt 0 e.1) (map listed arenas), length-map arenas listed)
 
 lists-size : (s : State) → Few s.arenas → s.hard ≤ 65535 → length s.seats ≤ 64 → size (reply_text (Listed (counts_of s))) ≤ 52000
 lists-size s h hard seats =
@@ -260,107 +252,32 @@ lists-size s h hard seats =
     let all = lit-part (codes "recall ") _ 51440 (omega arith) both in
     omega arith
 
--- ---- Lists alone is answered by lists
-
-abbrev Plain : Outcome → Type 0
-Plain o = is_listed o.0 ≡ false
-
-plain-if : (b : Bool) (x y : Outcome) → Plain x → Plain y → Plain (cond b x y)
-plain-if true x y h k = h
-plain-if false x y h k = k
-
-plain-arena : (s : State) (o : Option Arena) (f : Arena → Outcome) → ((a : Arena) → Plain (f a)) → Plain (if_arena s o f)
-plain-arena s None f h = refl
-plain-arena s (Some a) f h = h a
-
-plain-claim : (s : State) (r : Result Claim Fault) (f : Claim → Outcome) → ((c : Claim) → Plain (f c)) → Plain (if_claim s r f)
-plain-claim s (Err fault) f h = refl
-plain-claim s (Ok c) f h = h c
-
-plain-open : (s : State) (slots reserved level : ℕ) → Plain (open_step s slots reserved level)
-plain-open s slots reserved level =
-    plain-claim s (new_claim slots reserved) _ (λ claim.
-    plain-if (nat_lt s.levels level) _ _ refl
-    (plain-if (nat_le 1024 (length s.arenas)) _ _ refl
-    (plain-if (nat_lt s.last s.next_arena || nat_lt s.last s.next_stamp) _ _ refl refl)))
-
-plain-close : (s : State) (a : ℕ) → Plain (close_step s a)
-plain-close s a = plain-arena s (arena_at a s.arenas) _ (λ _. plain-if (nat_lt 0 (active s a)) _ _ refl refl)
-
-plain-priority : (s : State) (a level : ℕ) → Plain (priority_step s a level)
-plain-priority s a level =
-    plain-if (nat_lt s.levels level) _ _ refl
-    (plain-arena s (arena_at a s.arenas) _ (λ arena. plain-if (nat_lt s.last s.next_stamp) _ _ refl refl))
-
-plain-resize : (s : State) (a slots reserved : ℕ) → Plain (resize_step s a slots reserved)
-plain-resize s a slots reserved = plain-claim s (new_claim slots reserved) _ (λ _. plain-arena s (arena_at a s.arenas) _ (λ arena. refl))
-
-plain-request : (s : State) (a : ℕ) (workers mandatory : ℤ) → Plain (request_step s a workers mandatory)
-plain-request s a workers mandatory = plain-arena s (arena_at a s.arenas) _ (λ arena. plain-claim s (added_claim arena.claim workers mandatory) _ (λ claim. refl))
-
-plain-control : (s : State) (value : ℕ) → Plain (control_step s value)
-plain-control s value =
-    plain-if (value == 0 || nat_lt 65536 value) _ _ refl
-    (plain-if (nat_le 256 (length s.controls)) _ _ refl
-    (plain-if (nat_lt s.last s.next_control) _ _ refl refl))
-
-plain-uncontrol : (s : State) (c : ℕ) → Plain (uncontrol_step s c)
-plain-uncontrol s c = plain-if (list_any (λ (d : LivingControl). d.number == c) s.controls) _ _ refl refl
-
-plain-join_at : (s : State) (seat : ℕ) (o : Option Arena) → Plain (join_at s seat o)
-plain-join_at s seat None = refl
-plain-join_at s seat (Some arena) = refl
-
-plain-join : (s : State) (seat : ℕ) (p : Option ℕ) → Plain (join_from s seat p)
-plain-join s seat None = plain-join_at s seat (need s)
-plain-join s seat (Some a) = refl
-
-plain-stay : (s : State) (seat : ℕ) (p : Option ℕ) → Plain (stay_from s seat p)
-plain-stay s seat None = refl
-plain-stay s seat (Some a) = plain-if (nat_lt 0 (recall s a)) _ _ refl refl
-
-plain-leave : (s : State) (seat : ℕ) (p : Option ℕ) → Plain (leave_from s seat p)
-plain-leave s seat None = refl
-plain-leave s seat (Some a) = refl
-
-plain-size : (o : Outcome) → Plain o → size (reply_text o.0) ≤ 52000
-plain-size o h = let small = reply-size o.0 h in omega arith
-
+-- Lists alone is answered by lists, which are those of the market
 step-size : (s : State) (seat : ℕ) (cmd : Cmd) → Few s.arenas → s.hard ≤ 65535 → length s.seats ≤ 64 → size (reply_text (step s seat cmd).0) ≤ 52000
-step-size s seat (Open slots reserved level) h hard seats = plain-size (open_step s slots reserved level) (plain-open s slots reserved level)
-step-size s seat (Close a) h hard seats = plain-size (close_step s a) (plain-close s a)
-step-size s seat (Priority a level) h hard seats = plain-size (priority_step s a level) (plain-priority s a level)
-step-size s seat (Resize a slots reserved) h hard seats = plain-size (resize_step s a slots reserved) (plain-resize s a slots reserved)
-step-size s seat (Request a workers mandatory) h hard seats = plain-size (request_step s a workers mandatory) (plain-request s a workers mandatory)
-step-size s seat (Control value) h hard seats = plain-size (control_step s value) (plain-control s value)
-step-size s seat (Uncontrol c) h hard seats = plain-size (uncontrol_step s c) (plain-uncontrol s c)
-step-size s seat Join h hard seats = plain-size (join_from s seat (place_of s seat)) (plain-join s seat (place_of s seat))
-step-size s seat Stay h hard seats = plain-size (stay_from s seat (place_of s seat)) (plain-stay s seat (place_of s seat))
-step-size s seat Leave h hard seats = plain-size (leave_from s seat (place_of s seat)) (plain-leave s seat (place_of s seat))
-step-size s seat (Show a) h hard seats = plain-size (show_step s a) (plain-arena s (arena_at a s.arenas) _ (λ arena. refl))
-step-size s seat Lists h hard seats = lists-size s h hard seats
-step-size s seat Limit h hard seats = plain-size (step s seat Limit) refl
+step-size s seat cmd h hard seats = elim (cases_Bool (is_listed (step s seat cmd).0)) [
+  | inl listed ↦ subst (λ (o : Outcome). size (reply_text o.0) ≤ 52000) (sym ((steps s seat cmd).listed listed)) (lists-size s h hard seats)
+  | inr other ↦ let small = reply-size (step s seat cmd).0 other in omega arith
+]
 
 -- ---- the lines of a history
 
 line-length : (cmd reply : List ℕ) (seat : ℕ) → length (escape cmd) ≤ 5000 → length (escape reply) ≤ 52000 → length (fields_line cmd reply seat) ≤ 65536
 line-length cmd reply seat c r = let s = decimal-length seat in simp length-append (omega arith)
 
-module _ (keeps : (s : State) (seat : ℕ) (cmd : Cmd) → (length (step s seat cmd).1.seats ≡ length s.seats) × ((step s seat cmd).1.hard ≡ s.hard) × ((step s seat cmd).1.last ≡ s.last)) where
-  all-short : (levels : ℕ) (log : List Entry) (s : State) → s.last ≤ 4294967294 → Few s.arenas → s.hard ≤ 65535 → length s.seats ≤ 64 → IsLegal s log → All (IsShort levels) log
-  unfolding size
-  all-short levels [] s last h hard seats legal = All-nil (IsShort levels)
-  all-short levels (e ∷ log) s last h hard seats legal =
-      let o = step s e.call.seat e.call.cmd in
-      let due : e.reply ≡ o.0 = cc in
-      let rest : IsLegal o.1 log = cc in
-      let same = keeps s e.call.seat e.call.cmd in
-      let reply : size (reply_text e.reply) ≤ 52000 = subst (λ (r : Reply). size (reply_text r) ≤ 52000) (sym due) (step-size s e.call.seat e.call.cmd h hard seats) in
-      All-cons (IsShort levels) e log (line-length (cmd_text levels e.call.cmd) (reply_text e.reply) e.call.seat (cmd-size levels e.call.cmd) reply)
-      (all-short levels log o.1 (omega (arith, same.2)) (few-step s e.call.seat e.call.cmd last h) (omega (arith, same.1)) (omega (arith, same.0)) rest)
+all-short : (levels : ℕ) (log : List Entry) (s : State) → s.last ≤ 4294967294 → Few s.arenas → s.hard ≤ 65535 → length s.seats ≤ 64 → IsLegal s log → All (IsShort levels) log
+unfolding size
+all-short levels [] s last h hard seats legal = All-nil (IsShort levels)
+all-short levels (e ∷ log) s last h hard seats legal =
+    let o = step s e.call.seat e.call.cmd in
+    let due : e.reply ≡ o.0 = cc in
+    let rest : IsLegal o.1 log = cc in
+    let same = steps s e.call.seat e.call.cmd in
+    let reply : size (reply_text e.reply) ≤ 52000 = subst (λ (r : Reply). size (reply_text r) ≤ 52000) (sym due) (step-size s e.call.seat e.call.cmd h hard seats) in
+    All-cons (IsShort levels) e log (line-length (cmd_text levels e.call.cmd) (reply_text e.reply) e.call.seat (cmd-size levels e.call.cmd) reply)
+    (all-short levels log o.1 (omega (arith, same.last)) (few-step s e.call.seat e.call.cmd last h) (omega (arith, same.hard)) (omega (arith, same_seats s e.call.seat e.call.cmd)) rest)
 
-  pub short-history : (start : State) (history : List Entry) → IsOpening start → IsLegal start history → All (IsShort start.levels) history
-  short-history start history opened legal =
-      let none : start.arenas ≡ [] = ap (λ (s : State). s.arenas) opened.same in
-      let begun : Few start.arenas = subst (λ (arenas : List Arena). Few arenas) (sym none) (let few : length {A = Arena} [] ≤ 1024 = omega arith in record { few = few; all = tt }) in
-      all-short start.levels history start opened.last.1 begun opened.hard.1 opened.seats.1 legal
+pub short-history : (start : State) (history : List Entry) → IsOpening start → IsLegal start history → All (IsShort start.levels) history
+short-history start history opened legal =
+    let none : start.arenas ≡ [] = ap (λ (s : State). s.arenas) opened.same in
+    let begun : Few start.arenas = subst (λ (arenas : List Arena). Few arenas) (sym none) (let few : length {A = Arena} [] ≤ 1024 = omega arith in record { few = few; all = All-nil IsBounded }) in
+    all-short start.levels history start opened.last.1 begun opened.hard.1 opened.seats.1 legal

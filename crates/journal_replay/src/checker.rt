@@ -60,8 +60,7 @@ fn read_whole<'a>(
     }
 }
 
-/// Gives an entry's call to the market, and writes the text of the reply that is due in the room of another: whether it is the
-/// entry's.
+/// Gives an entry's call to the market, and writes the text of the due reply in the room of another: whether it is the entry's.
 fn replay(
     alloc: Global,
     market: &mut Market,
@@ -101,13 +100,12 @@ impl Progress {
     fn opened(alloc: Global, value: Option<Value>) -> Result<Progress, AllocError>
         ensures { IfOk result (λ progress. progress ≡ after_header (option_and_then header_of (option_map view value))) }
     {
-        let Some(value) = value else {
-            return Ok(Progress::Faulty(Verdict::BadHeader, Extent::Limited));
-        };
-        let Some(Opened { market, extent }) = open_market(alloc, &value)? else {
-            return Ok(Progress::Faulty(Verdict::BadHeader, Extent::Limited));
-        };
-        Ok(Progress::Replaying(market, 0, extent))
+        if let Some(value) = value {
+            if let Some(Opened { market, extent }) = open_market(alloc, &value)? {
+                return Ok(Progress::Replaying(market, 0, extent));
+            }
+        }
+        Ok(Progress::Faulty(Verdict::BadHeader, Extent::Limited))
     }
 
     /// Takes the header.
@@ -300,9 +298,7 @@ pub fn check(alloc: Global, text: &[u8]) -> Result<Verdict, AllocError>
     Ok(checker.progress.into_verdict())
 }
 
-/// What is found of the journal that a source has left, as `check` finds it. It takes the memory of `check`, and of one piece
-/// of 65,536 bytes.
-///
+/// What is found of the journal that a source has left, as `check` finds it. It takes the memory of `check` and a piece of 65,536 bytes.
 /// Whichever fault comes first stops it: a read that fails is `Read`, a journal of more than 268,435,456 bytes `TooLong`, where
 /// no header of version 3 begins it, and running out of memory `Memory`, or `Taker` where a line was replayed.
 pub fn check_source<R: Source>(

@@ -3,7 +3,7 @@ use Rattle.std.proofs.Common.{◌≡◌, ℕ, ◌+◌, ◌<◌, ◌≤◌, ◌++
 use Rattle.market_types.specs.declared.reply.Entry.{Entry}
 use Rattle.market_types.specs.declared.reply.Reply.{Reply}
 use Rattle.market_types.specs.State.{State}
-use Rattle.market_types.specs.Step.{place_of, step}
+use Rattle.market_types.specs.Step.{Outcome, place_of, step}
 use Rattle.market_types.specs.Replies.{is_listed}
 use Rattle.edit_history.specs.Chronicled.{Chronicled, entry, market_of, most_forgotten}
 use Rattle.edit_history.specs.Kept.{IsKept}
@@ -146,7 +146,7 @@ pub invariant_of-self-in_default-copied : goal.invariant_of-self-in_default-copi
 invariant_of-self-in_default-copied c =
     let market : State = c.self.inside.market in
     let listed : is_listed (step market c.args.seat c.args.cmd).0 ≡ true = ap is_listed (sym c.in-Ok-apply.ensures.reply) ∙ c.in_default-copied.ensures.lists_alone in
-    let same : c.apply.new.self ≡ market = c.in-Ok-apply.ensures.next ∙ (steps market c.args.seat c.args.cmd).listed listed in
+    let same : c.apply.new.self ≡ market = c.in-Ok-apply.ensures.next ∙ ap (λ (o : Outcome). o.1) ((steps market c.args.seat c.args.cmd).listed listed) in
     kept-same _ _ _ _ _ _ _ c.self.invariant c.apply.new.self c.reserve.new.self.items (vec_capacity c.reserve.new.self) same c.in-Ok.ensures.items c.in-Ok.ensures.capacity
 
 pub returns-in_default-copied-clause-answered : goal.returns-in_default-copied-clause-answered
@@ -154,7 +154,7 @@ returns-in_default-copied-clause-answered c =
     let at = (goal.at.returns-in_default-copied-clause-answered c).After-reserve in
     let market : State = c.self.inside.market in
     let listed : is_listed (step market c.args.seat c.args.cmd).0 ≡ true = ap is_listed (sym c.in-Ok-apply.ensures.reply) ∙ c.in_default-copied.ensures.lists_alone in
-    let same : c.apply.new.self ≡ market = c.in-Ok-apply.ensures.next ∙ (steps market c.args.seat c.args.cmd).listed listed in
+    let same : c.apply.new.self ≡ market = c.in-Ok-apply.ensures.next ∙ ap (λ (o : Outcome). o.1) ((steps market c.args.seat c.args.cmd).listed listed) in
     let due : c.in-Ok-apply.reply ≡ (step (market_of (was at)) c.args.seat c.args.cmd).0 = c.in-Ok-apply.ensures.reply ∙ ap (λ (s : State). (step s c.args.seat c.args.cmd).0) c.self.invariant.market_is in
     seen _ _ _ _ _ _ c.self.view_is (at-memory _ _ _ _ _ (ap (λ (l : List Entry). c.self.inside.past ++ l) c.in-Ok.ensures.items) same (enough at) (λ none.
     lists-none _ c.args.cmd _ none (steps (market_of (was at)) c.args.seat c.args.cmd).answers (ap is_listed (sym due) ∙ c.in_default-copied.ensures.lists_alone)))
