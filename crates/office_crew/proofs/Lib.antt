@@ -1,2 +1,4 @@
 pub mod Crossing
 mod Seats
+mod Fronts
+mod Alone

@@ -2,3 +2,4 @@ pub mod Callers
 pub mod Rooms
 pub mod Works
 pub mod Members
+pub mod Written

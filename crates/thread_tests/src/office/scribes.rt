@@ -5,7 +5,7 @@ ghost use Rattle.market_lock.specs.Seen.{OfPass};
 use crate::asserts::{holds, same};
 use market_lock::{Closed, Office, Pass};
 use market_types::{Cmd, Entry, OpenFault};
-use office_scribe::{Missed, Scribe};
+use office_crew::{Missed, Scribe};
 use std::alloc::Global;
 use std::marker::Brand;
 use std::process::Abort;

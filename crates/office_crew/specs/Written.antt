@@ -5,8 +5,8 @@ use Rattle.edit_history.specs.Parts.{EndsWith}
 use Rattle.edit_history.specs.declared.part.Part.{Part}
 use Rattle.market_lock.specs.Cutting.{entries_of, cut_by}
 use Rattle.market_lock.specs.Seen.{OfPass}
-use Rattle.office_scribe.specs.declared.missed.Missed.{Missed}
-use Rattle.office_scribe.specs.declared.missed.Missed.TheVariants.{NoPart, Elsewhere}
+use Rattle.office_crew.specs.declared.missed.Missed.{Missed}
+use Rattle.office_crew.specs.declared.missed.Missed.TheVariants.{NoPart, Elsewhere}
 
 -- its pass, and all that it was handed, one part after the other
 pub record OfScribe : Type 0 where

@@ -2,10 +2,10 @@ use Rattle.std.proofs.Common.{◌≡◌, ◌++◌, ◌+◌, List, length, ap, sy
 use Rattle.std.proofs.lemmas.List.{length-take-le}
 use Rattle.market_types.specs.declared.reply.Entry.{Entry}
 use Rattle.market_lock.specs.Seen.{OfPass}
-use Rattle.office_scribe.specs.Written.{OfScribe, HasWrittenAll}
-use Rattle.office_scribe.proofs.Alone.{others_none, begins_there, with_part}
-use Rattle.office_scribe.proofs.Fronts.{still-written, now-written}
-use Rattle.office_scribe.proofs.scribe.Scribe.cut.Goals as goal
+use Rattle.office_crew.specs.Written.{OfScribe, HasWrittenAll}
+use Rattle.office_crew.proofs.Alone.{others_none, begins_there, with_part}
+use Rattle.office_crew.proofs.Fronts.{still-written, now-written}
+use Rattle.office_crew.proofs.scribe.Scribe.cut.Goals as goal
 
 pub returns-clause-written : goal.returns-clause-written
 returns-clause-written g c =

@@ -1,9 +1,9 @@
 use Rattle.std.proofs.Common.{◌∙◌, sym, subst}
 use Rattle.market_lock.specs.Seen.{OfPass}
-use Rattle.office_scribe.specs.Written.{HasWrittenAll}
-use Rattle.office_scribe.proofs.Alone.{others_none, others_by, seen_by}
-use Rattle.office_scribe.proofs.Fronts.{still-written}
-use Rattle.office_scribe.proofs.scribe.Scribe.call.Goals as goal
+use Rattle.office_crew.specs.Written.{HasWrittenAll}
+use Rattle.office_crew.proofs.Alone.{others_none, others_by, seen_by}
+use Rattle.office_crew.proofs.Fronts.{still-written}
+use Rattle.office_crew.proofs.scribe.Scribe.call.Goals as goal
 
 pub returns-clause-still_all : goal.returns-clause-still_all
 returns-clause-still_all g c = λ all alone.

@@ -1,8 +1,8 @@
 use Rattle.std.proofs.Common.{subst}
 use mathlib.Core.List.{IsPrefix}
-use Rattle.office_scribe.specs.Written.{OfScribe}
-use Rattle.office_scribe.proofs.Fronts.{first-ones}
-use Rattle.office_scribe.proofs.scribe.Scribe.written.Goals as goal
+use Rattle.office_crew.specs.Written.{OfScribe}
+use Rattle.office_crew.proofs.Fronts.{first-ones}
+use Rattle.office_crew.proofs.scribe.Scribe.written.Goals as goal
 
 pub returns-clause-front : goal.returns-clause-front
 returns-clause-front g c = subst (λ (s : OfScribe). IsPrefix s.written s.pass.seen) c.self.view_is (first-ones c.self.inside.next c.self.inside.pass.seen)

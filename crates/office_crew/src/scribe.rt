@@ -8,8 +8,8 @@ ghost use Rattle.edit_history.specs.declared.keeping.Keeping.TheVariants.{InPart
 ghost use Rattle.market_lock.specs.Views.{opening_of};
 ghost use Rattle.market_lock.specs.Seen.{IsSamePass, Looks, HasCut};
 ghost use Rattle.market_lock.specs.Moves.{Called, Fails};
-ghost use Rattle.office_scribe.specs.Written.{part_of, HasMissed, IsElsewhere, HasWrittenAll, IsAlone};
-ghost use Rattle.office_scribe.specs.declared.missed.Missed.TheVariants.{NoPart};
+ghost use Rattle.office_crew.specs.Written.{part_of, HasMissed, IsElsewhere, HasWrittenAll, IsAlone};
+ghost use Rattle.office_crew.specs.declared.missed.Missed.TheVariants.{NoPart};
 
 use crate::missed::Missed;
 use edit_history::{CallFault, Part};
@@ -29,7 +29,7 @@ pub struct Scribe<C: Ledger, W: Ledger> {
 
 impl<C: Ledger, W: Ledger> Model for Scribe<C, W> {
     ghost use Rattle.std.specs.Prelude.{◌≤◌, length, take};
-    ghost use Rattle.office_scribe.specs.Written.{OfScribe};
+    ghost use Rattle.office_crew.specs.Written.{OfScribe};
 
     ghost Value = { OfScribe };
 
