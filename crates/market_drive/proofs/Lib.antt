@@ -4,3 +4,7 @@ pub mod Fed
 pub mod Once
 pub mod Openings
 pub mod Endings
+mod Examples
+pub mod Requests
+pub mod Allotments
+pub mod Jobs

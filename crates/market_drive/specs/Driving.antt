@@ -8,7 +8,7 @@ use Rattle.drive_plan.specs.Format.{plan_of}
 use Rattle.drive_plan.specs.Outcome.{IsOutcome}
 use Rattle.drive_plan.specs.declared.task.Done.{Done}
 use Rattle.drive_plan.specs.declared.reader.PlanFault.TheVariants as plan
-use Rattle.plan_market.specs.Servable.{IsUnservable, IsLeastUnservable}
+use Rattle.market_drive.specs.Servable.{IsUnservable, IsLeastUnservable}
 use Rattle.worker_main.specs.declared.report.Ended.{Ended}
 use Rattle.market_drive.specs.Causes.{AreEnds, CanEndIn, terms_of_plan}
 use Rattle.market_drive.specs.Ending.{end_fault}

@@ -1,3 +1,5 @@
+pub mod Making
+pub mod Servable
 pub mod Racks
 pub mod Lines
 pub mod Arenas

@@ -4,12 +4,13 @@ ghost use Rattle.drive_plan.specs.Format.{plan_of};
 ghost use Rattle.drive_plan.specs.Outcome.{IsOutcome};
 ghost use Rattle.market_drive.specs.Driving.{HasCause, HasCauseIn, IsDriven, IsDue, IsEnding, IsLate, IsOfText, IsOfficeOf, IsOfficeOfText};
 
+use crate::commands::plan_commands;
 use crate::driven::Driven;
 use crate::fault::DriveFault;
 use crate::lines::line_up;
+use crate::servable::unservable;
 use crate::shifts::{Shifts, work_shifts};
 use drive_plan::{Done, Plan, PlanFault, read_plan};
-use plan_market::{plan_commands, unservable};
 use std::alloc::{AllocError, Global};
 use std::marker::Brand;
 use std::sync::Wait;

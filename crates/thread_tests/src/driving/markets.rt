@@ -1,8 +1,8 @@
 //! What no clause says: that these plans are answered at all where memory is ample, and what.
 use crate::asserts::same;
 use drive_plan::{Plan, read_plan};
+use market_drive::{plan_commands, unservable};
 use market_types::{ArenaId, Cmd, Level};
-use plan_market::{plan_commands, unservable};
 use std::alloc::{AllocError, Global};
 use std::process::Abort;
 use std::rt::HostRuntime;

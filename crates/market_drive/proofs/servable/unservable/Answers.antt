@@ -1,9 +1,9 @@
 use Rattle.std.proofs.Common.{◌≡◌, ◌∙◌, ◌≤◌, true, length, ap, arith, subst, sym}
 use Rattle.std.specs.List.{All}
 use Rattle.drive_plan.specs.Plans.{FitsJob}
-use Rattle.plan_market.specs.Servable.{has_job}
-use Rattle.plan_market.proofs.Jobs.{has_job-among}
-use Rattle.plan_market.proofs.servable.unservable.Goals as goal
+use Rattle.market_drive.specs.Servable.{has_job}
+use Rattle.market_drive.proofs.Jobs.{has_job-among}
+use Rattle.market_drive.proofs.servable.unservable.Goals as goal
 
 pub returns-then-branch-eq0-clause-least : goal.returns-then-branch-eq0-clause-least
 returns-then-branch-eq0-clause-least c =

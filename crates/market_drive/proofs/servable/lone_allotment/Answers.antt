@@ -4,9 +4,9 @@ use Rattle.std.proofs.lemmas.Option.{slice_get_read}
 use Rattle.market_types.specs.State.{opening}
 use Rattle.market_types.specs.Allotment.{allotment_of}
 use Rattle.market_types.specs.History.{state_after}
-use Rattle.plan_market.specs.Making.{founding}
-use Rattle.plan_market.specs.Servable.{asks_if, calls_of_first, lone_state}
-use Rattle.plan_market.proofs.servable.lone_allotment.Goals as goal
+use Rattle.market_drive.specs.Making.{founding}
+use Rattle.market_drive.specs.Servable.{asks_if, calls_of_first, lone_state}
+use Rattle.market_drive.proofs.servable.lone_allotment.Goals as goal
 
 pub returns : goal.returns
 returns c =

@@ -1,6 +1,6 @@
 //! The commands that make a plan's market.
 ghost use Rattle.std.specs.Prelude.{◌≡◌, ◌≤◌, IfOk};
-ghost use Rattle.plan_market.specs.Making.{asks, commands_of, founding, opens};
+ghost use Rattle.market_drive.specs.Making.{asks, commands_of, founding, opens};
 
 use drive_plan::{Plan, PlannedArena};
 use market_types::{ArenaId, Cmd};

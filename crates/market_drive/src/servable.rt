@@ -3,7 +3,7 @@ ghost use Rattle.std.specs.Prelude.{◌≡◌, ℕ, ◌≤◌, length, IfOk, IfS
 ghost use Rattle.market_types.specs.State.{opening};
 ghost use Rattle.market_types.specs.Allotment.{allotment_of};
 ghost use Rattle.market_types.specs.History.{state_after};
-ghost use Rattle.plan_market.specs.Servable.{calls_of_first, has_job, IsLeastUnservable, IsUnservable, lone_state};
+ghost use Rattle.market_drive.specs.Servable.{calls_of_first, has_job, IsLeastUnservable, IsUnservable, lone_state};
 
 use crate::commands::{founding, request};
 use drive_plan::{Plan, PlannedJob};

@@ -1,7 +1,7 @@
 use Rattle.std.proofs.Common.{◌≡◌, drop}
 use Rattle.market_types.specs.History.{state_after}
-use Rattle.plan_market.specs.Servable.{calls_of_first}
-use Rattle.plan_market.proofs.servable.give.Given as goal
+use Rattle.market_drive.specs.Servable.{calls_of_first}
+use Rattle.market_drive.proofs.servable.give.Given as goal
 
 abbrev pub invariant-loop-cmd : goal.invariant-loop-cmd
 invariant-loop-cmd l =

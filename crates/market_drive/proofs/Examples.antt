@@ -4,8 +4,8 @@ use Rattle.market_types.specs.declared.command.Cmd.TheVariants.{Open, Request, C
 use Rattle.market_types.specs.Allotment.{allotment_of}
 use Rattle.drive_plan.specs.declared.plan.PlannedArena.{PlannedArena}
 use Rattle.drive_plan.specs.Plans.{Planned}
-use Rattle.plan_market.specs.Making.{commands_of}
-use Rattle.plan_market.specs.Servable.{lone_state}
+use Rattle.market_drive.specs.Making.{commands_of}
+use Rattle.market_drive.specs.Servable.{lone_state}
 
 -- a plan of 8 and 64 with three levels, and no jobs
 abbrev planned : List PlannedArena → List ℕ → Planned

@@ -5,7 +5,7 @@ use Rattle.std.proofs.lemmas.Bool.{cases_Bool, eqb-true}
 use Rattle.std.proofs.lemmas.List.Elements.{All-head, All-tail}
 use Rattle.drive_plan.specs.declared.task.PlannedJob.{PlannedJob}
 use Rattle.drive_plan.specs.Plans.{FitsJob}
-use Rattle.plan_market.specs.Servable.{has_job}
+use Rattle.market_drive.specs.Servable.{has_job}
 
 -- an arena that has a job is one of the plan's
 pub has_job-among : (arenas a : ℕ) (jobs : List PlannedJob) → All (FitsJob arenas) jobs → has_job jobs a ≡ true → (1 ≤ a) × (a ≤ arenas)

@@ -1,6 +1,6 @@
 use Rattle.std.proofs.Common.{◌∙◌, sym}
-use Rattle.plan_market.proofs.Allotments.{allotment-seen, allotment-unseen}
-use Rattle.plan_market.proofs.servable.allotment.Goals as goal
+use Rattle.market_drive.proofs.Allotments.{allotment-seen, allotment-unseen}
+use Rattle.market_drive.proofs.servable.allotment.Goals as goal
 
 pub returns-in-Some : goal.returns-in-Some
 returns-in-Some c = allotment-seen c.args.market.now c.args.arena c.in-Some.view (sym c.view.ensures.exact ∙ c.in-Some.is)

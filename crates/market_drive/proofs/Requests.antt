@@ -6,7 +6,7 @@ use Rattle.std.proofs.lemmas.List.FromFn.{get_or-enumerate_from, length-enumerat
 use Rattle.market_types.specs.declared.command.Cmd.{Cmd}
 use Rattle.drive_plan.specs.declared.plan.PlannedArena.{PlannedArena}
 use Rattle.drive_plan.specs.Plans.{Planned}
-use Rattle.plan_market.specs.Making.{asks, requests}
+use Rattle.market_drive.specs.Making.{asks, requests}
 
 pub length-requests : (p : Planned) → length (requests p) ≡ length p.arenas
 length-requests p =

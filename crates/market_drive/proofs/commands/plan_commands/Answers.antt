@@ -1,8 +1,8 @@
 use Rattle.std.proofs.Common.{◌≡◌, ◌∙◌, ◌<◌, ◌≤◌, ◌++◌, ◌+◌, [], ◌∷◌, ap, append_assoc, arith, get_or, length, subst, sym, take}
 use Rattle.std.proofs.lemmas.List.{take_all}
-use Rattle.plan_market.specs.Making.{asks, founding, requests}
-use Rattle.plan_market.proofs.Requests.{length-requests, requests_more}
-use Rattle.plan_market.proofs.commands.plan_commands.Goals as goal
+use Rattle.market_drive.specs.Making.{asks, founding, requests}
+use Rattle.market_drive.proofs.Requests.{length-requests, requests_more}
+use Rattle.market_drive.proofs.commands.plan_commands.Goals as goal
 
 pub loop-index-preserved : goal.loop-index-preserved
 loop-index-preserved c =

@@ -9,7 +9,7 @@ use Rattle.market_types.specs.History.{state_after}
 use Rattle.drive_plan.specs.declared.plan.PlannedArena.{PlannedArena}
 use Rattle.drive_plan.specs.declared.task.PlannedJob.{PlannedJob}
 use Rattle.drive_plan.specs.Plans.{Planned}
-use Rattle.plan_market.specs.Making.{asks, founding}
+use Rattle.market_drive.specs.Making.{asks, founding}
 
 -- the commands as calls of seat 0
 abbrev pub calls_of_first : List Cmd → List Call

@@ -1,4 +1,0 @@
-mod Examples
-pub mod Requests
-pub mod Allotments
-pub mod Jobs
