@@ -14,12 +14,8 @@ fn main(rt: HostRuntime) -> Result<()> {
 /// Seat 0 opens an arena, asks for three workers there, and is placed; each reply is printed.
 fn place_one(rt: &HostRuntime, market: &mut Market) -> Result<()> {
     let arena = ArenaId::new(1);
-    let commands = [
-        Cmd::Open(8, 1, Level::from_index(1)),
-        Cmd::Request(arena, 3, 0),
-        Cmd::Join,
-    ];
-    for cmd in commands {
+    let open = Cmd::Open(8, 1, Level::from_index(1));
+    for cmd in [open, Cmd::Request(arena, 3, 0), Cmd::Join] {
         market.has_a_seat();
         let reply = market.apply(rt.alloc(), SeatNo::new(0), cmd)?;
         println!(rt; "{}", reply_text(rt.alloc(), &reply)?)?;
