@@ -19,7 +19,7 @@ use edit_history::{Chronicle, Keeping};
 use journal_replay::{Extent, Header, write_header};
 use market_lock::Closed;
 use market_types::{LastNumber, OpenFault};
-use office_crew::{Meeting, Terms, meet};
+use office_crew::{Meeting, MeetingTerms, meet};
 use std::alloc::{AllocError, Global};
 use std::rt::HostRuntime;
 use std::sync::Wait;
@@ -60,11 +60,11 @@ impl Record {
     }
 
     /// What the office is opened with.
-    fn terms(self) -> Terms
+    fn terms(self) -> MeetingTerms
         ensures lasting { (seats : ℕ) → opening_to result.base result.hard seats result.levels result.last ≡ lasting seats }
         ensures keeping { result.keeping ≡ keeping_of self }
     {
-        Terms {
+        MeetingTerms {
             base: BASE,
             hard: HARD,
             places: PLACES,

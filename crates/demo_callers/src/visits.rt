@@ -9,13 +9,13 @@ use crate::visitor::Visitor;
 use edit_history::Keeping;
 use market_lock::Closed;
 use market_types::LastNumber;
-use office_crew::{Meeting, Terms, meet};
+use office_crew::{Meeting, MeetingTerms, meet};
 use std::alloc::{AllocError, Global};
 use std::sync::Wait;
 use std::thread::Threads;
 
 /// What the demo's office is opened with.
-pub const TERMS: Terms = Terms {
+pub const TERMS: MeetingTerms = MeetingTerms {
     base: 8,
     hard: 64,
     places: 1_048_576,
@@ -65,7 +65,7 @@ fn count_agreeing(alloc: Global, closed: &Closed, visitors: &[Visitor]) -> Resul
 pub fn work<R: Threads + Wait + Sync>(
     rt: &R,
     alloc: Global,
-    terms: Terms,
+    terms: MeetingTerms,
     callers: u8,
     calls: u32,
 ) -> Result<Outcome, DemoFault>
@@ -77,7 +77,7 @@ pub fn work<R: Threads + Wait + Sync>(
 {
     let visitors = visitors(alloc, callers, calls)?;
     let nobody = Vec::<Visitor>::new(alloc);
-    let terms = Terms {
+    let terms = MeetingTerms {
         keeping: Keeping::Everything,
         ..terms
     };

@@ -4,12 +4,12 @@
 use anyhow::{Result, bail};
 use edit_history::Keeping;
 use market_types::{ArenaId, Cmd, LastNumber, Level};
-use office_crew::{Meeting, Script, Terms, meet};
+use office_crew::{Meeting, MeetingTerms, Script, meet};
 use std::sync::Wait;
 use std::thread::Threads;
 
 /// Seven workers, three levels, room for a hundred calls; every call is kept.
-const TERMS: Terms = Terms {
+const TERMS: MeetingTerms = MeetingTerms {
     base: 8,
     hard: 64,
     places: 100,

@@ -24,7 +24,7 @@ use drive_plan::Plan;
 use edit_history::{Keeping, MOST_PLACES};
 use market_lock::Closed;
 use market_types::{Cmd, LastNumber};
-use office_crew::{Meeting, Terms, Unmet, meet};
+use office_crew::{Meeting, MeetingTerms, Unmet, meet};
 use std::alloc::{AllocError, Global};
 use std::sync::Wait;
 use std::thread::Threads;
@@ -112,7 +112,7 @@ fn openers<'a>(alloc: Global, cmds: &'a [Cmd]) -> Result<Vec<Opener<'a>>, AllocE
 fn work_together<Y: Yard + Send + Sync, G: Gate + Sync, R: Threads + Wait + Sync>(
     rt: &R,
     alloc: Global,
-    terms: Terms,
+    terms: MeetingTerms,
     openers: Vec<Opener<'_>>,
     workers: Vec<Worker<'_, G, Y>>,
     racks: Racks,
@@ -202,7 +202,7 @@ pub(crate) fn work_shifts<Y: Yard + Send + Sync, G: Gate + Sync, R: Threads + Wa
     };
     let mut racks = racks;
     man::<Y, G>(alloc, stations, gate, &mut racks, &mut workers);
-    let terms = Terms {
+    let terms = MeetingTerms {
         base: plan.base(),
         hard: plan.hard(),
         places: MOST_PLACES,

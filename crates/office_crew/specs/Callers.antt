@@ -6,7 +6,7 @@ use Rattle.market_lock.specs.Seen.{OfPass, OfPlaced}
 use Rattle.edit_history.specs.declared.terms.Terms as office
 use Rattle.office_crew.specs.declared.caller.Caller.{Caller}
 use Rattle.office_crew.specs.declared.caller.Caller.TheVariants.{Free, Working}
-use Rattle.office_crew.specs.declared.meeting.Terms as crew
+use Rattle.office_crew.specs.declared.meeting.MeetingTerms as crew
 
 -- what is known of it
 abbrev pub who_is : Caller OfPass OfPlaced → OfPass
@@ -22,5 +22,5 @@ may_ask (Working _) Join = false
 may_ask (Working _) _ = true
 
 -- the terms with so many seats, as an office keeps them
-abbrev pub terms_of : crew.Terms → ℕ → office.Terms
+abbrev pub terms_of : crew.MeetingTerms → ℕ → office.Terms
 terms_of t seats = record { base = t.base; hard = t.hard; seats = seats; places = t.places; levels = t.levels; last = t.last; keeping = t.keeping }

@@ -13,7 +13,7 @@ ghost use Rattle.office_crew.specs.Works.{HasFollowed, HaveWorked};
 
 use crate::caller::{Caller, Task};
 use crate::member::{Member, Room, let_others_work, work_at_once, work_in_turn};
-use edit_history::{Keeping, Terms as OfficeTerms};
+use edit_history::{Keeping, Terms};
 use market_lock::{Closed, Office, Pass, Placed};
 use market_types::{LastNumber, OpenFault};
 use std::alloc::{AllocError, Global};
@@ -24,7 +24,7 @@ use std::thread::Threads;
 
 /// What an office is opened with, as `Office::on_terms` takes it. It has a seat for each task.
 #[derive(Clone, Copy, Debug)]
-pub struct Terms {
+pub struct MeetingTerms {
     pub base: u32,
     pub hard: u32,
     /// Where no entries are kept, two more than seats are enough.
@@ -269,7 +269,7 @@ fn opened<
 >(
     rt: &R,
     alloc: Global,
-    terms: Terms,
+    terms: MeetingTerms,
     openers: Vec<O>,
     tasks: Vec<T>,
     calls: Blank,
@@ -288,7 +288,7 @@ fn opened<
     ensures refused { IfErr result (λ unmet. (unmet.fault ≡ OpenFault.Memory) ⊎ (opened_by (terms_of terms (vec_len openers + vec_len tasks)) ≡ Err unmet.fault)) }
     ensures unmet { IfErr result (λ unmet. (unmet.openers ≡ openers) × (unmet.tasks ≡ tasks)) }
 {
-    let terms = OfficeTerms {
+    let terms = Terms {
         base: terms.base,
         hard: terms.hard,
         seats: (openers.len() + tasks.len()) as u8,
@@ -319,7 +319,7 @@ fn opened<
 pub fn meet<O: Task + Send, T: Task + Send, R: Threads + Wait + Sync>(
     rt: &R,
     alloc: Global,
-    terms: Terms,
+    terms: MeetingTerms,
     openers: Vec<O>,
     tasks: Vec<T>,
 ) -> Result<Meeting<O, T>, Unmet<O, T>>

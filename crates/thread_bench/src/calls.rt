@@ -6,14 +6,14 @@ use crate::fault::BenchFault;
 use crate::repeater::{Repeater, Turn};
 use edit_history::Keeping;
 use market_types::LastNumber;
-use office_crew::{Terms, meet};
+use office_crew::{MeetingTerms, meet};
 use std::alloc::{AllocError, Global};
 use std::rt::Clock;
 use std::sync::Wait;
 use std::thread::Threads;
 
 /// 64 workers may be active.
-const TERMS: Terms = Terms {
+const TERMS: MeetingTerms = MeetingTerms {
     base: 65,
     hard: 65_535,
     places: 1_048_576,
@@ -63,7 +63,7 @@ impl Scene {
     ) -> Result<u64, BenchFault> {
         let repeaters = repeaters(alloc, self, self.crowd.count())?;
         let nobody = Vec::<Repeater>::new(alloc);
-        let terms = Terms {
+        let terms = MeetingTerms {
             keeping: self.turn.keeping(),
             ..TERMS
         };

@@ -2,7 +2,7 @@
 use crate::asserts::{holds, same};
 use edit_history::Keeping;
 use market_types::{ArenaId, Cmd, LastNumber, Level, OpenFault};
-use office_crew::{Meeting, Script, Terms, meet};
+use office_crew::{Meeting, MeetingTerms, Script, meet};
 use std::alloc::Global;
 use std::process::Abort;
 use std::rt::HostRuntime;
@@ -10,7 +10,7 @@ use std::str;
 use std::sync::Wait;
 use std::thread::Threads;
 
-const TERMS: Terms = Terms {
+const TERMS: MeetingTerms = MeetingTerms {
     base: 8,
     hard: 64,
     places: 100,

@@ -5,7 +5,7 @@ use crate::asserts::{holds, same};
 use edit_history::{Chronicle, Keeping};
 use market_lock::{Office, Pass, Placed};
 use market_types::{ArenaId, Cmd, LastNumber, Level, SeatNo, push_reply};
-use office_crew::{Asked, Caller, Meeting, Script, Task, Terms, ask, meet};
+use office_crew::{Asked, Caller, Meeting, MeetingTerms, Script, Task, ask, meet};
 use std::alloc::Global;
 use std::process::Abort;
 use std::rt::HostRuntime;
@@ -14,7 +14,7 @@ use std::sync::ledger::Ledger;
 use std::thread;
 use std::thread::Threads;
 
-const TERMS: Terms = Terms {
+const TERMS: MeetingTerms = MeetingTerms {
     base: 8,
     hard: 64,
     places: 100,
@@ -59,7 +59,7 @@ fn nobody<'a>(alloc: Global) -> Vec<Script<'a>>
 fn is_told<R: Threads + Wait + Sync + Abort>(
     rt: &R,
     alloc: Global,
-    terms: Terms,
+    terms: MeetingTerms,
     cmds: &[Cmd],
     due: &[u8],
     totals: (u64, u64),
@@ -91,14 +91,14 @@ fn a_worker_is_still_there_when_the_office_closes(rt: HostRuntime) {
 
 #[test]
 fn the_last_place_is_for_the_leave(rt: HostRuntime) {
-    let terms = Terms { places: 4, ..TERMS };
+    let terms = MeetingTerms { places: 4, ..TERMS };
     let due = b"arena 1\nrequest 1\nplaced 1\nC2 history full\nC2 history full\nleft 1\n";
     is_told(&rt, rt.alloc(), terms, &visit(), due, (4, 0));
 }
 
 #[test]
 fn a_join_takes_two_places(rt: HostRuntime) {
-    let terms = Terms { places: 3, ..TERMS };
+    let terms = MeetingTerms { places: 3, ..TERMS };
     let due =
         b"arena 1\nrequest 1\nC2 history full\narena 1 request 1 allot 1 top yes active 0 recall 0 hire 1\nnot asked\nnot asked\n";
     is_told(&rt, rt.alloc(), terms, &visit(), due, (3, 0));
@@ -168,7 +168,7 @@ fn the_next_thread_sees_what_the_last_one_did(rt: HostRuntime) {
 
 /// Two callers ask for the limit so many times each, at the same time.
 fn are_told_the_limit<R: Threads + Wait + Sync + Abort>(rt: &R, alloc: Global, cmds: &[Cmd]) {
-    let terms = Terms {
+    let terms = MeetingTerms {
         places: 2_000,
         ..TERMS
     };

@@ -8,7 +8,7 @@ use edit_history::Chronicle;
 use journal_replay::{Verdict, check};
 use market_core::Market;
 use market_types::{Entry, push_reply};
-use office_crew::Terms;
+use office_crew::MeetingTerms;
 use std::alloc::{AllocError, Global};
 use std::process::Abort;
 use std::rt::HostRuntime;
@@ -70,7 +70,7 @@ fn is_answered_alike(
 fn meets<R: Threads + Wait + Sync + Abort>(
     rt: &R,
     alloc: Global,
-    terms: Terms,
+    terms: MeetingTerms,
     callers: u8,
     calls: u32,
 ) -> Outcome
@@ -110,7 +110,7 @@ fn sixteen_callers_make_nearly_a_million_calls(rt: HostRuntime) {
 /// The last places are for placed workers to leave.
 #[test]
 fn a_history_fills_up(rt: HostRuntime) {
-    let terms = Terms {
+    let terms = MeetingTerms {
         places: 600,
         ..TERMS
     };

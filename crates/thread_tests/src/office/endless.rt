@@ -7,7 +7,7 @@ use crate::asserts::{holds, same};
 use edit_history::Keeping;
 use market_lock::{Closed, Office, Pass, Placed};
 use market_types::{Cmd, LastNumber, OpenFault};
-use office_crew::{Asked, Caller, Task, Terms, ask, meet};
+use office_crew::{Asked, Caller, MeetingTerms, Task, ask, meet};
 use std::alloc::Global;
 use std::process::Abort;
 use std::rt::HostRuntime;
@@ -16,7 +16,7 @@ use std::sync::ledger::Ledger;
 use std::thread::Threads;
 
 /// No entry is kept.
-const UNRECORDED: Terms = Terms {
+const UNRECORDED: MeetingTerms = MeetingTerms {
     base: 8,
     hard: 64,
     places: 20,
@@ -113,7 +113,7 @@ fn an_unrecorded_crew_makes_more_calls_than_a_history_has_places(rt: HostRuntime
 fn come_back<R: Threads + Wait + Sync + Abort>(
     rt: &R,
     alloc: Global,
-    terms: Terms,
+    terms: MeetingTerms,
     due: OpenFault,
 ) {
     let askers = askers(rt, alloc, 1);
@@ -128,12 +128,12 @@ fn come_back<R: Threads + Wait + Sync + Abort>(
 
 #[test]
 fn askers_come_back_from_an_office_that_does_not_open(rt: HostRuntime) {
-    let no_places = Terms {
+    let no_places = MeetingTerms {
         places: 0,
         ..UNRECORDED
     };
     come_back(&rt, rt.alloc(), no_places, OpenFault::BadPlaces);
-    let no_base = Terms {
+    let no_base = MeetingTerms {
         base: 0,
         ..UNRECORDED
     };
