@@ -1,3 +1,4 @@
+pub mod Attempts
 pub mod Cutting
 pub mod Views
 pub mod Rule

@@ -11,12 +11,15 @@
 //! first 18,446,744,073,708,503,039 calls ([`Office::open_unrecorded`]): its history exists in proofs alone then. All that is proved
 //! of one holds of the others.
 //!
+//! A call waits while another is served. An attempt ([`Office::try_call`] and the like) does not: it is `Busy` then, and changes nothing.
+//!
 //! Behind it lies one lock. The market with its history and the book of its counts lie on a desk (`market_desk`), in the one
-//! slot of a table (`atomic_table`) whose one word tells whether the desk is at home. A call takes the desk, has it served, and
-//! gives it back; a take that loses waits and tries again. `rule` says what holds between any two steps, `ticket` is one
+//! slot of a table (`atomic_table`) whose one word tells whether the desk is at home. An attempt takes the desk, has it
+//! served, and gives it back; a call that waits makes attempts. `rule` says what holds between any two steps, `ticket` is one
 //! call, `opening` and `closing` are the two ends.
 #![tactic(auto)]
 
+mod attempt;
 mod closing;
 mod office;
 mod opening;
@@ -25,5 +28,6 @@ mod rule;
 mod ticket;
 mod view;
 
+pub use attempt::Attempt;
 pub use office::{Closed, Office};
 pub use pass::{Joined, Pass, Placed, Stayed};

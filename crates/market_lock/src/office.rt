@@ -1,6 +1,6 @@
 //! The office: what each call does to what its caller knows.
-ghost use Rattle.std.specs.Prelude.{◌≡◌, ℕ, ◌+◌, ◌<◌, ◌≤◌, ◌==◌, [], length, false, vec_len, vec_capacity, slice_get, Some, IfOk, IfErr, IfSome, OnSome, IsSome, All, sum_by, count_by};
-ghost use Rattle.market_types.specs.declared.command.Cmd.TheVariants.{Leave};
+ghost use Rattle.std.specs.Prelude.{◌≡◌, ℕ, ◌+◌, ◌<◌, ◌≤◌, ◌==◌, [], length, false, vec_len, vec_capacity, slice_get, Some, None, IfOk, IfErr, OnErr, IfSome, OnSome, IsSome, All, sum_by, count_by};
+ghost use Rattle.market_types.specs.declared.command.Cmd.TheVariants.{Join, Stay, Leave};
 ghost use Rattle.market_types.specs.declared.reply.OpenFault.TheVariants.{Memory};
 ghost use Rattle.market_types.specs.declared.reply.Reply.TheVariants.{Left};
 ghost use Rattle.market_types.specs.Allotment.{active};
@@ -10,21 +10,26 @@ ghost use Rattle.edit_history.specs.Chronicled.{market_of, most_forgotten, opene
 ghost use Rattle.edit_history.specs.Parts.{EndsWith};
 ghost use Rattle.edit_history.specs.Places.{placed as seats_placed};
 ghost use Rattle.edit_history.specs.declared.keeping.Keeping.TheVariants.{InParts, Nothing};
-ghost use Rattle.market_types.specs.History.{IsLegal};
+ghost use Rattle.market_types.specs.History.{IsLegal, place_after};
+ghost use Rattle.market_core.specs.Moves.{Answers};
+ghost use Rattle.market_desk.specs.Workers.{own_place};
+ghost use Rattle.market_lock.specs.Attempts.{IfMade, IfBusy};
 ghost use Rattle.market_lock.specs.Views.{opening_of, chronicle_of, chronicle_cut, IsEndless};
 ghost use Rattle.market_lock.specs.Seen.{OfPass, OfPlaced, IsSamePass, Looks, HasCut, fresh, kept_by, Met, AllParts};
 ghost use Rattle.market_lock.specs.Moves.{Called, Fails, HasJoined, HasStayed};
 ghost use Rattle.market_lock.specs.Headline.{IsGivenBy};
 
+use crate::attempt::Attempt;
 use crate::closing::{take_back_passes, take_back_placed};
 use crate::opening::{Furnished, deal, furnish};
 use crate::pass::{Joined, Pass, Placed, Stayed};
 use crate::rule::{Enter, Shelf};
+use crate::ticket::Ticket;
 use edit_history::{
     CallFault, Chronicle, Keeping, Part, Terms, a_forgetful_chronicle_is_never_full,
     own_entries_place_a_seat,
 };
-use market_types::{Cmd, Entry, LastNumber, OpenFault, Reply, SeatNo};
+use market_types::{ArenaId, Cmd, Entry, LastNumber, OpenFault, Reply, SeatNo};
 use std::alloc::Global;
 use std::marker::Model;
 use std::sync::Wait;
@@ -234,6 +239,25 @@ impl<C: Ledger, W: Ledger> Office<C, W> {
         pass.ticket.call(rt, alloc, &self.table, cmd)
     }
 
+    /// An attempt at a `call`, which does not wait: where another caller has the desk it is `Busy`, and nothing is changed, nor
+    /// has its caller seen more. It makes one atomic operation then, and else those of a `call` that waits for nobody. All else is
+    /// as with `call`.
+    pub fn try_call(
+        &self,
+        alloc: Global,
+        pass: &mut Pass<C, W>,
+        cmd: Cmd,
+    ) -> Attempt<Result<Reply, CallFault>, ()>
+        requires office { pass.old.table ≡ self.now.table }
+        requires still { moves_seat cmd ≡ false }
+        ensures same { IsSamePass pass.old pass.new }
+        ensures answered { IfMade result (λ answer. IfOk answer (λ reply. Called pass.old cmd reply pass.new)) }
+        ensures failed { IfMade result (λ answer. IfErr answer (λ fault. Fails pass.old cmd fault pass.new)) }
+        ensures busy { IfBusy result (λ _. pass.new ≡ pass.old) }
+    {
+        pass.ticket.try_call(alloc, &self.table, cmd)
+    }
+
     /// The same by a placed worker, which stays where it is.
     pub fn call_placed<R: Wait>(
         &self,
@@ -252,6 +276,24 @@ impl<C: Ledger, W: Ledger> Office<C, W> {
         placed.ticket.call(rt, alloc, &self.table, cmd)
     }
 
+    /// An attempt at a `call_placed`.
+    pub fn try_call_placed(
+        &self,
+        alloc: Global,
+        placed: &mut Placed<C, W>,
+        cmd: Cmd,
+    ) -> Attempt<Result<Reply, CallFault>, ()>
+        requires office { placed.old.who.table ≡ self.now.table }
+        requires still { moves_seat cmd ≡ false }
+        ensures same { IsSamePass placed.old.who placed.new.who }
+        ensures answered { IfMade result (λ answer. IfOk answer (λ reply. Called placed.old.who cmd reply placed.new.who)) }
+        ensures failed { IfMade result (λ answer. IfErr answer (λ fault. Fails placed.old.who cmd fault placed.new.who)) }
+        ensures arena { placed.new.arena ≡ placed.old.arena }
+        ensures busy { IfBusy result (λ _. placed.new ≡ placed.old) }
+    {
+        placed.ticket.try_call(alloc, &self.table, cmd)
+    }
+
     /// Asks for an arena in need of a worker. Whatever others do, the seat is not placed before: so it is never told that it is.
     /// The faults are those of `call`; the pass then comes back.
     pub fn join<R: Wait>(
@@ -264,7 +306,40 @@ impl<C: Ledger, W: Ledger> Office<C, W> {
         ensures exact { HasJoined pass result }
     {
         let Pass { mut ticket } = pass;
-        match ticket.call(rt, alloc, &self.table, Cmd::Join) {
+        let answer = ticket.call(rt, alloc, &self.table, Cmd::Join);
+        Self::after_join(ticket, answer)
+    }
+
+    /// An attempt at a `join`.
+    pub fn try_join(
+        &self,
+        alloc: Global,
+        pass: Pass<C, W>,
+    ) -> Attempt<Joined<Pass<C, W>, Placed<C, W>>, Pass<C, W>>
+        requires office { pass.table ≡ self.now.table }
+        ensures exact { IfMade result (λ joined. HasJoined pass joined) }
+        ensures busy { IfBusy result (λ back. back ≡ pass) }
+    {
+        let Pass { mut ticket } = pass;
+        match ticket.try_call(alloc, &self.table, Cmd::Join) {
+            Attempt::Made(answer) => Attempt::Made(Self::after_join(ticket, answer)),
+            Attempt::Busy(()) => Attempt::Busy(Pass { ticket }),
+        }
+    }
+
+    /// What a Join has made of its caller.
+    #[inline(always)]
+    fn after_join(
+        ticket: Ticket<C, W>,
+        answer: Result<Reply, CallFault>,
+    ) -> Joined<Pass<C, W>, Placed<C, W>>
+        requires answers { IfOk answer (λ reply. Answers None Join reply) }
+        requires moved { IfOk answer (λ reply. own_place ticket.mine ≡ place_after None reply) }
+        requires still { OnErr answer (own_place ticket.mine ≡ None) }
+        ensures ok { IfOk answer (λ reply. (p : OfPass) → Called p Join reply ticket → HasJoined p result) }
+        ensures err { IfErr answer (λ fault. (p : OfPass) → Fails p Join fault ticket → HasJoined p result) }
+    {
+        match answer {
             Ok(reply) => match &reply {
                 Reply::Placed(arena) => Joined::Placed(Placed {
                     ticket,
@@ -289,7 +364,41 @@ impl<C: Ledger, W: Ledger> Office<C, W> {
         ensures exact { HasStayed placed result }
     {
         let Placed { mut ticket, arena } = placed;
-        match ticket.call(rt, alloc, &self.table, Cmd::Stay) {
+        let answer = ticket.call(rt, alloc, &self.table, Cmd::Stay);
+        Self::after_stay(ticket, arena, answer)
+    }
+
+    /// An attempt at a `stay`.
+    pub fn try_stay(
+        &self,
+        alloc: Global,
+        placed: Placed<C, W>,
+    ) -> Attempt<Stayed<Pass<C, W>, Placed<C, W>>, Placed<C, W>>
+        requires office { placed.who.table ≡ self.now.table }
+        ensures exact { IfMade result (λ stayed. HasStayed placed stayed) }
+        ensures busy { IfBusy result (λ back. back ≡ placed) }
+    {
+        let Placed { mut ticket, arena } = placed;
+        match ticket.try_call(alloc, &self.table, Cmd::Stay) {
+            Attempt::Made(answer) => Attempt::Made(Self::after_stay(ticket, arena, answer)),
+            Attempt::Busy(()) => Attempt::Busy(Placed { ticket, arena }),
+        }
+    }
+
+    /// What a Stay has made of the worker of this arena.
+    #[inline(always)]
+    fn after_stay(
+        ticket: Ticket<C, W>,
+        arena: ArenaId,
+        answer: Result<Reply, CallFault>,
+    ) -> Stayed<Pass<C, W>, Placed<C, W>>
+        requires answers { IfOk answer (λ reply. Answers (Some arena) Stay reply) }
+        requires moved { IfOk answer (λ reply. own_place ticket.mine ≡ place_after (Some arena) reply) }
+        requires still { OnErr answer (own_place ticket.mine ≡ Some arena) }
+        ensures ok { IfOk answer (λ reply. (p : OfPlaced) → p.arena ≡ arena → Called p.who Stay reply ticket → HasStayed p result) }
+        ensures err { IfErr answer (λ fault. (p : OfPlaced) → p.arena ≡ arena → Fails p.who Stay fault ticket → HasStayed p result) }
+    {
+        match answer {
             Ok(reply) => match &reply {
                 Reply::Stays(_) => Stayed::Stays(Placed { ticket, arena }),
                 Reply::Recalled(_) => Stayed::Recalled(Pass { ticket }),
@@ -311,6 +420,20 @@ impl<C: Ledger, W: Ledger> Office<C, W> {
         match ticket.call(rt, self.alloc, &self.table, Cmd::Leave) {
             Ok(_) => Pass { ticket },
             Err(_) => unreachable!(),
+        }
+    }
+
+    /// An attempt at a `leave`. It takes no memory, and is not refused where the desk is at home.
+    pub fn try_leave(&self, placed: Placed<C, W>) -> Attempt<Pass<C, W>, Placed<C, W>>
+        requires office { placed.who.table ≡ self.now.table }
+        ensures exact { IfMade result (λ pass. Called placed.who Leave (Left placed.arena) pass) }
+        ensures busy { IfBusy result (λ back. back ≡ placed) }
+    {
+        let Placed { mut ticket, arena } = placed;
+        match ticket.try_call(self.alloc, &self.table, Cmd::Leave) {
+            Attempt::Made(Ok(_)) => Attempt::Made(Pass { ticket }),
+            Attempt::Made(Err(_)) => unreachable!(),
+            Attempt::Busy(()) => Attempt::Busy(Placed { ticket, arena }),
         }
     }
 
@@ -338,6 +461,32 @@ impl<C: Ledger, W: Ledger> Office<C, W> {
         let mut emptied = spare;
         emptied.clear();
         pass.ticket.cut(rt, &self.table, emptied)
+    }
+
+    /// An attempt at a `cut`. Where another caller has the desk the spare vector comes back, emptied, with the room that it had.
+    pub fn try_cut(
+        &self,
+        pass: &mut Pass<C, W>,
+        spare: Vec<Entry>,
+    ) -> Attempt<Option<Part>, Vec<Entry>>
+        requires office { pass.old.table ≡ self.now.table }
+        ensures same { IsSamePass pass.old pass.new }
+        ensures legal { IfMade result (λ _. IsLegal (opening_of pass.new.terms) pass.new.seen) }
+        ensures looks { IfMade result (λ _. Looks pass.old pass.new) }
+        ensures later { IfMade result (λ _. pass.old.from ≤ pass.new.from) }
+        ensures part { IfMade result (λ answer. IfSome answer (λ part. EndsWith pass.new.seen part.from part.entries.items)) }
+        ensures goes_on { IfMade result (λ answer. IfSome answer (λ part. pass.old.from ≤ part.from)) }
+        ensures all { IfMade result (λ answer. OnSome answer (pass.new.from ≡ length pass.new.seen)) }
+        ensures cuts { IfMade result (λ answer. HasCut pass.old answer pass.new) }
+        ensures countable { IfMade result (λ answer. OnSome answer (length pass.new.seen ≤ most_forgotten)) }
+        ensures in_parts { IfMade result (λ answer. OnSome answer (pass.old.terms.keeping ≡ InParts)) }
+        ensures served { IfMade result (λ answer. pass.old.terms.keeping ≡ InParts → pass.old.terms.seats ≤ vec_capacity spare → length pass.new.seen ≤ most_forgotten → IsSome answer) }
+        ensures busy { IfBusy result (λ _. pass.new ≡ pass.old) }
+        ensures spare { IfBusy result (λ back. (back.items ≡ []) × (vec_capacity back ≡ vec_capacity spare)) }
+    {
+        let mut emptied = spare;
+        emptied.clear();
+        pass.ticket.try_cut(&self.table, emptied)
     }
 
     /// Takes all passes and placed workers back, and leaves one history: each of them had seen a beginning of it, and its entries

@@ -1,5 +1,5 @@
-//! What a pass and a placed worker have in common, and one call of it.
-ghost use Rattle.std.specs.Prelude.{◌≡◌, ◌<◌, ◌≤◌, length, false, vec_capacity, IfOk, IfErr, IsOk, IfSome, OnSome, IsSome};
+//! What a pass and a placed worker have in common, an attempt at one call of it, and the call that waits.
+ghost use Rattle.std.specs.Prelude.{◌≡◌, ◌<◌, ◌≤◌, length, true, false, vec_capacity, IfOk, IfErr, IsOk, IfSome, OnSome, IsSome};
 ghost use Rattle.market_types.specs.Commands.{moves_seat};
 ghost use Rattle.market_types.specs.History.{IsLegal, of_seat, place_after};
 ghost use Rattle.market_core.specs.Moves.{Answers};
@@ -8,6 +8,7 @@ ghost use Rattle.edit_history.specs.Parts.{EndsWith};
 ghost use Rattle.edit_history.specs.Places.{takes};
 ghost use Rattle.edit_history.specs.declared.keeping.Keeping.TheVariants.{InParts};
 ghost use Rattle.market_desk.specs.Workers.{own_place};
+ghost use Rattle.market_lock.specs.Attempts.{IfMade, IfBusy};
 ghost use Rattle.market_lock.specs.Cutting.{IsCutUp};
 ghost use Rattle.market_lock.specs.Views.{opening_of, same_cuts, next_cuts};
 ghost use Rattle.market_lock.specs.Rule.{Follows};
@@ -16,6 +17,7 @@ ghost use Rattle.market_lock.specs.Moves.{Fails};
 ghost use Rattle.market_lock.specs.Held.{IsIdle, HasTaken, HasDesk, HoldsDesk, HasGiven};
 ghost use Rattle.market_lock.specs.Serving.{Serves, MayServe, Cuts};
 
+use crate::attempt::Attempt;
 use crate::rule::{Give, GiveCut, Place, Shelf, Take};
 use edit_history::{CallFault, Part};
 use market_types::{Cmd, Entry, Reply, SeatNo};
@@ -66,21 +68,15 @@ fn wait_a_while(pauses: u32) -> u32 {
     MOST_PAUSES
 }
 
-/// Takes the desk, soon after it is at home.
-fn take<C: Ledger, W: Ledger, R: Wait>(rt: &R, table: &Shelf<C, W>, seat: &mut Place<C, W>)
+/// Takes the desk, if it is at home, and says whether it was.
+fn take<C: Ledger, W: Ledger>(table: &Shelf<C, W>, seat: &mut Place<C, W>) -> bool
     requires table { (seat.old.table_id ≡ table.now.shared.table_id) × (table.now.shared.table_id.words ≡ 1) }
     requires seat { IsIdle seat.old.me }
     ensures table { seat.new.table_id ≡ seat.old.table_id }
-    ensures seat { HasTaken seat.old.me seat.new.me }
+    ensures taken { result ≡ true → HasTaken seat.old.me seat.new.me }
+    ensures away { result ≡ false → seat.new.me ≡ seat.old.me }
 {
-    let mut pauses = FEWEST_PAUSES;
-    for _ in rt.forever() {
-        if table.shared.compare_exchange::<Take>(seat, 0, 0, 1) == 0 {
-            return;
-        }
-        pauses = wait_a_while(pauses);
-    }
-    unreachable!()
+    table.shared.compare_exchange::<Take>(seat, 0, 0, 1) == 0
 }
 
 /// One call of the desk that the seat has.
@@ -142,7 +138,43 @@ fn give_cut<C: Ledger, W: Ledger>(table: &Shelf<C, W>, seat: &mut Place<C, W>, p
 }
 
 impl<C: Ledger, W: Ledger> Ticket<C, W> {
-    /// One call: the desk is taken, serves it, and is given back.
+    /// An attempt at one call: the desk is taken, if it is at home, serves it, and is given back.
+    #[inline(always)]
+    pub fn try_call(
+        &mut self,
+        alloc: Global,
+        table: &Shelf<C, W>,
+        cmd: Cmd,
+    ) -> Attempt<Result<Reply, CallFault>, ()>
+        requires { (self.old.table ≡ table.now.shared.table_id) × (table.now.shared.table_id.words ≡ 1) × (table.now.shared.table_id.slots ≡ 1) }
+        ensures same { IsSamePass self.old self.new }
+        ensures legal { IfMade result (λ _. IsLegal (opening_of self.new.terms) self.new.seen) }
+        ensures ok { IfMade result (λ answer. IfOk answer (λ reply. Extends self.old cmd reply self.new)) }
+        ensures err { IfMade result (λ answer. IfErr answer (λ fault. Fails self.old cmd fault self.new)) }
+        ensures later { IfMade result (λ _. self.old.from ≤ self.new.from) }
+        ensures cuts { IfMade result (λ _. OthersCut self.old self.new) }
+        ensures answers { IfMade result (λ answer. IfOk answer (λ reply. Answers (own_place self.old.mine) cmd reply)) }
+        ensures moved { IfMade result (λ answer. IfOk answer (λ reply. own_place self.new.mine ≡ place_after (own_place self.old.mine) reply)) }
+        ensures still { moves_seat cmd ≡ false → own_place self.new.mine ≡ own_place self.old.mine }
+        ensures never { IfMade result (λ answer. takes (own_place self.old.mine) cmd ≡ 0 → IsOk answer) }
+        ensures busy { IfBusy result (λ _. self.new ≡ self.old) }
+    {
+        if !take(table, &mut self.seat) {
+            return Attempt::Busy(());
+        }
+        let answer = serve(
+            alloc,
+            table,
+            &mut self.seat,
+            &mut self.share,
+            self.number,
+            cmd,
+        );
+        give(table, &mut self.seat);
+        Attempt::Made(answer)
+    }
+
+    /// One call: attempts at it, with pauses between them, until the desk was at home.
     pub fn call<R: Wait>(
         &mut self,
         rt: &R,
@@ -162,20 +194,48 @@ impl<C: Ledger, W: Ledger> Ticket<C, W> {
         ensures still { moves_seat cmd ≡ false → own_place self.new.mine ≡ own_place self.old.mine }
         ensures never { takes (own_place self.old.mine) cmd ≡ 0 → IsOk result }
     {
-        take(rt, table, &mut self.seat);
-        let answer = serve(
-            alloc,
-            table,
-            &mut self.seat,
-            &mut self.share,
-            self.number,
-            cmd,
-        );
-        give(table, &mut self.seat);
-        answer
+        let cmd = &cmd;
+        let mut pauses = FEWEST_PAUSES;
+        for _ in rt.forever() {
+            match self.try_call(alloc, table, *cmd) {
+                Attempt::Made(answer) => return answer,
+                Attempt::Busy(()) => pauses = wait_a_while(pauses),
+            }
+        }
+        unreachable!()
     }
 
-    /// The desk is taken, hands out the entries that it keeps, and is given back.
+    /// An attempt at a cut: the desk is taken, if it is at home, hands out the entries that it keeps, and is given back.
+    #[inline(always)]
+    pub fn try_cut(
+        &mut self,
+        table: &Shelf<C, W>,
+        spare: Vec<Entry>,
+    ) -> Attempt<Option<Part>, Vec<Entry>>
+        requires { (self.old.table ≡ table.now.shared.table_id) × (table.now.shared.table_id.words ≡ 1) × (table.now.shared.table_id.slots ≡ 1) }
+        ensures same { IsSamePass self.old self.new }
+        ensures legal { IfMade result (λ _. IsLegal (opening_of self.new.terms) self.new.seen) }
+        ensures looks { IfMade result (λ _. Looks self.old self.new) }
+        ensures later { IfMade result (λ _. self.old.from ≤ self.new.from) }
+        ensures part { IfMade result (λ answer. IfSome answer (λ part. EndsWith self.new.seen part.from part.entries.items)) }
+        ensures goes_on { IfMade result (λ answer. IfSome answer (λ part. self.old.from ≤ part.from)) }
+        ensures all { IfMade result (λ answer. OnSome answer (self.new.from ≡ length self.new.seen)) }
+        ensures cuts { IfMade result (λ answer. HasCut self.old answer self.new) }
+        ensures countable { IfMade result (λ answer. OnSome answer (length self.new.seen ≤ most_forgotten)) }
+        ensures in_parts { IfMade result (λ answer. OnSome answer (self.old.terms.keeping ≡ InParts)) }
+        ensures served { IfMade result (λ answer. self.old.terms.keeping ≡ InParts → self.old.terms.seats ≤ vec_capacity spare → length self.new.seen ≤ most_forgotten → IsSome answer) }
+        ensures busy { IfBusy result (λ _. self.new ≡ self.old) }
+        ensures spare { IfBusy result (λ back. back ≡ spare) }
+    {
+        if !take(table, &mut self.seat) {
+            return Attempt::Busy(spare);
+        }
+        let part = cut_off(table, &mut self.seat, spare);
+        give_cut(table, &mut self.seat, &part);
+        Attempt::Made(part)
+    }
+
+    /// A cut: attempts at it, with pauses between them, until the desk was at home.
     pub fn cut<R: Wait>(&mut self, rt: &R, table: &Shelf<C, W>, spare: Vec<Entry>) -> Option<Part>
         requires { (self.old.table ≡ table.now.shared.table_id) × (table.now.shared.table_id.words ≡ 1) × (table.now.shared.table_id.slots ≡ 1) }
         ensures same { IsSamePass self.old self.new }
@@ -190,10 +250,16 @@ impl<C: Ledger, W: Ledger> Ticket<C, W> {
         ensures in_parts { OnSome result (self.old.terms.keeping ≡ InParts) }
         ensures served { self.old.terms.keeping ≡ InParts → self.old.terms.seats ≤ vec_capacity spare → length self.new.seen ≤ most_forgotten → IsSome result }
     {
-        take(rt, table, &mut self.seat);
-        let part = cut_off(table, &mut self.seat, spare);
-        give_cut(table, &mut self.seat, &part);
-        part
+        let mut spare = spare;
+        let mut pauses = FEWEST_PAUSES;
+        for _ in rt.forever() {
+            match self.try_cut(table, spare) {
+                Attempt::Made(part) => return part,
+                Attempt::Busy(back) => spare = back,
+            }
+            pauses = wait_a_while(pauses);
+        }
+        unreachable!()
     }
 
     /// Its seat.

@@ -8,25 +8,25 @@ use Rattle.edit_history.specs.declared.terms.Terms.{Terms}
 use Rattle.market_lock.specs.Views.{opening_of}
 use Rattle.market_lock.specs.Seen.{OfPass, known_of, pass_of, Looks, HasCut}
 use Rattle.market_lock.proofs.Calls.{may_cut, cut_off_by, cut_may_give, cut_ticket_after, cut_known_after, cut_after, told_part, told_served}
-use Rattle.market_lock.proofs.ticket.Ticket.cut.Goals as goal
+use Rattle.market_lock.proofs.ticket.Ticket.try_cut.Goals as goal
 
 pub cut_off-part-requires-clause-desk : goal.cut_off-part-requires-clause-desk
-cut_off-part-requires-clause-desk g c = may_cut c.self.inside.seat.me c.take.new.seat.me c.take.ensures.seat
+cut_off-part-requires-clause-desk g c = may_cut c.self.inside.seat.me c.take.new.seat.me (c.take.ensures.taken c.if-not-take.false)
 
 pub give_cut-requires-clause-desk : goal.give_cut-requires-clause-desk
 give_cut-requires-clause-desk g c =
     let old = c.self.inside.seat.me in
     let r : Option Part = c.cut_off-part.result in
     let room : ℕ = vec_capacity c.args.spare in
-    let o = cut_off_by old c.take.new.seat.me c.cut_off-part.new.seat.me c.self.inside.number room r c.self.inside.share c.self.invariant.1 c.take.ensures.seat c.cut_off-part.ensures.view c.cut_off-part.ensures.desk in
+    let o = cut_off_by old c.take.new.seat.me c.cut_off-part.new.seat.me c.self.inside.number room r c.self.inside.share c.self.invariant.1 (c.take.ensures.taken c.if-not-take.false) c.cut_off-part.ensures.view c.cut_off-part.ensures.desk in
     cut_may_give (known_of old.0) c.self.inside.number room r c.self.inside.share c.cut_off-part.new.seat.me o
 
-pub invariant_of-self : goal.invariant_of-self
-invariant_of-self g c =
+pub invariant_of-self-2 : goal.invariant_of-self-2
+invariant_of-self-2 g c =
     let old = c.self.inside.seat.me in
     let r : Option Part = c.cut_off-part.result in
     let room : ℕ = vec_capacity c.args.spare in
-    let o = cut_off_by old c.take.new.seat.me c.cut_off-part.new.seat.me c.self.inside.number room r c.self.inside.share c.self.invariant.1 c.take.ensures.seat c.cut_off-part.ensures.view c.cut_off-part.ensures.desk in
+    let o = cut_off_by old c.take.new.seat.me c.cut_off-part.new.seat.me c.self.inside.number room r c.self.inside.share c.self.invariant.1 (c.take.ensures.taken c.if-not-take.false) c.cut_off-part.ensures.view c.cut_off-part.ensures.desk in
     cut_ticket_after (known_of old.0) c.self.inside.number room r c.self.inside.share c.cut_off-part.new.seat.me o c.give_cut.new.seat.me c.give_cut.ensures.seat
 
 pub returns-clause-legal : goal.returns-clause-legal
@@ -34,7 +34,7 @@ returns-clause-legal g c =
     let old = c.self.inside.seat.me in
     let r : Option Part = c.cut_off-part.result in
     let room : ℕ = vec_capacity c.args.spare in
-    let o = cut_off_by old c.take.new.seat.me c.cut_off-part.new.seat.me c.self.inside.number room r c.self.inside.share c.self.invariant.1 c.take.ensures.seat c.cut_off-part.ensures.view c.cut_off-part.ensures.desk in
+    let o = cut_off_by old c.take.new.seat.me c.cut_off-part.new.seat.me c.self.inside.number room r c.self.inside.share c.self.invariant.1 (c.take.ensures.taken c.if-not-take.false) c.cut_off-part.ensures.view c.cut_off-part.ensures.desk in
     let told = cut_after (known_of old.0) c.self.inside.number room r c.self.inside.share c.cut_off-part.new.seat.me o c.give_cut.new.seat.me c.give_cut.ensures.seat c.self.inside.seat.table_id c.give_cut.new.seat.table_id in
     let l = known_of c.give_cut.new.seat.me.0 in
     subst (λ (t : Terms). IsLegal (opening_of t) l.seen) (sym told.0.terms) told.0.legal
@@ -44,7 +44,7 @@ returns-clause-looks g c =
     let old = c.self.inside.seat.me in
     let r : Option Part = c.cut_off-part.result in
     let room : ℕ = vec_capacity c.args.spare in
-    let o = cut_off_by old c.take.new.seat.me c.cut_off-part.new.seat.me c.self.inside.number room r c.self.inside.share c.self.invariant.1 c.take.ensures.seat c.cut_off-part.ensures.view c.cut_off-part.ensures.desk in
+    let o = cut_off_by old c.take.new.seat.me c.cut_off-part.new.seat.me c.self.inside.number room r c.self.inside.share c.self.invariant.1 (c.take.ensures.taken c.if-not-take.false) c.cut_off-part.ensures.view c.cut_off-part.ensures.desk in
     let told = cut_after (known_of old.0) c.self.inside.number room r c.self.inside.share c.cut_off-part.new.seat.me o c.give_cut.new.seat.me c.give_cut.ensures.seat c.self.inside.seat.table_id c.give_cut.new.seat.table_id in
     let l = known_of c.give_cut.new.seat.me.0 in
     subst (λ (p : OfPass). Looks p (pass_of c.give_cut.new.seat.table_id l)) c.self.view_is told.1
@@ -54,7 +54,7 @@ returns-clause-later g c =
     let old = c.self.inside.seat.me in
     let r : Option Part = c.cut_off-part.result in
     let room : ℕ = vec_capacity c.args.spare in
-    let o = cut_off_by old c.take.new.seat.me c.cut_off-part.new.seat.me c.self.inside.number room r c.self.inside.share c.self.invariant.1 c.take.ensures.seat c.cut_off-part.ensures.view c.cut_off-part.ensures.desk in
+    let o = cut_off_by old c.take.new.seat.me c.cut_off-part.new.seat.me c.self.inside.number room r c.self.inside.share c.self.invariant.1 (c.take.ensures.taken c.if-not-take.false) c.cut_off-part.ensures.view c.cut_off-part.ensures.desk in
     let told = cut_after (known_of old.0) c.self.inside.number room r c.self.inside.share c.cut_off-part.new.seat.me o c.give_cut.new.seat.me c.give_cut.ensures.seat c.self.inside.seat.table_id c.give_cut.new.seat.table_id in
     let l = known_of c.give_cut.new.seat.me.0 in
     subst (λ (p : OfPass). p.from ≤ l.from) c.self.view_is told.0.later
@@ -64,7 +64,7 @@ returns-clause-part g c =
     let old = c.self.inside.seat.me in
     let r : Option Part = c.cut_off-part.result in
     let room : ℕ = vec_capacity c.args.spare in
-    let o = cut_off_by old c.take.new.seat.me c.cut_off-part.new.seat.me c.self.inside.number room r c.self.inside.share c.self.invariant.1 c.take.ensures.seat c.cut_off-part.ensures.view c.cut_off-part.ensures.desk in
+    let o = cut_off_by old c.take.new.seat.me c.cut_off-part.new.seat.me c.self.inside.number room r c.self.inside.share c.self.invariant.1 (c.take.ensures.taken c.if-not-take.false) c.cut_off-part.ensures.view c.cut_off-part.ensures.desk in
     let told = cut_after (known_of old.0) c.self.inside.number room r c.self.inside.share c.cut_off-part.new.seat.me o c.give_cut.new.seat.me c.give_cut.ensures.seat c.self.inside.seat.table_id c.give_cut.new.seat.table_id in
     let l = known_of c.give_cut.new.seat.me.0 in
     (told_part (known_of old.0) l room r told.0.told).0
@@ -74,7 +74,7 @@ returns-clause-goes_on g c =
     let old = c.self.inside.seat.me in
     let r : Option Part = c.cut_off-part.result in
     let room : ℕ = vec_capacity c.args.spare in
-    let o = cut_off_by old c.take.new.seat.me c.cut_off-part.new.seat.me c.self.inside.number room r c.self.inside.share c.self.invariant.1 c.take.ensures.seat c.cut_off-part.ensures.view c.cut_off-part.ensures.desk in
+    let o = cut_off_by old c.take.new.seat.me c.cut_off-part.new.seat.me c.self.inside.number room r c.self.inside.share c.self.invariant.1 (c.take.ensures.taken c.if-not-take.false) c.cut_off-part.ensures.view c.cut_off-part.ensures.desk in
     let told = cut_after (known_of old.0) c.self.inside.number room r c.self.inside.share c.cut_off-part.new.seat.me o c.give_cut.new.seat.me c.give_cut.ensures.seat c.self.inside.seat.table_id c.give_cut.new.seat.table_id in
     let l = known_of c.give_cut.new.seat.me.0 in
     subst (λ (p : OfPass). IfSome r (λ (x : Part). p.from ≤ x.from)) c.self.view_is (told_part (known_of old.0) l room r told.0.told).1
@@ -84,7 +84,7 @@ returns-clause-all g c =
     let old = c.self.inside.seat.me in
     let r : Option Part = c.cut_off-part.result in
     let room : ℕ = vec_capacity c.args.spare in
-    let o = cut_off_by old c.take.new.seat.me c.cut_off-part.new.seat.me c.self.inside.number room r c.self.inside.share c.self.invariant.1 c.take.ensures.seat c.cut_off-part.ensures.view c.cut_off-part.ensures.desk in
+    let o = cut_off_by old c.take.new.seat.me c.cut_off-part.new.seat.me c.self.inside.number room r c.self.inside.share c.self.invariant.1 (c.take.ensures.taken c.if-not-take.false) c.cut_off-part.ensures.view c.cut_off-part.ensures.desk in
     let told = cut_after (known_of old.0) c.self.inside.number room r c.self.inside.share c.cut_off-part.new.seat.me o c.give_cut.new.seat.me c.give_cut.ensures.seat c.self.inside.seat.table_id c.give_cut.new.seat.table_id in
     let l = known_of c.give_cut.new.seat.me.0 in
     (told_part (known_of old.0) l room r told.0.told).2
@@ -94,7 +94,7 @@ returns-clause-cuts g c =
     let old = c.self.inside.seat.me in
     let r : Option Part = c.cut_off-part.result in
     let room : ℕ = vec_capacity c.args.spare in
-    let o = cut_off_by old c.take.new.seat.me c.cut_off-part.new.seat.me c.self.inside.number room r c.self.inside.share c.self.invariant.1 c.take.ensures.seat c.cut_off-part.ensures.view c.cut_off-part.ensures.desk in
+    let o = cut_off_by old c.take.new.seat.me c.cut_off-part.new.seat.me c.self.inside.number room r c.self.inside.share c.self.invariant.1 (c.take.ensures.taken c.if-not-take.false) c.cut_off-part.ensures.view c.cut_off-part.ensures.desk in
     subst (λ (p : OfPass). HasCut p r (pass_of c.give_cut.new.seat.table_id (known_of c.give_cut.new.seat.me.0))) c.self.view_is
     (cut_known_after (known_of old.0) c.self.inside.number room r c.self.inside.share c.cut_off-part.new.seat.me o c.give_cut.new.seat.me c.give_cut.ensures.seat c.self.inside.seat.table_id c.give_cut.new.seat.table_id)
 
@@ -103,7 +103,7 @@ returns-clause-countable g c =
     let old = c.self.inside.seat.me in
     let r : Option Part = c.cut_off-part.result in
     let room : ℕ = vec_capacity c.args.spare in
-    let o = cut_off_by old c.take.new.seat.me c.cut_off-part.new.seat.me c.self.inside.number room r c.self.inside.share c.self.invariant.1 c.take.ensures.seat c.cut_off-part.ensures.view c.cut_off-part.ensures.desk in
+    let o = cut_off_by old c.take.new.seat.me c.cut_off-part.new.seat.me c.self.inside.number room r c.self.inside.share c.self.invariant.1 (c.take.ensures.taken c.if-not-take.false) c.cut_off-part.ensures.view c.cut_off-part.ensures.desk in
     let told = cut_after (known_of old.0) c.self.inside.number room r c.self.inside.share c.cut_off-part.new.seat.me o c.give_cut.new.seat.me c.give_cut.ensures.seat c.self.inside.seat.table_id c.give_cut.new.seat.table_id in
     let l = known_of c.give_cut.new.seat.me.0 in
     (told_part (known_of old.0) l room r told.0.told).4
@@ -113,7 +113,7 @@ returns-clause-in_parts g c =
     let old = c.self.inside.seat.me in
     let r : Option Part = c.cut_off-part.result in
     let room : ℕ = vec_capacity c.args.spare in
-    let o = cut_off_by old c.take.new.seat.me c.cut_off-part.new.seat.me c.self.inside.number room r c.self.inside.share c.self.invariant.1 c.take.ensures.seat c.cut_off-part.ensures.view c.cut_off-part.ensures.desk in
+    let o = cut_off_by old c.take.new.seat.me c.cut_off-part.new.seat.me c.self.inside.number room r c.self.inside.share c.self.invariant.1 (c.take.ensures.taken c.if-not-take.false) c.cut_off-part.ensures.view c.cut_off-part.ensures.desk in
     let told = cut_after (known_of old.0) c.self.inside.number room r c.self.inside.share c.cut_off-part.new.seat.me o c.give_cut.new.seat.me c.give_cut.ensures.seat c.self.inside.seat.table_id c.give_cut.new.seat.table_id in
     let l = known_of c.give_cut.new.seat.me.0 in
     subst (λ (p : OfPass). OnSome r (p.terms.keeping ≡ InParts)) c.self.view_is (told_part (known_of old.0) l room r told.0.told).3
@@ -123,7 +123,7 @@ returns-clause-served g c =
     let old = c.self.inside.seat.me in
     let r : Option Part = c.cut_off-part.result in
     let room : ℕ = vec_capacity c.args.spare in
-    let o = cut_off_by old c.take.new.seat.me c.cut_off-part.new.seat.me c.self.inside.number room r c.self.inside.share c.self.invariant.1 c.take.ensures.seat c.cut_off-part.ensures.view c.cut_off-part.ensures.desk in
+    let o = cut_off_by old c.take.new.seat.me c.cut_off-part.new.seat.me c.self.inside.number room r c.self.inside.share c.self.invariant.1 (c.take.ensures.taken c.if-not-take.false) c.cut_off-part.ensures.view c.cut_off-part.ensures.desk in
     let told = cut_after (known_of old.0) c.self.inside.number room r c.self.inside.share c.cut_off-part.new.seat.me o c.give_cut.new.seat.me c.give_cut.ensures.seat c.self.inside.seat.table_id c.give_cut.new.seat.table_id in
     let l = known_of c.give_cut.new.seat.me.0 in
     subst (λ (p : OfPass). p.terms.keeping ≡ InParts → p.terms.seats ≤ room → length l.seen ≤ most_forgotten → IsSome r) c.self.view_is (told_served (known_of old.0) l room r told.0.told)

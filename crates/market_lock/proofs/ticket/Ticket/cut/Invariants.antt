@@ -1,0 +1,5 @@
+use Rattle.std.proofs.Common.{◌≡◌}
+use Rattle.market_lock.proofs.ticket.Ticket.cut.Given as goal
+
+abbrev pub invariant-loop : goal.invariant-loop
+invariant-loop g l = (l.self ≡ l.initial.self) × (l.spare ≡ l.initial.spare)
