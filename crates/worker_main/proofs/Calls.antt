@@ -2,10 +2,10 @@
 use Rattle.std.proofs.Common.{◌≡◌, ℕ, ◌+◌, List, [], ◌∷◌, ◌++◌, length, replicate, refl, ap, sym, ◌∙◌, append_assoc, append-nil, length-append, arith, Option, None, Some, IfNone, IfSome}
 use Rattle.std.proofs.lemmas.List.{replicate-append-replicate}
 use Rattle.market_types.specs.declared.command.Cmd.{Cmd}
-use Rattle.market_types.specs.declared.command.Cmd.TheVariants.{Stay, Leave}
+use Rattle.market_types.specs.declared.command.Cmd.TheVariants.{Join, Stay, Leave}
 use Rattle.market_types.specs.declared.reply.Entry.{Entry}
 use Rattle.market_types.specs.declared.reply.Reply.{Reply}
-use Rattle.market_types.specs.declared.reply.Reply.TheVariants.{Stays, Recalled, Left}
+use Rattle.market_types.specs.declared.reply.Reply.TheVariants.{Placed, Stays, Recalled, Left}
 use Rattle.edit_history.specs.Chronicled.{entry}
 use Rattle.edit_history.specs.declared.fault.CallFault.{CallFault}
 use Rattle.market_lock.specs.Seen.{OfPass}
@@ -18,7 +18,7 @@ use Rattle.worker_main.specs.declared.report.Ended.{Ended}
 use Rattle.worker_main.specs.declared.report.Ended.TheVariants.{Idle, GateShut, NoStation, Call, Memory}
 use Rattle.worker_main.specs.Turns.{recalled, emptied, give_back, stayed, ending}
 use Rattle.edit_history.specs.declared.fault.CallFault.TheVariants as fault
-use Rattle.worker_main.specs.Books.{HasLackedPlaces, IfFull, IfIdle, IfShut}
+use Rattle.worker_main.specs.Books.{HasLackedPlaces, IfFull, IfIdle, IfNoStation, IfShut, WasPlacedAt}
 use Rattle.worker_main.specs.Steps.{HasGoneOn, HasGivenBack, HasTurned, IsInside, IsFault, IsBrokenOff, still_held}
 use Rattle.worker_main.proofs.Lists.{prefix_self, prefix_trans}
 
@@ -139,3 +139,22 @@ if_idle_then (GateShut job) f p = tt
 if_idle_then (NoStation arena) f p = tt
 if_idle_then (Call fault) f p = tt
 if_idle_then Memory f p = tt
+
+-- a Join that placed the caller at this arena, and a Leave
+pub was_placed : (p q r : OfPass) (arena at : ℕ) → arena ≡ at → q.seat ≡ p.seat → q.mine ≡ p.mine ++ entry p.seat Join (Placed at) ∷ [] → r.mine ≡ q.mine ++ entry q.seat Leave (Left at) ∷ [] → WasPlacedAt p r arena
+was_placed p q r arena at is seat joins leaves = (
+  [],
+  leaves ∙ ((λ i. joins i ++ entry (seat i) Leave (Left at) ∷ []) ∙ (append_assoc p.mine (entry p.seat Join (Placed at) ∷ []) (entry p.seat Leave (Left at) ∷ []) ∙ (λ i. p.mine ++ entry p.seat Join (Placed (sym is i)) ∷ entry p.seat Leave (Left (sym is i)) ∷ []))),
+)
+
+-- it was placed there after these calls
+pub placed_later : (p q r : OfPass) (added : List Entry) (e : Ended) → q.seat ≡ p.seat → q.mine ≡ p.mine ++ added → IfNoStation e (WasPlacedAt q r) → IfNoStation e (WasPlacedAt p r)
+placed_later p q r added (NoStation arena) seat more h =
+    let last = entry p.seat Join (Placed arena) ∷ entry p.seat Leave (Left arena) ∷ [] in (
+      added ++ h.0,
+      h.1 ∙ ((λ i. more i ++ (h.0 ++ entry (seat i) Join (Placed arena) ∷ entry (seat i) Leave (Left arena) ∷ [])) ∙ (append_assoc p.mine added (h.0 ++ last) ∙ ap (λ l. p.mine ++ l) (sym (append_assoc added h.0 last)))),
+    )
+placed_later p q r added Idle seat more h = tt
+placed_later p q r added (GateShut job) seat more h = tt
+placed_later p q r added (Call fault) seat more h = tt
+placed_later p q r added Memory seat more h = tt

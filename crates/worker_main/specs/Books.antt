@@ -3,6 +3,9 @@ use Rattle.std.specs.Prelude.{◌≡◌, ℕ, ◌+◌, ◌<◌, ◌≤◌, List,
 use mathlib.Core.List.{IsPrefix}
 use Rattle.market_types.specs.declared.reply.Entry.{Entry}
 use Rattle.market_types.specs.declared.command.Cmd.{Cmd}
+use Rattle.market_types.specs.declared.command.Cmd.TheVariants.{Join, Leave}
+use Rattle.market_types.specs.declared.reply.Reply.TheVariants.{Placed, Left}
+use Rattle.edit_history.specs.Chronicled.{entry}
 use Rattle.edit_history.specs.Places.{LacksPlaces}
 use Rattle.edit_history.specs.declared.fault.CallFault.TheVariants as fault
 use Rattle.market_lock.specs.Views.{chronicle_cut}
@@ -54,6 +57,10 @@ HasRefused refused number turns = (k : ℕ) → k < turns → refused number k
 abbrev pub HasLackedPlaces : OfPass → OfPass → Type 0
 HasLackedPlaces p q =
     (m : OfPass) × (cmd : Cmd) × IsSamePass p m × IsPrefix p.seen m.seen × IsPrefix m.seen q.seen × LacksPlaces (chronicle_cut m.terms m.seen m.from) m.seat cmd
+
+-- between the two, the caller's last two calls were a Join that placed it at this arena, and a Leave
+abbrev pub WasPlacedAt : OfPass → OfPass → ℕ → Type 0
+WasPlacedAt p q arena = (before : List Entry) × (q.mine ≡ p.mine ++ (before ++ entry p.seat Join (Placed arena) ∷ entry p.seat Leave (Left arena) ∷ []))
 
 -- the same taker, after more pops
 abbrev pub IsTakerAfter : OfTaker Job → OfTaker Job → Type 0

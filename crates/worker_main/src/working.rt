@@ -6,7 +6,7 @@ ghost use Rattle.job_queue.specs.Seen.{all_taken};
 ghost use Rattle.market_lock.specs.Seen.{IsSamePass};
 ghost use Rattle.worker_main.specs.Stations.{HaveOwnArenas, IsTakerOf, IsWithout};
 ghost use Rattle.worker_main.specs.Turns.{AreTurnsOf, IsLastJoin, IsTurnOf};
-ghost use Rattle.worker_main.specs.Books.{HasAdded, HasLackedPlaces, HasRefused, IfFull, IfIdle, IfNoStation, IfShut, IsTakerAfter, jobs_of, kept_back, results};
+ghost use Rattle.worker_main.specs.Books.{HasAdded, HasLackedPlaces, HasRefused, IfFull, IfIdle, IfNoStation, IfShut, IsTakerAfter, WasPlacedAt, jobs_of, kept_back, results};
 ghost use Rattle.drive_plan.specs.declared.task.Done.{Done};
 ghost use Rattle.worker_main.specs.Steps.{HasEarned, HasGoneOn, still_held};
 
@@ -41,6 +41,7 @@ fn visit<C: Ledger, W: Ledger, G: Gate, R: Wait>(
     ensures takers { AllZip IsTakerAfter takers.old.items takers.new.items }
     ensures jobs { HasEarned takers.old.items (results done.old.items) takers.new.items (results done.new.items ++ still_held result.1) }
     ensures station { IfSome result.1 (λ ended. IfNoStation ended (IsWithout stations.now)) }
+    ensures placed { IfSome result.1 (λ ended. IfNoStation ended (WasPlacedAt pass result.0)) }
     ensures turn { IfNone result.1 (HasAdded (IsTurnOf stations.now) stations.now takers.old.items takers.new.items pass result.0) }
     ensures idle { IfSome result.1 (λ ended. IfIdle ended (HasAdded IsLastJoin stations.now takers.old.items takers.new.items pass result.0)) }
     ensures full { IfSome result.1 (λ ended. IfFull ended (HasLackedPlaces pass result.0)) }
@@ -97,6 +98,7 @@ pub fn work<C: Ledger, W: Ledger, G: Gate, R: Wait>(
     ensures takers { AllZip IsTakerAfter takers.items result.takers.items }
     ensures jobs { IsPermutation (jobs_of (all_taken result.takers.items)) (jobs_of (all_taken takers.items) ++ (results result.done.items ++ kept_back result.ended)) }
     ensures station { IfNoStation result.ended (IsWithout stations.now) }
+    ensures placed { IfNoStation result.ended (WasPlacedAt pass result.pass) }
     ensures turns { IfIdle result.ended (HasAdded (AreTurnsOf stations.now) stations.now takers.items result.takers.items pass result.pass) }
     ensures full { IfFull result.ended (HasLackedPlaces pass result.pass) }
     ensures gate { All (λ (d : Done). G.passed gate.now d.number × G.told gate.now d.number) result.done.items }

@@ -7,7 +7,7 @@ use Rattle.worker_main.specs.Steps.{HasEarned}
 use Rattle.worker_main.specs.Stations.{IsTakerOf}
 use Rattle.worker_main.proofs.Lists.{zip_read, zip_within, contains_at}
 use Rattle.worker_main.proofs.Takers.{takers_self, takers_at, earned_at, earned_nothing}
-use Rattle.worker_main.proofs.Calls.{goes_on, called, failed, goes_further, if_none_then, lacked, full_earlier}
+use Rattle.worker_main.proofs.Calls.{goes_on, called, failed, goes_further, if_none_then, lacked, full_earlier, was_placed}
 use Rattle.worker_main.proofs.Steps.{turned}
 use Rattle.worker_main.proofs.working.visit.Goals as goal
 
@@ -88,3 +88,8 @@ returns-in-Failed-clause-full g c = lacked c.args.pass c.args.pass c.in-Failed.p
 pub returns-clause-full : goal.returns-clause-full
 returns-clause-full g c =
     full_earlier c.args.pass c.in-Placed.placed.who c.take_turn.result.0 c.take_turn.result.1 (called _ _ _ _ c.in-Placed.ensures.exact) c.take_turn.ensures.full
+
+pub returns-in_default-clause-placed : goal.returns-in_default-clause-placed
+returns-in_default-clause-placed g c =
+    let j = c.in-Placed.ensures.exact in
+    was_placed c.args.pass c.in-Placed.placed.who c.leave.result _ c.in-Placed.placed.arena c.arena-arena.ensures.exact j.0.2 j.2.3 c.leave.ensures.exact.2.3

@@ -1,10 +1,10 @@
 use Rattle.std.proofs.Common.{All, [], sym, subst, arith, IfNone, IfSome}
 use Rattle.drive_plan.specs.declared.task.Done.{Done}
 use Rattle.worker_main.specs.Turns.{IsTurnOf, IsLastJoin}
-use Rattle.worker_main.specs.Books.{results, HasAdded, HasLackedPlaces, HasRefused, IfFull, IfIdle, IfShut}
+use Rattle.worker_main.specs.Books.{results, HasAdded, HasLackedPlaces, HasRefused, IfFull, IfIdle, IfNoStation, IfShut, WasPlacedAt}
 use Rattle.worker_main.specs.Steps.{HasEarned}
 use Rattle.worker_main.proofs.Takers.{still_of, takers_self, takers_trans, earned_nothing, earned_trans, earned_whole, earned_with, earned_from_nothing}
-use Rattle.worker_main.proofs.Calls.{goes_on, goes_further, full_earlier, if_idle_then}
+use Rattle.worker_main.proofs.Calls.{goes_on, goes_further, full_earlier, if_idle_then, placed_later}
 use Rattle.worker_main.proofs.Steps.{starts, more_turns, ends_idle}
 use Rattle.worker_main.proofs.working.work.Goals as goal
 
@@ -80,3 +80,10 @@ returns-in-Some-ended-clause-gate g c = c.visit-next.ensures.gate c.loop.invaria
 pub returns-in-Some-ended-clause-shut : goal.returns-in-Some-ended-clause-shut
 returns-in-Some-ended-clause-shut g c =
     subst (λ o. IfSome o (λ e. IfShut e (λ job. HasRefused (g.G.Gate.refused c.args.gate.now) job.number c.args.turns))) c.in-Some-ended.is c.visit-next.ensures.shut
+
+pub returns-in-Some-ended-clause-placed : goal.returns-in-Some-ended-clause-placed
+returns-in-Some-ended-clause-placed g c =
+    let i = c.loop.invariant in
+    let next = c.visit-next.result.0 in
+    let here = subst (λ o. IfSome o (λ e. IfNoStation e (WasPlacedAt c.loop.pass next))) c.in-Some-ended.is c.visit-next.ensures.placed in
+    placed_later c.args.pass c.loop.pass next i.3.0 c.in-Some-ended.ended i.0.0.2 i.3.1 here
