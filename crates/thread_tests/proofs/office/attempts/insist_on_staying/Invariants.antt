@@ -1,0 +1,6 @@
+use Rattle.std.proofs.Common.{◌≡◌}
+use Rattle.thread_tests.proofs.office.attempts.insist_on_staying.Given as goal
+
+-- an attempt that found the desk away changed nothing
+abbrev pub invariant-loop : goal.invariant-loop
+invariant-loop g l = l.worker ≡ l.fn.worker
