@@ -9,12 +9,14 @@ use Rattle.std.proofs.lemmas.Option.{none-some}
 use Rattle.market_types.specs.declared.command.Cmd.{Cmd}
 use Rattle.market_types.specs.declared.command.Cmd.TheVariants.{Join}
 use Rattle.market_types.specs.declared.reply.Entry.{Entry}
+use Rattle.market_types.specs.History.{of_seat}
 use Rattle.market_types.specs.State.{usual_last}
 use Rattle.edit_history.specs.declared.keeping.Keeping.TheVariants.{Everything}
 use Rattle.market_types.specs.declared.reply.Reply.{Reply}
 use Rattle.market_types.specs.declared.reply.Reply.TheVariants.{Idle}
 use Rattle.edit_history.specs.Chronicled.{entry}
 use Rattle.edit_history.specs.declared.fault.CallFault.{CallFault}
+use Rattle.edit_history.specs.declared.fault.CallFault.TheVariants as call
 use Rattle.edit_history.specs.declared.terms.Terms.{Terms}
 use Rattle.market_lock.specs.Moves.{Called}
 use Rattle.market_lock.specs.Seen.{OfPass}
@@ -28,12 +30,13 @@ use Rattle.worker_main.specs.declared.report.Ended.{Ended}
 use Rattle.worker_main.specs.declared.report.Ended.TheVariants.{GateShut, NoStation, Call}
 use Rattle.worker_main.specs.declared.report.Ended.TheVariants as ended
 use Rattle.worker_main.specs.Books.{IfNoStation}
-use Rattle.worker_main.proofs.Calls.{called, full_earlier, if_idle_then}
+use Rattle.worker_main.proofs.Calls.{called, full_earlier, if_idle_then, placed_later}
 use Rattle.market_drive.specs.Arenas.{AreNumbered}
-use Rattle.market_drive.specs.Causes.{AreEnds, AreEndsFrom, CanEndAt, CanEndIn, HasEndedAt, HasEndedSo, terms_of_plan}
+use Rattle.market_drive.specs.Causes.{AreEnds, AreEndsFrom, CanEndAt, CanEndIn, HasEndedAt, HasEndedSo, IsOpenedBy, still, terms_of_plan}
 use Rattle.market_drive.specs.Driving.{HasCause, HasCauseIn, IsOfText, IsOfficeOf}
-use Rattle.market_drive.specs.Ending.{IsDueTo}
+use Rattle.market_drive.specs.Ending.{IsDueTo, end_fault}
 use Rattle.market_drive.specs.Jobs.{HaveRequestsOf}
+use Rattle.market_drive.specs.Making.{commands_of}
 use Rattle.market_drive.specs.Opening.{HasGiven}
 use Rattle.market_drive.specs.Reports.{OfReports, end_for, ends_of}
 use Rattle.market_drive.specs.declared.fault.DriveFault.{DriveFault}
@@ -83,6 +86,7 @@ ended_later p q r cmd reply e on h =
           ))
           h.0,
       full_earlier p q r (Some e) (called p q cmd reply on) h.1,
+      placed_later p q r (one ∷ []) e on.0.2 on.2.3 h.2,
     )
 
 pub some_later : (CanEnd : Ended → Type 0) (o : Option Ended) (p q r : OfPass) (cmd : Cmd) (reply : Reply) → Called p cmd reply q → IsSomeAnd o (λ e. CanEnd e × HasEndedSo q r e) → IsSomeAnd o (λ e. CanEnd e × HasEndedSo p r e)
@@ -140,14 +144,32 @@ module _ (CanEnd : Ended → Type 0) (terms : Terms) (history : List Entry) wher
   one_failed (x ∷ y ∷ xs) (z ∷ []) o new one h at lets = absurd h.1
   one_failed xs (z ∷ w ∷ os) o new one h at lets = absurd (omega arith)
 
-  pub meeting_ends : (n : ℕ) (xs os : List Opener) (workers ws : List (Option Ended)) (told : List Ended) → length os ≡ 1 → length ws ≡ n → All (λ (x : Opener). x.fault ≡ None) xs → All (λ (w : Option Ended). w ≡ None) workers
+  -- one opener that told no fault gave all its commands
+  gave_all : (cmds : List Cmd) (x o : Opener) (f : Option CallFault) → x.cmds.now ≡ cmds → o.fault ≡ f → true ≡ is_none f → HaveWorked OpenerWorks terms history 0 (x ∷ []) (o ∷ []) → IsOpenedBy (still cmds) history
+  gave_all cmds x o (Some fault) own is lets h = cc
+  gave_all cmds x o None own is lets h =
+      let p = h.0.0 in
+      let q = h.0.1 in
+      let given = subst (λ y. IfNone y (HasGiven x.cmds.now p q)) is h.0.3.0 in
+      let mine : q.mine ≡ given.0 = given.1 ∙ ap (λ l. l ++ given.0) h.0.2.3 in
+      let all : of_seat 0 history ≡ given.0 = ap (λ n. of_seat n history) (sym (h.0.4.2 ∙ h.0.2.1)) ∙ (h.0.5.1 ∙ mine) in
+      ap (λ (l : List Entry). still (map (λ (e : Entry). e.call.cmd) l)) all ∙ (given.2 ∙ ap still own)
+
+  are_opened : (cmds : List Cmd) (xs os : List Opener) → All (λ (x : Opener). x.cmds.now ≡ cmds) xs → length os ≡ 1 → All (λ (o : Opener). OpenerLets o true) os → HaveWorked OpenerWorks terms history 0 xs os → IsOpenedBy (still cmds) history
+  are_opened cmds xs [] own one lets h = absurd (omega arith)
+  are_opened cmds [] (o ∷ []) own one lets h = absurd h
+  are_opened cmds (x ∷ []) (o ∷ []) own one lets h = gave_all cmds x o o.fault (All-head (λ (y : Opener). y.cmds.now ≡ cmds) x [] own) refl (All-head (λ (y : Opener). OpenerLets y true) o [] lets) h
+  are_opened cmds (x ∷ y ∷ xs) (o ∷ []) own one lets h = absurd h.1
+  are_opened cmds xs (o ∷ z ∷ os) own one lets h = absurd (omega arith)
+
+  pub meeting_ends : (n : ℕ) (cmds : List Cmd) (xs os : List Opener) (workers ws : List (Option Ended)) (told : List Ended) → length os ≡ 1 → length ws ≡ n → All (λ (x : Opener). x.cmds.now ≡ cmds) xs → All (λ (x : Opener). x.fault ≡ None) xs → All (λ (w : Option Ended). w ≡ None) workers
       → HaveWorked OpenerWorks terms history 0 xs os → HasFollowed OpenerLets os (HaveWorked (WorkerWorks CanEnd) terms history 1 workers ws) (ws ≡ workers)
-      → told ≡ faults_of (reverse os) ++ ends_of ws → AreEnds CanEnd terms history n told
-  meeting_ends n xs os workers ws told one many new fresh opened (inl h) is =
+      → told ≡ faults_of (reverse os) ++ ends_of ws → AreEnds CanEnd terms (still cmds) history n told
+  meeting_ends n cmds xs os workers ws told one many own new fresh opened (inl h) is =
       let all = all_ended 1 workers ws (recursion_from_All (λ (w : Option Ended). w ≡ None) workers fresh) h.1 in
       let e : told ≡ ends_of ws = is ∙ ap (λ l. l ++ ends_of ws) (none_failed os one h.0) in
-      inl (subst (AreEndsFrom CanEnd terms history 1) (sym e) all.0, ap length e ∙ (all.1 ∙ many))
-  meeting_ends n xs os workers ws told one many new fresh opened (inr h) is =
+      inl (subst (AreEndsFrom CanEnd terms history 1) (sym e) all.0, ap length e ∙ (all.1 ∙ many), are_opened cmds xs os own one h.0 opened)
+  meeting_ends n cmds xs os workers ws told one many own new fresh opened (inr h) is =
       let f = one_failed xs os h.0.0 new one opened h.0.1 h.0.2 in
       let nobody : ends_of ws ≡ [] = ap ends_of h.1 ∙ none_ended workers (recursion_from_All (λ (w : Option Ended). w ≡ None) workers fresh) in
       inr (f.0, is ∙ (ap (λ l. faults_of (reverse os) ++ l) nobody ∙ (append-nil (faults_of (reverse os)) ∙ f.1)), f.2)
@@ -165,8 +187,22 @@ abbrev IsMemory : DriveFault → Type 0
 IsMemory Memory = Unit {0}
 IsMemory fault = ⊥
 
+pub not_torn : (b : Bool) → (b ≡ true → ⊥) → b ≡ false
+not_torn true h = absurd (h refl)
+not_torn false h = refl
+
+-- one who ended for a fault of a call is none who ended for want of work
+no_fault : (fault : CallFault) → end_fault (Call fault ∷ []) ≡ None → ⊥
+no_fault call.Memory e = none-some Memory (sym e)
+no_fault call.HistoryFull e = none-some Unfinished (sym e)
+
+-- where all ended for want of work the market was opened
+pub idle_opened : (CanEnd : Ended → Type 0) (terms : Terms) (cmds : List Cmd) (history : List Entry) (workers : ℕ) (es : List Ended) → end_fault es ≡ None → AreEnds CanEnd terms cmds history workers es → IsOpenedBy cmds history
+idle_opened CanEnd terms cmds history workers es idle (inl h) = h.2
+idle_opened CanEnd terms cmds history workers es idle (inr h) = absurd (no_fault h.0 (ap end_fault (sym h.1) ∙ idle))
+
 pub drive_cause : (refused : ℕ → ℕ → Type 0) (p : Planned) (workers : ℕ) (closed : Closed) (r : OfReports) (fault : DriveFault) → IsOfficeOf p workers closed → (r.torn ≡ true → fault ≡ Memory) → (r.torn ≡ false → IsDueTo p.jobs r.done r.ended fault)
-    → (r.torn ≡ false → AreEnds (CanEndIn p refused) (terms_of_plan p workers) closed.chronicle.log workers r.ended) → HasCause refused p workers fault
+    → (r.torn ≡ false → AreEnds (CanEndIn p refused) (terms_of_plan p workers) (commands_of p) closed.chronicle.log workers r.ended) → HasCause refused p workers fault
 drive_cause refused p workers closed r (BadPlan line) office torn due ends = tt
 drive_cause refused p workers closed r (Unservable a) office torn due ends = tt
 drive_cause refused p workers closed r (Doubled number) office torn due ends = tt

@@ -1,5 +1,6 @@
 -- What an opener has called, a command more.
 use Rattle.std.proofs.Common.{◌≡◌, ◌<◌, ◌≤◌, subst, IfNone, ℕ, ◌+◌, true, false, true≢false, not, cond, List, [], ◌∷◌, ◌++◌, length, map, take, get_or, refl, ap, sym, ◌∙◌, append_assoc, append-nil, Result, Ok, Err, Option, Some, None, is_some}
+use Rattle.std.specs.List.{enumerate_from}
 use Rattle.std.proofs.lemmas.List.{map-append, take_all, take_more}
 use Rattle.std.proofs.lemmas.List.Elements.{filter-append}
 use Rattle.std.proofs.lemmas.Option.{none-some, same_Some}
@@ -17,11 +18,29 @@ use Rattle.office_crew.specs.declared.caller.Caller.{Caller}
 use Rattle.office_crew.specs.declared.caller.Caller.TheVariants.{Free, Working}
 use Rattle.worker_main.specs.Steps.{HasGoneOn}
 use Rattle.worker_main.proofs.Calls.{called, goes_on}
-use Rattle.market_drive.specs.Opening.{HasGiven, fault_in, still}
+use Rattle.drive_plan.specs.declared.plan.PlannedArena.{PlannedArena}
+use Rattle.drive_plan.specs.Plans.{Planned}
+use Rattle.market_drive.specs.Causes.{still}
+use Rattle.market_drive.specs.Making.{asks, commands_of, founding, opens, requests}
+use Rattle.market_drive.specs.Opening.{HasGiven, fault_in}
 
 still_more : (cmds : List Cmd) (k : ℕ) (c : Cmd) → k < length cmds → c ≡ get_or cmds k c → still (take (k + 1) cmds) ≡ still (take k cmds) ++ still (c ∷ [])
 still_more cmds k c low is =
     ap still (take_more cmds k c low ∙ (λ i. take k cmds ++ sym is i ∷ [])) ∙ filter-append (λ (x : Cmd). not (moves_seat x)) (take k cmds) (c ∷ [])
+
+still_append : (xs ys : List Cmd) → still (xs ++ ys) ≡ still xs ++ still ys
+still_append xs ys = filter-append (λ (x : Cmd). not (moves_seat x)) xs ys
+
+still_map : {A : Type 0} (f : A → Cmd) (xs : List A) → ((x : A) → moves_seat (f x) ≡ false) → still (map f xs) ≡ map f xs
+still_map f [] none = refl
+still_map f (x ∷ xs) none = ap (λ b. cond (not b) (f x ∷ still (map f xs)) (still (map f xs))) (none x) ∙ ap (λ l. f x ∷ l) (still_map f xs none)
+
+-- no command of a plan moves a seat
+pub still_commands : (p : Planned) → still (commands_of p) ≡ commands_of p
+still_commands p =
+    let first : still (founding p) ≡ founding p =
+    still_append (map cmd.Control p.controls) (map opens p.arenas) ∙ (λ i. still_map cmd.Control p.controls (λ x. refl) i ++ still_map opens p.arenas (λ x. refl) i) in
+    still_append (founding p) (requests p) ∙ (λ i. first i ++ still_map (λ (e : ℕ × PlannedArena). asks e.0 e.1) (enumerate_from 1 p.arenas) (λ x. refl) i)
 
 abbrev cmds_of : List Entry → List Cmd
 cmds_of added = map (λ (e : Entry). e.call.cmd) added

@@ -1,8 +1,12 @@
 -- How those who called at a plan's office ended (own).
-use Rattle.std.specs.Prelude.{◌≡◌, ◌≢◌, ◌⊎◌, ℕ, ◌+◌, ◌<◌, List, [], ◌∷◌, ◌++◌, length, ⊤}
+use Rattle.std.specs.Prelude.{◌≡◌, ◌≢◌, ◌⊎◌, ℕ, ◌+◌, ◌<◌, not, List, [], ◌∷◌, ◌++◌, length, map, ⊤}
+use Rattle.std.specs.List.{filter}
+use Rattle.market_types.specs.declared.command.Cmd.{Cmd}
 use Rattle.market_types.specs.declared.command.Cmd.TheVariants.{Join}
 use Rattle.market_types.specs.declared.reply.Entry.{Entry}
 use Rattle.market_types.specs.declared.reply.Reply.TheVariants.{Idle}
+use Rattle.market_types.specs.Commands.{moves_seat}
+use Rattle.market_types.specs.History.{of_seat}
 use Rattle.market_types.specs.State.{usual_last}
 use Rattle.edit_history.specs.Chronicled.{entry}
 use Rattle.edit_history.specs.declared.fault.CallFault.{CallFault}
@@ -14,14 +18,16 @@ use Rattle.drive_plan.specs.Plans.{Planned}
 use Rattle.worker_main.specs.declared.station.Station.{Station}
 use Rattle.worker_main.specs.declared.report.Ended.{Ended}
 use Rattle.worker_main.specs.declared.report.Ended.TheVariants.{Call}
-use Rattle.worker_main.specs.Books.{IfIdle, IfFull, IfShut, IfNoStation, HasRefused, HasLackedPlaces}
+use Rattle.worker_main.specs.Books.{IfIdle, IfFull, IfShut, IfNoStation, HasRefused, HasLackedPlaces, WasPlacedAt}
 use Rattle.worker_main.specs.Stations.{IsWithout}
 
--- between the two a caller ended so: at Idle its last call was a Join that placed it nowhere, and at a full history places were lacking
+-- between the two a caller ended so: at Idle its last call was a Join that placed it nowhere, at a full history places were lacking, and at
+-- NoStation its last Join placed it at that arena, which it left
 abbrev pub HasEndedSo : OfPass → OfPass → Ended → Type 0
 HasEndedSo p q ended =
     IfIdle ended ((before : List Entry) × (q.mine ≡ p.mine ++ (before ++ entry p.seat Join Idle ∷ [])))
     × IfFull ended (HasLackedPlaces p q)
+    × IfNoStation ended (WasPlacedAt p q)
 
 -- a worker at these stations, whose gate refuses so, can end so: at GateShut the gate refused the job at each of 1,000,000 questions,
 -- and at NoStation none of the stations is the arena's
@@ -46,7 +52,16 @@ abbrev pub AreEndsFrom : (Ended → Type 0) → Terms → List Entry → ℕ →
 AreEndsFrom CanEnd terms history seat [] = ⊤
 AreEndsFrom CanEnd terms history seat (e ∷ es) = (CanEnd e × HasEndedAt terms history seat e) × AreEndsFrom CanEnd terms history (seat + 1) es
 
--- the ends of all workers, so many; or nobody has worked, since a command of who opens the market was not answered
-abbrev pub AreEnds : (Ended → Type 0) → Terms → List Entry → ℕ → List Ended → Type 0
-AreEnds CanEnd terms history workers es =
-    (AreEndsFrom CanEnd terms history 1 es × (length es ≡ workers)) ⊎ ((fault : CallFault) × (es ≡ Call fault ∷ []) × HasEndedAt terms history 0 (Call fault))
+-- the commands of these that move no seat
+abbrev pub still : List Cmd → List Cmd
+still cmds = filter (λ (cmd : Cmd). not (moves_seat cmd)) cmds
+
+-- who opens the market, at seat 0, was answered each of these commands, in order, and no other that moves no seat
+abbrev pub IsOpenedBy : List Cmd → List Entry → Type 0
+IsOpenedBy cmds history = still (map (λ (e : Entry). e.call.cmd) (of_seat 0 history)) ≡ cmds
+
+-- the ends of all workers, so many, at a market that these commands opened; or nobody has worked, since a command of who opens it was not
+-- answered
+abbrev pub AreEnds : (Ended → Type 0) → Terms → List Cmd → List Entry → ℕ → List Ended → Type 0
+AreEnds CanEnd terms cmds history workers es =
+    (AreEndsFrom CanEnd terms history 1 es × (length es ≡ workers) × IsOpenedBy cmds history) ⊎ ((fault : CallFault) × (es ≡ Call fault ∷ []) × HasEndedAt terms history 0 (Call fault))

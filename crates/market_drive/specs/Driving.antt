@@ -10,7 +10,8 @@ use Rattle.drive_plan.specs.declared.task.Done.{Done}
 use Rattle.drive_plan.specs.declared.reader.PlanFault.TheVariants as plan
 use Rattle.market_drive.specs.Servable.{IsUnservable, IsLeastUnservable}
 use Rattle.worker_main.specs.declared.report.Ended.{Ended}
-use Rattle.market_drive.specs.Causes.{AreEnds, CanEndIn, terms_of_plan}
+use Rattle.market_drive.specs.Causes.{AreEnds, CanEndIn, IsOpenedBy, terms_of_plan}
+use Rattle.market_drive.specs.Making.{commands_of}
 use Rattle.market_drive.specs.Ending.{end_fault}
 use Rattle.market_drive.specs.declared.fault.DriveFault.{DriveFault}
 use Rattle.market_drive.specs.declared.fault.DriveFault.TheVariants.{BadPlan, Unservable, Unfinished, Doubled, Missing, Memory}
@@ -33,9 +34,10 @@ IsOfficeOf p workers closed =
     × (closed.chronicle.from ≡ 0)
     × (closed.chronicle.places ≡ 1048576)
 
--- it is the office of the text's plan
+-- it is the office of the text's plan, whose commands opened its market
 abbrev pub IsOfficeOfText : List ℕ → ℕ → Closed → Type 0
-IsOfficeOfText text workers closed = (p : Planned) × (plan_of text ≡ Ok p) × IsOfficeOf p workers closed
+IsOfficeOfText text workers closed =
+    (p : Planned) × (plan_of text ≡ Ok p) × IsOfficeOf p workers closed × IsOpenedBy (commands_of p) closed.chronicle.log
 
 -- a fault of the text or of its plan is due; all others come only where none of these is. No answer is ever doubled, and a missing one is
 -- that of a job of the plan
@@ -62,7 +64,7 @@ pub record HasEnded (refused : ℕ → ℕ → Type 0) (p : Planned) (workers : 
   pub closed : Closed
   pub office : IsOfficeOf p workers closed
   pub ended : List Ended
-  pub ends : AreEnds (CanEndIn p refused) (terms_of_plan p workers) closed.chronicle.log workers ended
+  pub ends : AreEnds (CanEndIn p refused) (terms_of_plan p workers) (commands_of p) closed.chronicle.log workers ended
   pub due_is : end_fault ended ≡ due
 
 -- what is told beside a fault: where it is unfinished, that a worker or the opening was broken off, and none for want of memory; where an

@@ -1,16 +1,11 @@
 -- What an opener has called. No clause of a public call has these words (own).
-use Rattle.std.specs.Prelude.{◌≡◌, not, List, ◌++◌, map, Option, Some, None, Result, Err}
-use Rattle.std.specs.List.{filter}
+use Rattle.std.specs.Prelude.{◌≡◌, List, ◌++◌, map, Option, Some, None, Result, Err}
 use Rattle.market_types.specs.declared.command.Cmd.{Cmd}
 use Rattle.market_types.specs.declared.reply.Entry.{Entry}
 use Rattle.market_types.specs.declared.reply.Reply.{Reply}
 use Rattle.edit_history.specs.declared.fault.CallFault.{CallFault}
-use Rattle.market_types.specs.Commands.{moves_seat}
 use Rattle.market_lock.specs.Seen.{OfPass}
-
--- the commands of these that move no seat
-abbrev pub still : List Cmd → List Cmd
-still cmds = filter (λ (cmd : Cmd). not (moves_seat cmd)) cmds
+use Rattle.market_drive.specs.Causes.{still}
 
 -- between the two the caller was answered each of the commands that moves no seat, in order
 abbrev pub HasGiven : List Cmd → OfPass → OfPass → Type 0

@@ -2,6 +2,8 @@
 ghost use Rattle.std.specs.Prelude.{◌≡◌, ◌<◌, ◌≤◌, Ok, IfOk, IfErr};
 ghost use Rattle.drive_plan.specs.Format.{plan_of};
 ghost use Rattle.drive_plan.specs.Outcome.{IsOutcome};
+ghost use Rattle.market_drive.specs.Causes.{IsOpenedBy};
+ghost use Rattle.market_drive.specs.Making.{commands_of};
 ghost use Rattle.market_drive.specs.Driving.{HasCause, HasCauseIn, IsDriven, IsDue, IsEnding, IsLate, IsOfText, IsOfficeOf, IsOfficeOfText};
 
 use crate::commands::plan_commands;
@@ -41,6 +43,7 @@ fn drive_plan_of<G: Gate + Sync, R: Threads + Wait + Sync>(
     requires { (0 < workers) × (workers ≤ 16) }
     ensures outcome { IfOk result (λ driven. IsOutcome plan.now.jobs driven.done.items) }
     ensures office { IfOk result (λ driven. IsOfficeOf plan.now workers driven.closed) }
+    ensures opened { IfOk result (λ driven. IsOpenedBy (commands_of plan.now) driven.closed.chronicle.log) }
     ensures late { IfErr result IsLate }
     ensures ending { IfErr result (IsEnding plan.now) }
     ensures cause { IfErr result (HasCause (G.refused gate.now) plan.now workers) }
@@ -72,7 +75,8 @@ fn drive_plan_of<G: Gate + Sync, R: Threads + Wait + Sync>(
 
 /// Reads a plan, and gives the answers to its jobs in order of number: at Ok the same by every number of workers, 1 to 16, each of
 /// which works in a thread of its own, or in the calling thread where none can be made. A gate is asked before each job and told
-/// after it. Beside the answers it gives the office that was closed, with the history of its calls.
+/// after it. Beside the answers it gives the office that was closed, with the history of its calls, in which the first seat gave the
+/// plan's commands, in order.
 ///
 /// `BadPlan` comes first, where the text is no plan; then `Unservable`, where an arena with jobs would never be allotted a worker.
 /// The others come only after the office was opened, with all workers back and the office closed: `Memory`, `Unfinished`,

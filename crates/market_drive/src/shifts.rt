@@ -1,6 +1,7 @@
 //! All workers of a plan work, each in a thread of its own.
-ghost use Rattle.std.specs.Prelude.{◌≡◌, ◌+◌, ◌<◌, ◌≤◌, ◌++◌, [], ℕ, None, Option, false, length, map, reverse, vec_len, vec_capacity, AllPairs, IfOk, IfSome};
+ghost use Rattle.std.specs.Prelude.{◌≡◌, ◌+◌, ◌<◌, ◌≤◌, ◌++◌, [], ℕ, List, None, Option, false, length, map, reverse, vec_len, vec_capacity, AllPairs, IfOk, IfSome};
 ghost use Rattle.std.specs.List.{All, sum_by};
+ghost use Rattle.market_types.specs.declared.command.Cmd.{Cmd as OfCmd};
 ghost use Rattle.market_types.specs.State.{opening_to};
 ghost use Rattle.edit_history.specs.declared.keeping.Keeping.TheVariants.{Everything};
 ghost use Rattle.market_lock.specs.Headline.{IsGivenBy};
@@ -9,7 +10,7 @@ ghost use Rattle.market_drive.specs.declared.opener.Opener.{Opener};
 ghost use Rattle.market_drive.specs.Driving.{IsOfficeOf};
 ghost use Rattle.market_drive.specs.Jobs.{taken_by, taken_weight};
 ghost use Rattle.market_drive.specs.Racks.{IsFor, OfRack};
-ghost use Rattle.market_drive.specs.Causes.{AreEnds, CanEndAt, terms_of_plan};
+ghost use Rattle.market_drive.specs.Causes.{AreEnds, CanEndAt, still, terms_of_plan};
 ghost use Rattle.market_drive.specs.Reports.{end_for, ends_of, shown, untold};
 ghost use Rattle.office_crew.specs.Callers.{terms_of};
 ghost use Rattle.market_drive.specs.Lines.{queues_at};
@@ -101,6 +102,7 @@ fn hear(openers: Vec<Opener<'_>>, reports: &mut Reports)
 fn openers<'a>(alloc: Global, cmds: &'a [Cmd]) -> Result<Vec<Opener<'a>>, AllocError>
     ensures one { IfOk result (λ openers. vec_len openers ≡ 1) }
     ensures fresh { IfOk result (λ openers. All (λ (o : Opener). o.fault ≡ None) openers.items) }
+    ensures cmds { IfOk result (λ openers. All (λ (o : Opener). o.cmds.now ≡ cmds.now) openers.items) }
 {
     let mut openers = Vec::with_capacity(alloc, 1)?;
     openers.push_reserved(Opener::new(cmds));
@@ -128,7 +130,7 @@ fn work_together<Y: Yard + Send + Sync, G: Gate + Sync, R: Threads + Wait + Sync
     ensures calls { IfSome result.1 (λ closed. closed.calls ≡ length closed.chronicle.log) }
     ensures whole { terms.keeping ≡ Everything → IfSome result.1 (λ closed. closed.chronicle.from ≡ 0) }
     ensures places { IfSome result.1 (λ closed. closed.chronicle.places ≡ terms.places) }
-    ensures ends { reports.new.torn ≡ false → IfSome result.1 (λ closed. AreEnds Y.ends (terms_of terms (1 + vec_len workers.entry)) closed.chronicle.log (vec_len workers.entry) reports.new.ended) }
+    ensures ends { (cmds : List OfCmd) → All (λ (o : Opener). o.cmds.now ≡ cmds) openers.entry.items → reports.new.torn ≡ false → IfSome result.1 (λ closed. AreEnds Y.ends (terms_of terms (1 + vec_len workers.entry)) (still cmds) closed.chronicle.log (vec_len workers.entry) reports.new.ended) }
     ensures shown { reports.new.torn ≡ false → (weigh : Job → ℕ) → sum_by weigh (shown reports.new) ≡ sum_by weigh (shown reports.old) + taken_weight weigh result.0 }
 {
     match meet(rt, alloc, terms, openers, workers) {
@@ -182,7 +184,7 @@ pub(crate) fn work_shifts<Y: Yard + Send + Sync, G: Gate + Sync, R: Threads + Wa
     ensures racks { All (IsFor Y.queues) result.racks }
     ensures each { length result.racks ≡ length racks }
     ensures office { IfSome result.closed (IsOfficeOf plan.now (length racks)) }
-    ensures ends { result.reports.torn ≡ false → IfSome result.closed (λ closed. AreEnds Y.ends (terms_of_plan plan.now (length racks)) closed.chronicle.log (length racks) result.reports.ended) }
+    ensures ends { result.reports.torn ≡ false → IfSome result.closed (λ closed. AreEnds Y.ends (terms_of_plan plan.now (length racks)) (still cmds.now) closed.chronicle.log (length racks) result.reports.ended) }
     ensures shown { result.reports.torn ≡ false → (weigh : Job → ℕ) → sum_by weigh (shown result.reports) ≡ taken_weight weigh result.racks }
 {
     let mut reports = Reports::new(alloc);

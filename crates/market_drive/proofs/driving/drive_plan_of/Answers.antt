@@ -1,11 +1,14 @@
-use Rattle.std.proofs.Common.{◌≡◌, ℕ, IfSome, arith, length, sym, subst}
+use Rattle.std.proofs.Common.{◌≡◌, ◌∙◌, ℕ, IfSome, List, ap, arith, length, sym, subst}
+use Rattle.market_types.specs.declared.command.Cmd.{Cmd}
 use Rattle.market_lock.specs.declared.office.Closed.{Closed}
-use Rattle.market_drive.specs.Causes.{AreEnds, CanEndIn, terms_of_plan}
+use Rattle.market_drive.specs.Causes.{AreEnds, CanEndIn, IsOpenedBy, still, terms_of_plan}
 use Rattle.market_drive.specs.Driving.{IsOfficeOf}
 use Rattle.market_drive.specs.Jobs.{HaveRequestsOf}
+use Rattle.market_drive.specs.Making.{commands_of}
 use Rattle.market_drive.specs.declared.fault.DriveFault.TheVariants.{Memory}
-use Rattle.market_drive.proofs.Endings.{drive_cause, no_arena}
+use Rattle.market_drive.proofs.Endings.{drive_cause, idle_opened, no_arena, not_torn}
 use Rattle.market_drive.proofs.Once.{ending}
+use Rattle.market_drive.proofs.Openings.{still_commands}
 use Rattle.market_drive.proofs.driving.drive_plan_of.Goals as goal
 
 pub returns-clause-ending : goal.returns-clause-ending
@@ -36,5 +39,20 @@ returns-clause-cause g c =
     (λ torn. let is = c.in-Err.ensures.torn torn in (let e : c.in-Err.fault ≡ Memory = cc in e))
     c.in-Err.ensures.fault
     (λ whole.
-    subst (λ (n : ℕ). AreEnds (CanEndIn plan refused) (terms_of_plan plan n) closed.chronicle.log n shifts.result.reports.ended) each
-    (subst (λ o. IfSome o (λ (x : Closed). AreEnds (CanEndIn plan refused) (terms_of_plan plan many) x.chronicle.log many shifts.result.reports.ended)) c.in-Some.is (shifts.ensures.ends whole)))
+    let given : still c.deref.result.now ≡ commands_of plan = ap still (c.deref.ensures.value ∙ c.in-Ok.ensures.exact) ∙ still_commands plan in
+    subst (λ (l : List Cmd). AreEnds (CanEndIn plan refused) (terms_of_plan plan c.args.workers) l closed.chronicle.log c.args.workers shifts.result.reports.ended) given
+    (subst (λ (n : ℕ). AreEnds (CanEndIn plan refused) (terms_of_plan plan n) (still c.deref.result.now) closed.chronicle.log n shifts.result.reports.ended) each
+    (subst (λ o. IfSome o (λ (x : Closed). AreEnds (CanEndIn plan refused) (terms_of_plan plan many) (still c.deref.result.now) x.chronicle.log many shifts.result.reports.ended)) c.in-Some.is (shifts.ensures.ends whole))))
+
+pub returns-in-Ok-gather-clause-opened : goal.returns-in-Ok-gather-clause-opened
+returns-in-Ok-gather-clause-opened g c =
+    let shifts = c.work_shifts-racks in
+    let plan = c.args.plan.now in
+    let refused = g.G.Gate.refused c.args.gate.now in
+    let closed = c.in-Some.closed in
+    let many : ℕ = length c.in-Ok-line_up.racks in
+    let given : still c.deref.result.now ≡ commands_of plan = ap still (c.deref.ensures.value ∙ c.in-Ok.ensures.exact) ∙ still_commands plan in
+    let whole = not_torn shifts.result.reports.torn (λ torn. let is = c.in-Ok-gather.ensures.torn torn in (let e : ⊥ = cc in e)) in
+    subst (λ (l : List Cmd). IsOpenedBy l closed.chronicle.log) given
+    (idle_opened (CanEndIn plan refused) (terms_of_plan plan many) (still c.deref.result.now) closed.chronicle.log many shifts.result.reports.ended c.in-Ok-gather.ensures.ended
+    (subst (λ o. IfSome o (λ (x : Closed). AreEnds (CanEndIn plan refused) (terms_of_plan plan many) (still c.deref.result.now) x.chronicle.log many shifts.result.reports.ended)) c.in-Some.is (shifts.ensures.ends whole)))

@@ -26,7 +26,7 @@ pub returns-in-Some-clause-worked : goal.returns-in-Some-clause-worked
 returns-in-Some-clause-worked g c =
     let next = who_is c.ask-next.result.caller in
     let fails = c.ask-next.ensures.failed c.in-Some.fault (fault_was c.ask-next.result.answer c.in-Some.fault (sym c.fault_in.ensures ∙ c.in-Some.is)) in
-    (tt, λ new. (tt, lacked (who_is c.args.caller) (who_is c.loop-cmd.caller) next next c.cmd-item.result c.in-Some.fault c.loop-cmd.invariant.0 fails (goes_on next)))
+    (tt, λ new. (tt, lacked (who_is c.args.caller) (who_is c.loop-cmd.caller) next next c.cmd-item.result c.in-Some.fault c.loop-cmd.invariant.0 fails (goes_on next), tt))
 
 pub returns-clause-worked : goal.returns-clause-worked
 returns-clause-worked g c = (
