@@ -9,7 +9,7 @@ use crate::asserts::{holds, same};
 use edit_history::{CallFault, Keeping};
 use market_lock::{Attempt, Closed, Joined, Office, Pass, Placed, Stayed};
 use market_types::{ArenaId, Cmd, Entry, LastNumber, Level, OpenFault, Reply};
-use office_crew::{Caller, Task, Terms, meet};
+use office_crew::{Caller, MeetingTerms, Task, meet};
 use std::alloc::Global;
 use std::marker::Brand;
 use std::process::Abort;
@@ -20,7 +20,7 @@ use std::thread;
 use std::thread::Threads;
 
 /// The terms of an office that answers as many calls as these tests make.
-const TERMS: Terms = Terms {
+const TERMS: MeetingTerms = MeetingTerms {
     base: 8,
     hard: 64,
     places: 6,
