@@ -90,12 +90,12 @@ first-by false b rest (x ∷ field) more other parts split =
     let same : b ≡ x = cc in
     ne_eqb x 45 (λ e. other (same ∙ e))
 
-first_other : (text field : List ℕ) (more : List (List ℕ)) → slice_index text 0 ≢ 45 → slice_split is_space text ≡ field ∷ more → eqb (slice_index field 0) 45 ≡ false
+first_other : (text field : List ℕ) (more : List (List ℕ)) → ((rest : List ℕ) → text ≢ 45 ∷ rest) → slice_split is_space text ≡ field ∷ more → eqb (slice_index field 0) 45 ≡ false
 first_other [] [] more other split = refl
 first_other [] (x ∷ field) more other split = absurd (cc)
-first_other (b ∷ rest) field more other split = first-by (is_space b) b rest field more other (sym (text_fields rest)) split
+first_other (b ∷ rest) field more other split = first-by (is_space b) b rest field more (λ e. other rest (ap (λ x. x ∷ rest) e)) (sym (text_fields rest)) split
 
-pub no_minus : (text field : List ℕ) (more : List (List ℕ)) → slice_index text 0 ≢ 45 → slice_split is_space text ≡ field ∷ more → signed field ≡ option_and_then positive (number field)
+pub no_minus : (text field : List ℕ) (more : List (List ℕ)) → ((rest : List ℕ) → text ≢ 45 ∷ rest) → slice_split is_space text ≡ field ∷ more → signed field ≡ option_and_then positive (number field)
 unfolding signed
 no_minus text field more other split = rw (first_other text field more other split) refl
 

@@ -1,6 +1,6 @@
 //! The fields of a text, and what each reads as.
 ghost use Rattle.std.specs.Prelude.{◌≡◌, ◌≢◌, ◌+◌, ◌*◌, ◌<◌, ◌≤◌, ◌∷◌, ◌++◌, IfNone, IfSome, None, Some, SomeIff, false, length, option_and_then, option_map, slice_index};
-ghost use Rattle.std.specs.List.{All, list_any, slice_split};
+ghost use Rattle.std.specs.List.{list_any, slice_split};
 ghost use Rattle.std.specs.Str.{bytes_eq};
 ghost use Rattle.std.specs.Str.Parse.{digits_value_after};
 ghost use Rattle.market_types.specs.Fields.{behind_digits, fields_left, front_digits};
@@ -12,29 +12,18 @@ use crate::level::Level;
 /// The greatest number of 32 bits.
 const MOST_NUMBER: u64 = 4_294_967_295;
 
-/// The text before the first space, and the text after it.
-fn cut_space(text: &[u8]) -> Option<(&[u8], &[u8])>
-    ensures some { IfSome result (λ p. (text.now ≡ p.0.now ++ 32 ∷ p.1.now) × All (λ x. is_space x ≡ false) p.0.now) }
-    ensures none { IfNone result (All (λ x. is_space x ≡ false) text.now) }
-{
-    // Fields are short: a search by vectors is slower.
-    for (at, byte) in text.iter().enumerate() {
-        if *byte == b' ' {
-            return Some((&text[..at], &text[at + 1..]));
-        }
-    }
-    None
-}
-
 /// The first field of a text, which one space ends, and what follows that space; where no space ends it, the whole text is
 /// the field and nothing follows. Takes no memory.
 pub fn cut_field(text: &[u8]) -> (&[u8], Option<&[u8]>)
     ensures { slice_split is_space text.now ≡ result.0.now ∷ fields_left result.1 }
 {
-    match cut_space(text) {
-        Some((field, more)) => (field, Some(more)),
-        None => (text, None),
+    // Fields are short: a search by vectors is slower.
+    for (at, byte) in text.iter().enumerate() {
+        if *byte == b' ' {
+            return (&text[..at], Some(&text[at + 1..]));
+        }
     }
+    (text, None)
 }
 
 /// The number whose digits are those of `number` and then this one, where it is at most `most`.
@@ -162,23 +151,11 @@ fn negative(number: u32) -> Option<i32>
     i32::try_from(-i64::from(number)).ok()
 }
 
-/// What follows the minus that a text begins with.
-#[inline]
-fn after_minus(text: &[u8]) -> Option<&[u8]>
-    ensures none { IfNone result (slice_index text.now 0 ≢ 45) }
-    ensures some { IfSome result (λ rest. text.now ≡ 45 ∷ rest.now) }
-{
-    match text {
-        [b'-', rest @ ..] => Some(rest),
-        _ => None,
-    }
-}
-
 /// The signed number that the first field of a text is, and what follows the space that ends that field.
 pub(crate) fn cut_signed(text: &[u8]) -> Option<(i32, Option<&[u8]>)>
     ensures { IsCut signed text.now result }
 {
-    if let Some(digits) = after_minus(text) {
+    if let Some(digits) = text.strip_prefix(b"-") {
         let (number, more) = cut_number(digits)?;
         Some((negative(number)?, more))
     } else {

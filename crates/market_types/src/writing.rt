@@ -122,20 +122,10 @@ fn push_request(
 pub fn level_text(level: Level, levels: u32) -> &'static str
     ensures exact { result.now ≡ level_text levels level }
 {
-    if levels == 3 {
-        named_level(level)
-    } else {
-        numbered_level(level)
-    }
-}
-
-fn named_level(level: Level) -> &'static str
-    ensures { result.now ≡ level_text 3 level }
-{
     match level.get() {
-        1 => "high",
-        2 => "normal",
-        3 => "low",
+        1 if levels == 3 => "high",
+        2 if levels == 3 => "normal",
+        3 if levels == 3 => "low",
         _ => numbered_level(level),
     }
 }
