@@ -1,7 +1,6 @@
 -- A look at rows to which one worker is due together: it is due at one of them, and none before it or behind it is allotted any.
-use Rattle.std.proofs.Common.{◌≡◌, ℕ, ◌+◌, ◌-◌, ◌*◌, ◌<◌, ◌≤◌, List, [], ◌∷◌, ◌++◌, length, Option, Some, None, refl, sym, ap, ◌∙◌, arith, length-append}
+use Rattle.std.proofs.Common.{◌≡◌, ℕ, ◌+◌, ◌-◌, ◌*◌, ◌<◌, ◌≤◌, List, ◌∷◌, ◌++◌, length, Option, Some, None, sym, ap, ◌∙◌, arith, length-append}
 use Rattle.std.specs.List.{count_by}
-use Rattle.std.proofs.lemmas.List.{append_assoc}
 use Rattle.market_types.specs.declared.row.Row.{Row}
 use Rattle.market_types.specs.Allotment.{is_just}
 use Rattle.prefix_tree.specs.Rows.{requests}
@@ -9,100 +8,9 @@ use Rattle.prefix_tree.proofs.Readings.{requests-append, requests-cons}
 use Rattle.recall_hire.specs.declared.rows.Staffing.{Staffing}
 use Rattle.recall_hire.specs.declared.sharing.Sharing.TheVariants.{Carried}
 use Rattle.recall_hire.specs.Staffed.{first_in_need, searches}
-use Rattle.recall_hire.specs.Shared.{IsLook, IsReached, row_carry, staffed, carry_after}
+use Rattle.wide_rows.specs.Passed.{IsReached}
+use Rattle.recall_hire.specs.Shared.{IsLook, row_carry, staffed, carry_after}
 use Rattle.recall_hire.proofs.Shares.{row_at, AreIdle, idle, share-kept, carry-rest, staffed-append, carry-append, need-later, searches-later, need-lacks, searches-lacks, need-enough, searches-enough}
-
--- ---- the row at which it is due
-
--- of the rows that were walked, before others, the one at which the demand is reached, or the last
-pub record IsPicked (k d c : ℕ) (rows rest : List Row) (due picked : ℕ) : Type 0 where
-  pub before : List Row
-  pub row : Row
-  pub after : List Row
-  pub rows_are : rows ≡ (before ++ row ∷ after) ++ rest
-  pub due_is : due ≡ c + k * requests (before ++ row ∷ after)
-  pub picked_is : picked ≡ row.arena
-  pub below : c + k * requests before < d
-  pub reached : d ≤ due → d ≤ c + k * (requests before + row.request)
-
--- so many rows were walked
-record Walked (k d c : ℕ) (rows rest : List Row) (due : ℕ) (walked : List Row) : Type 0 where
-  pub rows_are : rows ≡ walked ++ rest
-  pub due_is : due ≡ c + k * requests walked
-
-one-more : (k d c : ℕ) (rows rest r : List Row) (y : Row) (due more picked : ℕ) → rest ≡ y ∷ r → more ≡ due + k * y.request → (h : IsPicked k d c rows rest due picked)
-    → Walked k d c rows r more ((h.before ++ h.row ∷ h.after) ++ y ∷ [])
-one-more k d c rows rest r y due more picked e sum h =
-    let walked : List Row = h.before ++ h.row ∷ h.after in
-    let asked : requests (walked ++ y ∷ []) ≡ requests walked + y.request = omega (arith, requests-append walked (y ∷ []), requests-cons y []) in
-    record {
-      rows_are = h.rows_are ∙ ap (λ (l : List Row). walked ++ l) e ∙ sym (append_assoc walked (y ∷ []) r);
-      due_is = omega (arith, sum, h.due_is, ap (λ n. k * n) asked);
-    }
-
-pub picked-first : (k d c : ℕ) (rows rest : List Row) (x : Row) (due : ℕ) → c < d → rows ≡ x ∷ rest → due ≡ c + k * x.request → IsPicked k d c rows rest due x.arena
-picked-first k d c rows rest x due low e is = record {
-  before = [];
-  row = x;
-  after = [];
-  rows_are = e;
-  due_is = omega (arith, is, ap (λ n. k * n) (requests-cons x []));
-  picked_is = refl;
-  below = omega arith;
-  reached = λ h. omega (arith, h, is);
-}
-
--- with one row more, where what was walked stays below the demand
-pub picked-moves : (k d c : ℕ) (rows rest r : List Row) (y : Row) (due more picked : ℕ) → rest ≡ y ∷ r → more ≡ due + k * y.request → due < d
-    → IsPicked k d c rows rest due picked → IsPicked k d c rows r more y.arena
-picked-moves k d c rows rest r y due more picked e sum less h =
-    let w : Walked k d c rows r more ((h.before ++ h.row ∷ h.after) ++ y ∷ []) = one-more k d c rows rest r y due more picked e sum h in
-    record {
-      before = h.before ++ h.row ∷ h.after;
-      row = y;
-      after = [];
-      rows_are = w.rows_are;
-      due_is = w.due_is;
-      picked_is = refl;
-      below = omega (arith, less, h.due_is);
-      reached = λ g. omega (arith, g, sum, h.due_is);
-    }
-
--- and where the demand was reached
-pub picked-stays : (k d c : ℕ) (rows rest r : List Row) (y : Row) (due more picked : ℕ) → rest ≡ y ∷ r → more ≡ due + k * y.request → d ≤ due
-    → IsPicked k d c rows rest due picked → IsPicked k d c rows r more picked
-picked-stays k d c rows rest r y due more picked e sum enough h =
-    let w : Walked k d c rows r more ((h.before ++ h.row ∷ h.after) ++ y ∷ []) = one-more k d c rows rest r y due more picked e sum h in
-    let same : (h.before ++ h.row ∷ h.after) ++ y ∷ [] ≡ h.before ++ h.row ∷ (h.after ++ y ∷ []) = append_assoc h.before (h.row ∷ h.after) (y ∷ []) in
-    record {
-      before = h.before;
-      row = h.row;
-      after = h.after ++ y ∷ [];
-      rows_are = w.rows_are ∙ ap (λ (l : List Row). l ++ r) same;
-      due_is = w.due_is ∙ ap (λ (l : List Row). c + k * requests l) same;
-      picked_is = h.picked_is;
-      below = h.below;
-      reached = λ _. h.reached enough;
-    }
-
--- with all of them the demand is reached
-pub picked-all : (k d c : ℕ) (rows rest : List Row) (due picked : ℕ) → rest ≡ [] → d ≤ c + k * requests rows → IsPicked k d c rows rest due picked → IsReached k d c rows picked
-picked-all k d c rows rest due picked none enough h =
-    let walked : List Row = h.before ++ h.row ∷ h.after in
-    let all : requests rows ≡ requests walked + requests rest = ap requests h.rows_are ∙ requests-append walked rest in
-    let nothing : requests rest ≡ 0 = ap requests none in
-    let same : requests rows ≡ requests walked = omega (arith, all, nothing) in
-    record {
-      before = h.before;
-      row = h.row;
-      after = h.after ++ rest;
-      rows_are = h.rows_are ∙ append_assoc h.before (h.row ∷ h.after) rest;
-      arena_is = h.picked_is;
-      below = h.below;
-      reached = h.reached (omega (arith, enough, h.due_is, ap (λ n. k * n) same));
-    }
-
--- ---- the look
 
 -- rows before which nobody is allotted a worker, one that is allotted one, and rows behind it that are allotted none
 record IsOne (k d : ℕ) (seats : List (Option ℕ)) (rows : List Row) (c past : ℕ) (here : Staffing) (later : List Staffing) : Type 0 where

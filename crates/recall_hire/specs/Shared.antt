@@ -3,7 +3,6 @@ use Rattle.std.specs.Prelude.{◌≡◌, ℕ, ◌<◌, ◌≤◌, length, max, N
 use Rattle.std.specs.List.{fold, count_by}
 use Rattle.market_types.specs.declared.row.Row.{Row}
 use Rattle.market_types.specs.Allotment.{is_just}
-use Rattle.prefix_tree.specs.Rows.{requests}
 use Rattle.recall_hire.specs.declared.rows.Staffing.{Staffing}
 use Rattle.recall_hire.specs.Staffed.{first_in_need, searches, above_zero_in, recall_in, hire_in, imbalances, looks, actives}
 use Rattle.market_types.specs.Counts.{Counts}
@@ -54,17 +53,6 @@ pub record IsSearch (workers demand : ℕ) (seats : List (Option ℕ)) (rows : L
   pub looked : visits + searches (staffed (Carried workers demand) seats before rows.0) ≤ more
   pub once : more ≤ visits + length rows.0
   pub most : more ≤ visits + rows.1 * searches (staffed (Carried workers demand) seats before rows.0)
-
--- the arena at which the demand is reached: what the rows before its own ask for, times the workers, on top of the carry stays below the
--- demand, and with its own does not (private functions alone cite this)
-pub record IsReached (workers demand carry : ℕ) (rows : List Row) (arena : ℕ) : Type 0 where
-  pub before : List Row
-  pub row : Row
-  pub after : List Row
-  pub rows_are : rows ≡ before ++ row ∷ after
-  pub arena_is : arena ≡ row.arena
-  pub below : carry + workers * requests before < demand
-  pub reached : demand ≤ carry + workers * (requests before + row.request)
 
 -- what a caller has to know of a level that is listed, whose rows ask for `asked` together: that they can share, where they do
 abbrev pub CanShareAll : Sharing → ℕ → ℕ → Type 0

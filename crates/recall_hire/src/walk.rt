@@ -8,7 +8,7 @@ ghost use Rattle.prefix_tree.specs.Rows.{requests};
 ghost use Rattle.wide_rows.specs.Passed.{with_height};
 ghost use Rattle.recall_hire.specs.declared.sharing.Sharing.TheVariants.{Carried};
 ghost use Rattle.recall_hire.specs.Staffed.{first_in_need, searches};
-ghost use Rattle.recall_hire.specs.Shared.{CanShare, IsLook, IsReached, IsSearch, staffed, row_share, row_carry};
+ghost use Rattle.recall_hire.specs.Shared.{CanShare, IsLook, IsSearch, staffed, row_share, row_carry};
 
 use crate::roster::Roster;
 use crate::served::first_short;
@@ -148,36 +148,12 @@ impl Search<'_> {
         requires few { visits.old + length rows < 2 ^ 31 }
         ensures { IsLook self.now.workers self.now.demand self.now.roster.now rows.entry carry.old carry.new visits.old visits.new result }
     {
-        let arena = self.due_among(rows, *carry, visits);
+        let arena = rows.reaching(self.workers, self.demand, *carry, visits);
         if self.roster.active(arena) == 0 {
             return Some(arena);
         }
         *carry = past;
         None
-    }
-
-    /// The one of a few arenas at which the demand is reached. Which it is is no branch, since half of them would be guessed wrongly.
-    #[inline(always)]
-    fn due_among(&self, rows: Quad<'_>, carry: u64, visits: &mut u32) -> ArenaId
-        requires shared { CanShare self.now.workers self.now.demand carry }
-        requires part { requests rows ≤ self.now.demand }
-        requires due { self.now.demand ≤ carry + self.now.workers * requests rows }
-        requires few { visits.old + length rows < 2 ^ 31 }
-        ensures reached { IsReached self.now.workers self.now.demand carry rows.entry result }
-        ensures counted { visits.new ≡ visits.old + length rows.entry }
-    {
-        let mut rest = rows;
-        let Some(first) = rest.next(visits) else {
-            unreachable!()
-        };
-        let mut picked = first.arena;
-        let mut due = carry + self.workers * u64::from(first.request);
-        while let Some(row) = rest.next(visits) {
-            let with_row = due + self.workers * u64::from(row.request);
-            picked = if due < self.demand { row.arena } else { picked };
-            due = with_row;
-        }
-        picked
     }
 
     /// The first of a few arenas that is allotted more workers than it has, by a look at each. Where there is none, the carry has gone

@@ -15,6 +15,7 @@ pub mod OfShelves
 pub mod OfStoreys
 pub mod OneLevel
 pub mod Passing
+pub mod Reaching
 pub mod Rows
 pub mod Seen
 pub mod SmallDigits

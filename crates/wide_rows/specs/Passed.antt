@@ -1,5 +1,5 @@
 -- Walks through rows, the newest first, that pass over some as a whole.
-use Rattle.std.specs.Prelude.{Option, None, Some, Box, ◌≡◌, ℕ, ◌+◌, ◌-◌, ◌*◌, ◌/◌, ◌<◌, ◌≤◌, min, List, [], ◌++◌, length, slice_index}
+use Rattle.std.specs.Prelude.{Option, None, Some, Box, ◌≡◌, ℕ, ◌+◌, ◌-◌, ◌*◌, ◌/◌, ◌<◌, ◌≤◌, min, List, [], ◌∷◌, ◌++◌, length, slice_index}
 use Rattle.market_types.specs.declared.row.Row.{Row}
 use Rattle.prefix_tree.specs.Rows.{requests}
 use Rattle.prefix_tree.specs.Bits.{bits}
@@ -32,8 +32,21 @@ pub record IsDue (workers demand : ℕ) (rows next rest : List Row) (carry after
 abbrev pub rows_from : Columns → ℕ → ℕ → List Row
 rows_from columns first count = rows_below (λ i. lane columns (first + i)) count
 
--- so many rows are within a leaf, and ask for so much
+-- the arena at which the demand is reached: what the rows before its own ask for, times the workers, on top of the carry stays below the
+-- demand, and with its own does not
+pub record IsReached (workers demand carry : ℕ) (rows : List Row) (arena : ℕ) : Type 0 where
+  pub before : List Row
+  pub row : Row
+  pub after : List Row
+  pub rows_are : rows ≡ before ++ row ∷ after
+  pub arena_is : arena ≡ row.arena
+  pub below : carry + workers * requests before < demand
+  pub reached : demand ≤ carry + workers * (requests before + row.request)
+
+-- so many rows are within a quad of a leaf, and ask for so much
 pub record AreAside (columns : Columns) (first count asked : ℕ) : Type 0 where
+  pub room : first ≤ 12
+  pub four : count ≤ 4
   pub within : first + count ≤ 16
   pub summed : asked ≡ requests (rows_from columns first count)
 

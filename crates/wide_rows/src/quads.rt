@@ -7,15 +7,15 @@
 //!   left        0 and 1: the rows of quad 2 come next, then those of quad 0
 //! ```
 ghost use Rattle.std.specs.Prelude.{◌≡◌, ℕ, ◌+◌, ◌-◌, ◌*◌, ◌^◌, ◌<◌, ◌≤◌, List, [], ◌∷◌, length, IfNone, IfSome};
-ghost use Rattle.wide_rows.specs.Leaves.{IsLeaf, rows_in};
-ghost use Rattle.wide_rows.specs.Passed.{IsPassed, IsDue, AreQuads, AreQuadsPassed, AllQuadsPassed, quad_rows, rows_of_quads};
+ghost use Rattle.wide_rows.specs.Leaves.{IsLeaf, lane, rows_in};
+ghost use Rattle.wide_rows.specs.Passed.{IsPassed, IsDue, IsReached, AreQuads, AreQuadsPassed, AllQuadsPassed, quad_rows, rows_from, rows_of_quads};
 ghost use Rattle.prefix_tree.specs.Bits.{bits};
 ghost use Rattle.prefix_tree.specs.Rows.{requests};
 
 use crate::columns::Columns;
 use crate::search;
 use crate::visits::pass_over;
-use market_types::Row;
+use market_types::{ArenaId, Row};
 use std::marker::Model;
 
 /// Up to four rows that stand side by side. Contracts see those that are left of them, newest first.
@@ -88,6 +88,56 @@ impl<'a> Quad<'a> {
         self.asked -= row.request;
         Some(row)
     }
+
+    /// The arena at which the demand is reached, where it is reached by these rows. Each of them is a visit.
+    #[inline(always)]
+    pub fn reaching(&self, workers: u64, demand: u64, carry: u64, visits: &mut u32) -> ArenaId
+        requires few { workers < 2 ^ 31 }
+        requires low { carry < demand }
+        requires small { demand < 2 ^ 32 }
+        requires due { demand ≤ carry + workers * requests self.now }
+        requires room { visits.old < 2 ^ 31 }
+        ensures reached { IsReached workers demand carry self.now result }
+        ensures counted { visits.new ≡ visits.old + length self.now }
+    {
+        *visits += self.count;
+        let place = lane_reaching(self.columns, self.first, self.count, workers, demand, carry);
+        ArenaId::new(self.columns.arenas[(self.first + place) as usize])
+    }
+}
+
+/// Which of so many lanes from one on is the newest by which the demand is reached, where it is reached by all of them. Which it is is no
+/// branch, since it would be guessed wrongly half of the time.
+#[inline(always)]
+fn lane_reaching(
+    columns: &Columns,
+    first: u32,
+    count: u32,
+    workers: u64,
+    demand: u64,
+    carry: u64,
+) -> u32
+    requires room { first ≤ 12 }
+    requires four { count ≤ 4 }
+    requires few { workers < 2 ^ 31 }
+    requires low { carry < demand }
+    requires small { demand < 2 ^ 32 }
+    requires asked { requests (rows_from columns.now first count) < 2 ^ 32 }
+    requires due { demand ≤ carry + workers * requests (rows_from columns.now first count) }
+    ensures there { result < count }
+    ensures reached { IsReached workers demand carry (rows_from columns.now first count) (lane columns.now (first + result)).arena }
+{
+    let mut place = 0;
+    let mut behind = carry;
+    let mut lane = 4;
+    while lane > 0 {
+        lane -= 1;
+        let asked = columns.requests[(first + lane) as usize];
+        let request = if lane < count { asked } else { 0 };
+        place = if behind < demand { lane } else { place };
+        behind += workers * u64::from(request);
+    }
+    place
 }
 
 /// Rows of a leaf, those of its first quads. Contracts see them as a list, newest first.
