@@ -2,11 +2,11 @@
 
 /// Of `--progress`, where lines are read.
 pub(crate) const PROGRESS_OF_LINES: &str =
-    "Reports on standard error how much has been read, even where that is no terminal";
+    "Reports on standard error how much has been read, even if that is no terminal";
 
 /// Of `--progress`, where jobs are run.
 pub(crate) const PROGRESS_OF_JOBS: &str =
-    "Reports on standard error how many jobs are done, even where that is no terminal";
+    "Reports on standard error how many jobs are done, even if that is no terminal";
 
 /// At the end of `market --help`.
 pub(crate) const OF_MARKET: &str = "\
