@@ -1,5 +1,5 @@
 -- The answer to a line, by its form.
-use Rattle.std.proofs.Common.{◌≡◌, ℕ, ◌+◌, ◌≤◌, ◌++◌, true, false, cond, nat_lt, List, length, Option, None, Result, Ok, Err, OnOk, refl, sym, ap, ◌∙◌, arith, add-zero, append-nil}
+use Rattle.std.proofs.Common.{◌≡◌, ℕ, ◌+◌, ◌≤◌, ◌++◌, Bool, true, false, cond, nat_lt, List, [], length, Option, None, Result, Ok, Err, OnOk, refl, sym, ap, ◌∙◌, arith, add-zero, append-nil}
 use Rattle.std.proofs.lemmas.Bool.Decides.{nat_tests}
 use Rattle.market_types.specs.declared.command.Cmd.{Cmd}
 use Rattle.market_types.specs.State.{State}
@@ -23,8 +23,9 @@ pub silent-state : (form : LineForm) (s : State) (n : ℕ) (line : List ℕ) →
 silent-state form s n line e =
     ap (λ (k : ℕ). let x : State × ℕ = (s, k) in x) (sym (add-zero n)) ∙ sym (ap (λ (t : Told). let x : State × ℕ = (t.last, n + t.unread) in x) (answer-silent form s line e))
 
-pub silent-text : (form : LineForm) (s : State) (line text : List ℕ) → is_silent line ≡ true → text ≡ text ++ (answer_by form s line).text
-silent-text form s line text e = sym (append-nil text) ∙ sym (ap (λ (t : Told). text ++ t.text) (answer-silent form s line e))
+pub silent-text : (answers : Bool) (form : LineForm) (s : State) (line text : List ℕ) → is_silent line ≡ true → text ≡ text ++ cond answers (answer_by form s line).text []
+silent-text true form s line text e = sym (append-nil text) ∙ sym (ap (λ (t : Told). text ++ t.text) (answer-silent form s line e))
+silent-text false form s line text e = sym (append-nil text)
 
 answer_of-heard : (s : State) (line : List ℕ) → is_silent line ≡ false → length line ≤ 256 → answer_of s line ≡ answer_to s (line_reading (length s.seats) s.levels line)
 unfolding answer_of
@@ -45,6 +46,6 @@ pub heard-state : {T E : Type 0} (r : Result T E) (q s : State) (m n : ℕ) (a b
 heard-state (Ok x) q s m n a b e f is = called-state q s m n a b e f is
 heard-state (Err x) q s m n a b e f is = tt
 
-pub heard-text : {T E : Type 0} (r : Result T E) (old new : List ℕ) (a b : Told) → OnOk r (new ≡ old ++ a.text) → a ≡ b → OnOk r (new ≡ old ++ b.text)
-heard-text (Ok x) old new a b e is = e ∙ ap (λ (t : Told). old ++ t.text) is
-heard-text (Err x) old new a b e is = tt
+pub heard-text : {T E : Type 0} (r : Result T E) (answers : Bool) (old new : List ℕ) (a b : Told) → OnOk r (new ≡ old ++ cond answers a.text []) → a ≡ b → OnOk r (new ≡ old ++ cond answers b.text [])
+heard-text (Ok x) answers old new a b e is = e ∙ ap (λ (t : Told). old ++ cond answers t.text []) is
+heard-text (Err x) answers old new a b e is = tt

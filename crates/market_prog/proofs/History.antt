@@ -108,11 +108,11 @@ chronicle-after c n (line ∷ lines) =
     ∙ (ap (λ (s : State). lengthened next (recorded s lines)) (market-next c line)
     ∙ more-and-more c es (recorded (answer_by line.form (market_of c) line.bytes).last lines))
 
-pub unread-after : (c : Chronicled) (s : State) (n : ℕ) (lines : List Line) → market_of c ≡ s → (after recording_rule (c, n) lines).1 ≡ (after script_rule (s, n) lines).1
+pub unread-after : (c : Chronicled) (s : State) (n : ℕ) (lines : List Line) → market_of c ≡ s → (after recording_rule (c, n) lines).1 ≡ (after (script_rule false) (s, n) lines).1
 unread-after c s n [] e = refl
 unread-after c s n (line ∷ lines) e =
     unread-after (lengthened c (entries_handed (market_of c) line)) (answer_by line.form (market_of c) line.bytes).last (n + (answer_by line.form (market_of c) line.bytes).unread) lines (market-next c line)
-    ∙ ap (λ (x : State). (after script_rule ((answer_by line.form x line.bytes).last, n + (answer_by line.form x line.bytes).unread) lines).1) e
+    ∙ ap (λ (x : State). (after (script_rule false) ((answer_by line.form x line.bytes).last, n + (answer_by line.form x line.bytes).unread) lines).1) e
 
 -- ---- the script's lines
 

@@ -60,7 +60,7 @@ all-recorded silent c s n last left left' a b e f h =
       within = t.within;
       none = subst (λ text. Appends a b text) (silent begun (lines_of 256 t.input)) t.wrote;
       text = ap journal_told history;
-      count = ap (λ (q : Chronicled × ℕ). q.1) t.state ∙ (unread-after (unwritten s) s 0 (lines_of 256 t.input) refl ∙ unread-told s t.input);
+      count = ap (λ (q : Chronicled × ℕ). q.1) t.state ∙ (unread-after (unwritten s) s 0 (lines_of 256 t.input) refl ∙ unread-told false s t.input);
     }
 
 -- the lines were taken, and the text was written behind

@@ -1,5 +1,5 @@
 -- A run of a script is its lines, taken and answered.
-use Rattle.std.proofs.Common.{◌≡◌, ℕ, List, Bool, Option, refl, ap, ◌∙◌, subst}
+use Rattle.std.proofs.Common.{◌≡◌, ℕ, List, Bool, true, Option, refl, ap, ◌∙◌, subst}
 use Rattle.std.specs.Io.KnownBytes.{Appends}
 use Rattle.byte_devices.specs.Devices.{WritesFront}
 use Rattle.market_types.specs.State.{State}
@@ -18,13 +18,13 @@ pub begun : (m s : State) (n : ℕ) → m ≡ s → n ≡ 0 → ◌≡◌ {A = S
 begun m s n e f = cc
 
 pub run-answers : (m s : State) (n : ℕ) (last : State × ℕ) (left left' taken taken' : Option (List ℕ)) → m ≡ s → n ≡ 0
-    → TakesAll script_rule 256 (λ _. longest_input) (m, n) last left left' taken taken' → Answers s left left' taken taken' last.1
-run-answers m s n last left left' taken taken' e f h = let t = subst (λ (q : State × ℕ). TakesAll script_rule 256 (λ _. longest_input) q last left left' taken taken') (begun m s n e f) h in record {
+    → TakesAll (script_rule true) 256 (λ _. longest_input) (m, n) last left left' taken taken' → Answers s left left' taken taken' last.1
+run-answers m s n last left left' taken taken' e f h = let t = subst (λ (q : State × ℕ). TakesAll (script_rule true) 256 (λ _. longest_input) q last left left' taken taken') (begun m s n e f) h in record {
   script = t.input;
   read = t.read;
   within = t.within;
   wrote = subst (λ text. Appends taken taken' text) (replies-told s 0 t.input) t.wrote;
-  count = ap (λ (q : State × ℕ). q.1) t.state ∙ unread-told s t.input;
+  count = ap (λ (q : State × ℕ). q.1) t.state ∙ unread-told true s t.input;
 }
 
 pub cause-of : {F : Type 0} (stops : F → Type 0) (fault : InputFault F) (input : List ℕ) (source_failed sink_failed : Bool)
@@ -36,17 +36,17 @@ cause-of stops InputMemory input x y c = c
 cause-of stops (Taker fault) input x y c = (c.0, c.1, c.2)
 
 pub run-stops : {F : Type 0} (stops : State × ℕ → Line → F → Type 0) (m s : State) (n : ℕ) (left left' taken taken' : Option (List ℕ)) (source_failed sink_failed : Bool) (fault : InputFault F) → m ≡ s → n ≡ 0
-    → InputStops script_rule 256 (λ _. longest_input) stops (m, n) left left' taken taken' source_failed sink_failed fault → Stops s left left' taken taken' source_failed sink_failed (run_fault_of_input fault)
+    → InputStops (script_rule true) 256 (λ _. longest_input) stops (m, n) left left' taken taken' source_failed sink_failed fault → Stops s left left' taken taken' source_failed sink_failed (run_fault_of_input fault)
 run-stops stops m s n left left' taken taken' source_failed sink_failed fault e f h =
-    let t = subst (λ (q : State × ℕ). InputStops script_rule 256 (λ _. longest_input) stops q left left' taken taken' source_failed sink_failed fault) (begun m s n e f) h in record {
+    let t = subst (λ (q : State × ℕ). InputStops (script_rule true) 256 (λ _. longest_input) stops q left left' taken taken' source_failed sink_failed fault) (begun m s n e f) h in record {
       script = t.input;
       read = t.read;
       wrote = subst (λ text. WritesFront taken taken' text) (replies-told s 0 t.input) t.wrote;
-      cause = cause-of (StopsAt script_rule stops (s, 0) (lines_of 256 t.input)) fault t.input source_failed sink_failed t.cause;
+      cause = cause-of (StopsAt (script_rule true) stops (s, 0) (lines_of 256 t.input)) fault t.input source_failed sink_failed t.cause;
     }
 
-pub run-prompt : (m s : State) (n : ℕ) (left left' taken taken' : Option (List ℕ)) → m ≡ s → n ≡ 0 → InputHandsOver script_rule 256 (m, n) left left' taken taken' → HandsOver s left left' taken taken'
-run-prompt m s n left left' taken taken' e f h = let t = subst (λ (q : State × ℕ). InputHandsOver script_rule 256 q left left' taken taken') (begun m s n e f) h in record {
+pub run-prompt : (m s : State) (n : ℕ) (left left' taken taken' : Option (List ℕ)) → m ≡ s → n ≡ 0 → InputHandsOver (script_rule true) 256 (m, n) left left' taken taken' → HandsOver s left left' taken taken'
+run-prompt m s n left left' taken taken' e f h = let t = subst (λ (q : State × ℕ). InputHandsOver (script_rule true) 256 q left left' taken taken') (begun m s n e f) h in record {
   script = t.input;
   read = t.read;
   wrote = subst (λ text. Appends taken taken' text) (replies-told_lines s 0 t.input) t.wrote;

@@ -39,27 +39,27 @@ same-state : (s : State) (m n : ℕ) → m ≡ n → (let x : State × ℕ = (s,
 same-state s m n e = ap (λ (k : ℕ). let x : State × ℕ = (s, k) in x) e
 
 replies-ended : (s : State) (n : ℕ) (ls : List (List ℕ)) (more : List Line)
-    → replies_to script_rule (s, n) (map (handed 256 Whole) ls ++ more) ≡ (told_lines s ls).text ++ replies_to script_rule (state_after n (told_lines s ls)) more
-replies-ended s n [] more = ap (λ (q : State × ℕ). replies_to script_rule q more) (same-state s n (n + 0) (sym (add-zero n)))
+    → replies_to (script_rule true) (s, n) (map (handed 256 Whole) ls ++ more) ≡ (told_lines s ls).text ++ replies_to (script_rule true) (state_after n (told_lines s ls)) more
+replies-ended s n [] more = ap (λ (q : State × ℕ). replies_to (script_rule true) q more) (same-state s n (n + 0) (sym (add-zero n)))
 replies-ended s n (line ∷ ls) more =
     let a = answer_of s line in
     let rest = told_lines a.last ls in
     let is : answer_handed s (handed 256 Whole line) ≡ a = answer-handed s Whole line refl in
-    ap (λ (t : Told). t.text ++ replies_to script_rule (state_after n t) (map (handed 256 Whole) ls ++ more)) is
+    ap (λ (t : Told). t.text ++ replies_to (script_rule true) (state_after n t) (map (handed 256 Whole) ls ++ more)) is
     ∙ (ap (λ text. a.text ++ text) (replies-ended a.last (n + a.unread) ls more)
-    ∙ (ap (λ (q : State × ℕ). a.text ++ (rest.text ++ replies_to script_rule q more)) (same-state rest.last ((n + a.unread) + rest.unread) (n + (a.unread + rest.unread)) (add_assoc n a.unread rest.unread))
-    ∙ sym (append_assoc a.text rest.text (replies_to script_rule (state_after n (told_lines s (line ∷ ls))) more))))
+    ∙ (ap (λ (q : State × ℕ). a.text ++ (rest.text ++ replies_to (script_rule true) q more)) (same-state rest.last ((n + a.unread) + rest.unread) (n + (a.unread + rest.unread)) (add_assoc n a.unread rest.unread))
+    ∙ sym (append_assoc a.text rest.text (replies_to (script_rule true) (state_after n (told_lines s (line ∷ ls))) more))))
 
-after-ended : (s : State) (n : ℕ) (ls : List (List ℕ)) (more : List Line)
-    → after script_rule (s, n) (map (handed 256 Whole) ls ++ more) ≡ after script_rule (state_after n (told_lines s ls)) more
-after-ended s n [] more = ap (λ (q : State × ℕ). after script_rule q more) (same-state s n (n + 0) (sym (add-zero n)))
-after-ended s n (line ∷ ls) more =
+after-ended : (b : Bool) (s : State) (n : ℕ) (ls : List (List ℕ)) (more : List Line)
+    → after (script_rule b) (s, n) (map (handed 256 Whole) ls ++ more) ≡ after (script_rule b) (state_after n (told_lines s ls)) more
+after-ended b s n [] more = ap (λ (q : State × ℕ). after (script_rule b) q more) (same-state s n (n + 0) (sym (add-zero n)))
+after-ended b s n (line ∷ ls) more =
     let a = answer_of s line in
     let rest = told_lines a.last ls in
     let is : answer_handed s (handed 256 Whole line) ≡ a = answer-handed s Whole line refl in
-    ap (λ (t : Told). after script_rule (state_after n t) (map (handed 256 Whole) ls ++ more)) is
-    ∙ (after-ended a.last (n + a.unread) ls more
-    ∙ ap (λ (q : State × ℕ). after script_rule q more) (same-state rest.last ((n + a.unread) + rest.unread) (n + (a.unread + rest.unread)) (add_assoc n a.unread rest.unread)))
+    ap (λ (t : Told). after (script_rule b) (state_after n t) (map (handed 256 Whole) ls ++ more)) is
+    ∙ (after-ended b a.last (n + a.unread) ls more
+    ∙ ap (λ (q : State × ℕ). after (script_rule b) q more) (same-state rest.last ((n + a.unread) + rest.unread) (n + (a.unread + rest.unread)) (add_assoc n a.unread rest.unread)))
 
 -- ---- the whole script
 
@@ -90,29 +90,29 @@ more-last : (s : State) (ls : List (List ℕ)) (last : List (List ℕ)) → (tol
 more-last s [] last = refl
 more-last s (line ∷ ls) last = more-last (answer_of s line).last ls last
 
-last-text : (s : State) (n : ℕ) (u : List ℕ) → replies_to script_rule (s, n) (last_line 256 u) ≡ (told_lines s (without_last_empty (u ∷ []))).text
+last-text : (s : State) (n : ℕ) (u : List ℕ) → replies_to (script_rule true) (s, n) (last_line 256 u) ≡ (told_lines s (without_last_empty (u ∷ []))).text
 last-text s n [] = refl
 last-text s n (x ∷ u) =
     let is : answer_handed s (handed 256 WithoutLf (x ∷ u)) ≡ answer_of s (x ∷ u) = answer-handed s WithoutLf (x ∷ u) refl in
     let one : without_last_empty ((x ∷ u) ∷ []) ≡ (x ∷ u) ∷ [] = grind (arith, nat_tests) in
     ap (λ (t : Told). t.text ++ []) is ∙ sym (ap (λ ls. (told_lines s ls).text) one)
 
-last-unread : (s : State) (n : ℕ) (u : List ℕ) → (after script_rule (s, n) (last_line 256 u)).1 ≡ n + (told_lines s (without_last_empty (u ∷ []))).unread
-last-unread s n [] = sym (add-zero n)
-last-unread s n (x ∷ u) =
+last-unread : (b : Bool) (s : State) (n : ℕ) (u : List ℕ) → (after (script_rule b) (s, n) (last_line 256 u)).1 ≡ n + (told_lines s (without_last_empty (u ∷ []))).unread
+last-unread b s n [] = sym (add-zero n)
+last-unread b s n (x ∷ u) =
     let is : answer_handed s (handed 256 WithoutLf (x ∷ u)) ≡ answer_of s (x ∷ u) = answer-handed s WithoutLf (x ∷ u) refl in
     let one : without_last_empty ((x ∷ u) ∷ []) ≡ (x ∷ u) ∷ [] = grind (arith, nat_tests) in
     ap (λ (t : Told). n + t.unread) is ∙ (ap (λ k. n + k) (sym (add-zero (answer_of s (x ∷ u)).unread)) ∙ sym (ap (λ ls. n + (told_lines s ls).unread) one))
 
-last-last : (s : State) (n : ℕ) (u : List ℕ) → (after script_rule (s, n) (last_line 256 u)).0 ≡ (told_lines s (without_last_empty (u ∷ []))).last
-last-last s n [] = refl
-last-last s n (x ∷ u) =
+last-last : (b : Bool) (s : State) (n : ℕ) (u : List ℕ) → (after (script_rule b) (s, n) (last_line 256 u)).0 ≡ (told_lines s (without_last_empty (u ∷ []))).last
+last-last b s n [] = refl
+last-last b s n (x ∷ u) =
     let is : answer_handed s (handed 256 WithoutLf (x ∷ u)) ≡ answer_of s (x ∷ u) = answer-handed s WithoutLf (x ∷ u) refl in
     let one : without_last_empty ((x ∷ u) ∷ []) ≡ (x ∷ u) ∷ [] = grind (arith, nat_tests) in
     ap (λ (t : Told). t.last) is ∙ sym (ap (λ ls. (told_lines s ls).last) one)
 
 -- the replies to the lines are what is told of the script
-pub replies-told : (s : State) (n : ℕ) (xs : List ℕ) → replies_to script_rule (s, n) (lines_of 256 xs) ≡ (told s xs).text
+pub replies-told : (s : State) (n : ℕ) (xs : List ℕ) → replies_to (script_rule true) (s, n) (lines_of 256 xs) ≡ (told s xs).text
 replies-told s n xs =
     let ls = ended_lines xs in
     let u = unfinished_line xs in
@@ -121,27 +121,27 @@ replies-told s n xs =
     ∙ (ap (λ text. before.text ++ text) (last-text before.last (n + before.unread) u)
     ∙ (sym (more-text s ls (without_last_empty (u ∷ []))) ∙ sym (ap (λ (t : Told). t.text) (told-cut s xs))))
 
-pub unread-told : (s : State) (xs : List ℕ) → (after script_rule (s, 0) (lines_of 256 xs)).1 ≡ (told s xs).unread
-unread-told s xs =
+pub unread-told : (b : Bool) (s : State) (xs : List ℕ) → (after (script_rule b) (s, 0) (lines_of 256 xs)).1 ≡ (told s xs).unread
+unread-told b s xs =
     let ls = ended_lines xs in
     let u = unfinished_line xs in
     let before = told_lines s ls in
-    ap (λ (q : State × ℕ). q.1) (after-ended s 0 ls (last_line 256 u))
-    ∙ (last-unread before.last (0 + before.unread) u
+    ap (λ (q : State × ℕ). q.1) (after-ended b s 0 ls (last_line 256 u))
+    ∙ (last-unread b before.last (0 + before.unread) u
     ∙ (let same = more-unread s ls (without_last_empty (u ∷ [])) in omega arith)
     ∙ sym (ap (λ (t : Told). t.unread) (told-cut s xs)))
 
-pub last-told : (s : State) (xs : List ℕ) → (after script_rule (s, 0) (lines_of 256 xs)).0 ≡ (told s xs).last
-last-told s xs =
+pub last-told : (b : Bool) (s : State) (xs : List ℕ) → (after (script_rule b) (s, 0) (lines_of 256 xs)).0 ≡ (told s xs).last
+last-told b s xs =
     let ls = ended_lines xs in
     let u = unfinished_line xs in
     let before = told_lines s ls in
-    ap (λ (q : State × ℕ). q.0) (after-ended s 0 ls (last_line 256 u))
-    ∙ (last-last before.last (0 + before.unread) u
+    ap (λ (q : State × ℕ). q.0) (after-ended b s 0 ls (last_line 256 u))
+    ∙ (last-last b before.last (0 + before.unread) u
     ∙ (sym (more-last s ls (without_last_empty (u ∷ []))) ∙ sym (ap (λ (t : Told). t.last) (told-cut s xs))))
 
-pub replies-told_lines : (s : State) (n : ℕ) (xs : List ℕ) → replies_to script_rule (s, n) (whole_lines 256 xs) ≡ (told_lines s (ended_lines xs)).text
+pub replies-told_lines : (s : State) (n : ℕ) (xs : List ℕ) → replies_to (script_rule true) (s, n) (whole_lines 256 xs) ≡ (told_lines s (ended_lines xs)).text
 replies-told_lines s n xs =
     let ls = ended_lines xs in
-    sym (ap (replies_to script_rule (s, n)) (append-nil (map (handed 256 Whole) ls)))
+    sym (ap (replies_to (script_rule true) (s, n)) (append-nil (map (handed 256 Whole) ls)))
     ∙ (replies-ended s n ls [] ∙ append-nil (told_lines s ls).text)

@@ -18,16 +18,12 @@ answer_by Whole s bytes = answer_of s bytes
 answer_by WithoutLf s bytes = answer_of s bytes
 answer_by TooLong s bytes = if is_silent bytes then nothing s else answer_to s None
 
--- by the market and the number of unread lines before it, how a line is answered
-abbrev pub script_rule : LineRule (State × ℕ)
-script_rule = record {
-  reply = λ now line. (answer_by line.form now.0 line.bytes).text;
+-- by the market and the number of unread lines before it, how a line is taken; it is answered where its session answers
+abbrev pub script_rule : Bool → LineRule (State × ℕ)
+script_rule answers = record {
+  reply = λ now line. if answers then (answer_by line.form now.0 line.bytes).text else [];
   next = λ now line. ((answer_by line.form now.0 line.bytes).last, now.1 + (answer_by line.form now.0 line.bytes).unread);
 }
-
--- the same market and number, and no answer
-abbrev pub quiet_rule : LineRule (State × ℕ)
-quiet_rule = record { reply = λ now line. []; next = script_rule.next }
 
 -- what a line is answered, by the reply to its call if it was read
 abbrev pub answer_line : Option Reply → List ℕ

@@ -55,6 +55,6 @@ pub fn run_script<R: Source, W: Sink>(
         last,
     } = options;
     let market = Market::with_last(alloc, base, hard, seats, levels, last)?;
-    let session = take_lines(alloc, Session::new(alloc, market), source, sink)?;
+    let session = take_lines(alloc, Session::<true>::new(alloc, market), source, sink)?;
     Ok(session.unread())
 }

@@ -7,7 +7,7 @@ ghost use Rattle.market_prog.specs.Explain.{Explains, StopsExplaining};
 
 use crate::fault::RunFault;
 use crate::options::MarketOptions;
-use crate::quiet::QuietSession;
+use crate::session::Session;
 use byte_devices::{Sink, Source};
 use explainer::explain;
 use line_engine::{silence, take_lines};
@@ -45,7 +45,7 @@ pub fn explain_script<R: Source, W: Sink>(
     ensures opening { (fault : OpenFault) → (result ≡ Err (RunFault.Open fault)) ↔ (opened_of options ≡ Err fault) }
     ensures untouched { IsErr (opened_of options) → (source.new ≡ source.old) × (sink.new ≡ sink.old) }
 {
-    silence::<QuietSession>();
+    silence::<Session<false>>();
     let MarketOptions {
         base,
         hard,
@@ -54,7 +54,7 @@ pub fn explain_script<R: Source, W: Sink>(
         last,
     } = options;
     let market = Market::with_last(alloc, base, hard, seats, levels, last)?;
-    let session = take_lines(alloc, QuietSession::new(alloc, market), source, sink)?;
+    let session = take_lines(alloc, Session::<false>::new(alloc, market), source, sink)?;
     explain(alloc, session.market(), sink)?;
     Ok(session.unread())
 }

@@ -11,7 +11,6 @@ mod help;
 mod input;
 mod journal;
 mod options;
-mod quiet;
 mod recording;
 mod replay;
 mod session;

@@ -1,5 +1,5 @@
 //! A market that a script speaks to.
-ghost use Rattle.std.specs.Prelude.{◌≡◌, ℕ, ◌+◌, ◌<◌, ◌^◌, ◌++◌, length, None, if◌then◌else◌, IfOk, IfSome, OnOk};
+ghost use Rattle.std.specs.Prelude.{◌≡◌, ℕ, ◌+◌, ◌<◌, ◌^◌, [], ◌++◌, length, None, if◌then◌else◌, IfOk, IfSome, OnOk};
 ghost use Rattle.market_types.specs.Reading.{line_reading};
 ghost use Rattle.market_types.specs.Script.{answer_to, is_silent};
 ghost use Rattle.market_prog.specs.Sessions.{answer_line, is_too_long};
@@ -9,9 +9,9 @@ use market_core::Market;
 use market_types::{Cmd, Reply, SeatNo, push_reply, read_line};
 use std::alloc::{AllocError, Global};
 
-/// A market, and the number of unread lines.
+/// A market, and the number of unread lines. Where it doesn't answer its lines it only changes its market.
 #[derive(Drop)]
-pub struct Session {
+pub struct Session<const ANSWERS: bool> {
     alloc: Global,
     market: Market,
     unread: u64,
@@ -35,7 +35,7 @@ pub(crate) fn call_in(market: &Market, line: &[u8], form: LineForm) -> Option<(S
     read_line(line, market.seats(), market.levels())
 }
 
-impl Session {
+impl<const ANSWERS: bool> Session<ANSWERS> {
     /// The session of a market, before the first line.
     pub fn new(alloc: Global, market: Market) -> Self
         ensures market { result.market ≡ market }
@@ -62,16 +62,8 @@ impl Session {
         self.unread
     }
 
-    /// The seat and the command that a line spells. One that is too long spells none.
-    pub(crate) fn read_call(&self, line: &[u8], form: LineForm) -> Option<(SeatNo, Cmd)>
-        ensures exact { result ≡ (if is_too_long form then None else line_reading (length self.now.market.seats) self.now.market.levels line.now) }
-        ensures seat { IfSome result (λ call. call.0 < length self.now.market.seats) }
-    {
-        call_in(&self.market, line, form)
-    }
-
     /// Gives the call of a line that is not silent to the market: the reply, or `None` where the line was not read.
-    pub(crate) fn obey(&mut self, call: Option<(SeatNo, Cmd)>) -> Result<Option<Reply>, AllocError>
+    fn obey(&mut self, call: Option<(SeatNo, Cmd)>) -> Result<Option<Reply>, AllocError>
         requires few { self.old.unread + 1 < 2 ^ 64 }
         requires seat { IfSome call (λ c. c.0 < length self.old.market.seats) }
         ensures told { IfOk result (λ reply. answer_line reply ≡ (answer_to self.old.market call).text) }
@@ -86,7 +78,7 @@ impl Session {
         Ok(Some(reply))
     }
 
-    /// Answers a line that is not silent.
+    /// Takes a line that is not silent, and answers it where lines are answered.
     fn reply_to(
         &mut self,
         call: Option<(SeatNo, Cmd)>,
@@ -94,11 +86,14 @@ impl Session {
     ) -> Result<(), AllocError>
         requires few { self.old.unread + 1 < 2 ^ 64 }
         requires seat { IfSome call (λ c. c.0 < length self.old.market.seats) }
-        ensures told { OnOk result (replies.new.items ≡ replies.old.items ++ (answer_to self.old.market call).text) }
+        ensures told { OnOk result (replies.new.items ≡ replies.old.items ++ (if ANSWERS then (answer_to self.old.market call).text else [])) }
         ensures market { OnOk result (self.new.market ≡ (answer_to self.old.market call).last) }
         ensures unread { OnOk result (self.new.unread ≡ self.old.unread + (answer_to self.old.market call).unread) }
     {
         let answer = self.obey(call)?;
+        if !ANSWERS {
+            return Ok(());
+        }
         let Some(reply) = &answer else {
             replies.extend_from_slice(b"unread\n")?;
             return Ok(());
@@ -109,7 +104,7 @@ impl Session {
     }
 }
 
-impl LineTaker for Session {
+impl<const ANSWERS: bool> LineTaker for Session<ANSWERS> {
     ghost use Rattle.std.specs.Prelude.{ℕ, ⊤};
     ghost use Rattle.std.proofs.Common.{le_refl};
     ghost use Rattle.line_engine.specs.Input.{longest_input};
@@ -126,7 +121,7 @@ impl LineTaker for Session {
 
     ghost state = { λ s. (s.market, s.unread) };
 
-    ghost rule = { script_rule };
+    ghost rule = { script_rule ANSWERS };
 
     ghost stops = { λ _ _ _. ⊤ };
 
@@ -149,7 +144,7 @@ impl LineTaker for Session {
         if is_silent(line) {
             return Ok(());
         }
-        let call = self.read_call(line, form);
+        let call = call_in(&self.market, line, form);
         self.reply_to(call, replies)
     }
 }
