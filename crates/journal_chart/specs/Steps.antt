@@ -1,0 +1,96 @@
+-- What the code does to the lines of a chart. Private functions alone cite these words.
+use Rattle.std.specs.Prelude.{ℕ, ◌==◌, if◌then◌else◌, List, map, replicate, Option, Some, None}
+use Rattle.std.specs.Option.{option_map}
+use Rattle.market_types.specs.declared.command.Cmd.{Cmd}
+use Rattle.market_types.specs.declared.command.Cmd.TheVariants.{Open, Close, Priority}
+use Rattle.market_types.specs.declared.reply.ArenaView.{ArenaView}
+use Rattle.market_types.specs.declared.reply.Reply.{Reply}
+use Rattle.market_types.specs.declared.reply.Reply.TheVariants.{Opened, Closed, Moved}
+use Rattle.market_types.specs.State.{State}
+use Rattle.market_types.specs.Allotment.{limit_of, effective_limit_of}
+use Rattle.journal_chart.specs.declared.row.Row.{Row}
+use Rattle.journal_chart.specs.Lines.{added, halved}
+use Rattle.journal_chart.specs.Numbers.{Drawn, view_at}
+
+-- ---- where an arena stands after a command and its reply, by where it stood before
+
+abbrev pub after_open : ℕ → ℕ → Option ℕ → Reply → Option ℕ
+after_open a level stands (Opened b) = if b == a then Some level else stands
+after_open a level stands _ = stands
+
+abbrev pub after_close : ℕ → ℕ → Option ℕ → Reply → Option ℕ
+after_close a b stands Closed = if b == a then None else stands
+after_close a b stands _ = stands
+
+abbrev pub after_priority : ℕ → ℕ → ℕ → Option ℕ → Reply → Option ℕ
+after_priority a b level stands Moved = if b == a then Some level else stands
+after_priority a b level stands _ = stands
+
+abbrev pub stands_after : ℕ → Option ℕ → Cmd → Reply → Option ℕ
+stands_after a stands (Open slots reserved level) reply = after_open a level stands reply
+stands_after a stands (Close b) reply = after_close a b stands reply
+stands_after a stands (Priority b level) reply = after_priority a b level stands reply
+stands_after a stands _ reply = stands
+
+-- ---- rows
+
+-- the row of an arena before all moments
+abbrev pub empty_row : ℕ → ℕ → Row
+empty_row most a =
+    record {
+      arena = a;
+      stands = None;
+      level = replicate most None;
+      request = replicate most None;
+      allot = replicate most None;
+      active = replicate most None;
+      recall = replicate most None;
+      hire = replicate most None;
+    }
+
+abbrev pub halved_row : Row → Row
+halved_row r =
+    record r {
+      level = halved r.level;
+      request = halved r.request;
+      allot = halved r.allot;
+      active = halved r.active;
+      recall = halved r.recall;
+      hire = halved r.hire;
+    }
+
+-- in a column the level at which the arena stands
+abbrev pub standing_row : ℕ → Row → Row
+standing_row place r = record r { level = added place r.stands r.level }
+
+-- in a column what is seen of the arena
+abbrev pub viewed_row : ℕ → Option ArenaView → Row → Row
+viewed_row place view r =
+    record r {
+      request = added place (option_map (λ (v : ArenaView). v.request) view) r.request;
+      allot = added place (option_map (λ (v : ArenaView). v.allot) view) r.allot;
+      active = added place (option_map (λ (v : ArenaView). v.active) view) r.active;
+      recall = added place (option_map (λ (v : ArenaView). v.recall) view) r.recall;
+      hire = added place (option_map (λ (v : ArenaView). v.hire) view) r.hire;
+    }
+
+-- in a column the moment after a command and its reply
+abbrev pub taken_row : ℕ → State → Cmd → Reply → Row → Row
+taken_row place s cmd reply r =
+    viewed_row place (view_at r.arena s) (standing_row place (record r { stands = stands_after r.arena r.stands cmd reply }))
+
+-- ---- all lines
+
+abbrev pub empty_lines : ℕ → List ℕ → Drawn
+empty_lines most arenas = record { limit = replicate most None; effective = replicate most None; rows = map (empty_row most) arenas }
+
+abbrev pub halved_lines : Drawn → Drawn
+halved_lines d = record { limit = halved d.limit; effective = halved d.effective; rows = map halved_row d.rows }
+
+abbrev pub taken_lines : ℕ → State → Cmd → Reply → Drawn → Drawn
+taken_lines place s cmd reply d =
+    record {
+      limit = added place (Some (limit_of s)) d.limit;
+      effective = added place (Some (effective_limit_of s)) d.effective;
+      rows = map (taken_row place s cmd reply) d.rows;
+    }

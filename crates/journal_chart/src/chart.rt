@@ -1,0 +1,95 @@
+//! A chart of a history, one moment after another.
+ghost use Rattle.std.specs.Prelude.{◌≡◌, ◌+◌, ◌*◌, ◌<◌, ◌^◌, ℕ, nat_le, if◌then◌else◌, List, [], ◌∷◌, ◌++◌, IfOk};
+ghost use Rattle.market_types.specs.State.{State};
+ghost use Rattle.market_types.specs.Step.{step};
+ghost use Rattle.journal_chart.specs.Numbers.{chart_of};
+ghost use Rattle.journal_chart.specs.Steps.{halved_lines};
+
+use crate::lines::Lines;
+use market_core::Market;
+use market_types::{ArenaId, Cmd, Reply};
+use std::alloc::{AllocError, Global};
+use std::marker::Model;
+
+/// The lines of some arenas over the moments of a history, in at most so many columns: contracts see it as `Charted`. A column holds as
+/// many moments as the others, a power of 2, and keeps the least and the most of each number.
+#[derive(Drop)]
+pub struct Chart {
+    columns: u32,
+    moments: u64,
+    /// How many moments a column holds.
+    width: u64,
+    lines: Lines,
+}
+
+impl Model for Chart {
+    ghost use Rattle.std.specs.Prelude.{◌≡◌, ◌<◌};
+    ghost use Rattle.journal_chart.specs.Columns.{width_of};
+    ghost use Rattle.journal_chart.specs.Numbers.{Charted};
+
+    ghost Value = { Charted };
+
+    ghost view = { λ c. record { most = c.columns; moments = c.moments; lines = c.lines } };
+
+    ghost invariant = { λ c. (0 < c.columns) × (c.width ≡ width_of c.columns c.moments) };
+}
+
+impl Chart {
+    /// The chart of these arenas, in at most so many columns, before the first moment of a market without arenas. It takes all the
+    /// memory that it will ever need: 12 bytes for each column of each of six lines an arena.
+    pub fn new(alloc: Global, columns: u32, arenas: &[ArenaId]) -> Result<Chart, AllocError>
+        requires some { 0 < columns }
+        ensures opened { (s : State) → s.arenas ≡ [] → IfOk result (λ chart. chart ≡ chart_of columns arenas.now [] s) }
+    {
+        Ok(Chart {
+            columns,
+            moments: 0,
+            width: 1,
+            lines: Lines::new(alloc, columns as usize, arenas)?,
+        })
+    }
+
+    /// How many moments were taken.
+    pub fn moments(&self) -> u64
+        ensures { result ≡ self.now.moments }
+    {
+        self.moments
+    }
+
+    /// All lines.
+    pub fn lines(&self) -> &Lines
+        ensures { result.now ≡ self.now.lines }
+    {
+        &self.lines
+    }
+
+    /// Takes the moment after an entry: the market as it is after it, its command and its reply. It takes no memory, and
+    /// 9,223,372,036,854,775,807 moments can be taken.
+    pub fn take(&mut self, market: &Market, cmd: &Cmd, reply: &Reply)
+        requires few { self.old.moments + 1 < 2 ^ 63 }
+        ensures exact { (arenas : List ℕ) (moments : List State) (s : State) (seat : ℕ) → step s seat cmd.now ≡ (reply.now, market.now)
+            → self.old ≡ chart_of self.old.most arenas moments s
+            → self.new ≡ chart_of self.old.most arenas (moments ++ market.now ∷ []) market.now }
+    {
+        let width = make_room(&mut self.lines, self.columns, self.moments, self.width);
+        let place = (self.moments / width) as usize;
+        self.lines.take(place, market, cmd, reply);
+        self.width = width;
+        self.moments += 1;
+    }
+}
+
+/// How many moments a column then holds, if so many were taken before the next: where all columns are full, each two become one.
+fn make_room(lines: &mut Lines, columns: u32, moments: u64, width: u64) -> u64
+    requires wide { 0 < width }
+    requires some { 0 < columns }
+    requires few { moments < 2 ^ 63 }
+    ensures width { result ≡ (if nat_le (columns * width) moments then width + width else width) }
+    ensures lines { lines.new ≡ (if nat_le (columns * width) moments then halved_lines lines.old else lines.old) }
+{
+    if moments / width < u64::from(columns) {
+        return width;
+    }
+    lines.halve();
+    2 * width
+}

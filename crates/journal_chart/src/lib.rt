@@ -1,0 +1,22 @@
+//! The numbers of a chart of a market's history: for each arena what it asked for, was allotted and had, and for the market its
+//! limits, over the moments after each entry, in columns that keep the least and the most.
+//!
+//! [`Chart`] takes one moment after another, in memory that does not grow with them. What it keeps is `specs/Numbers`, said over the
+//! market's states alone.
+#![tactic(auto)]
+
+#[cfg(test)]
+mod asserts;
+mod chart;
+mod line;
+mod lines;
+mod row;
+mod span;
+#[cfg(test)]
+mod tests;
+
+pub use chart::Chart;
+pub use line::Line;
+pub use lines::Lines;
+pub use row::Row;
+pub use span::Span;

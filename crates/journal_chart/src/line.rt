@@ -1,0 +1,71 @@
+//! A line of a chart.
+ghost use Rattle.std.specs.Prelude.{◌≡◌, IfOk, None, Some, replicate};
+ghost use Rattle.journal_chart.specs.Lines.{added, at, halved};
+
+use crate::span::{Span, joined};
+use std::alloc::{AllocError, Global};
+use std::marker::Model;
+
+/// What a number was in the course of a history, in columns of as many moments each: contracts see it as the span of each
+/// column, `None` where there was no number.
+#[derive(Drop)]
+pub struct Line {
+    columns: Vec<Option<Span>>,
+}
+
+impl Model for Line {
+    ghost use Rattle.std.specs.Prelude.{List, Option};
+    ghost use Rattle.journal_chart.specs.declared.span.Span.{Span};
+
+    ghost Value = { List (Option Span) };
+
+    ghost view = { λ l. l.columns.items };
+}
+
+impl Line {
+    /// So many columns without numbers.
+    pub(crate) fn new(alloc: Global, columns: usize) -> Result<Line, AllocError>
+        ensures { IfOk result (λ line. line ≡ replicate columns None) }
+    {
+        Ok(Line {
+            columns: vec![in alloc; None; columns]?,
+        })
+    }
+
+    /// Its columns, in order.
+    pub fn columns(&self) -> &[Option<Span>]
+        ensures { result.now ≡ self.now }
+    {
+        &self.columns
+    }
+
+    /// The column at a place, `None` beyond the last.
+    fn at(&self, place: usize) -> Option<Span>
+        ensures { result ≡ at self.now place }
+    {
+        match self.columns.get(place) {
+            Some(column) => *column,
+            None => None,
+        }
+    }
+
+    /// Puts a number into the column at a place, if there is one.
+    pub(crate) fn add(&mut self, place: usize, number: u32)
+        ensures { self.new ≡ added place (Some number) self.old }
+    {
+        if let Some(column) = self.columns.get_mut(place) {
+            *column = joined(*column, Some(Span::of(number)));
+        }
+    }
+
+    /// Makes each two columns one.
+    pub(crate) fn halve(&mut self)
+        ensures { self.new ≡ halved self.old }
+    {
+        for place in 0..self.columns.len() {
+            let first = self.at(2 * place);
+            let second = self.at(2 * place + 1);
+            self.columns[place] = joined(first, second);
+        }
+    }
+}

@@ -1,0 +1,129 @@
+//! The lines of an arena.
+ghost use Rattle.std.specs.Prelude.{◌≡◌, IfOk, map};
+ghost use Rattle.journal_chart.specs.Steps.{empty_row, halved_row, standing_row, stands_after, taken_row, viewed_row};
+
+use crate::line::Line;
+use market_core::Market;
+use market_types::{ArenaId, ArenaView, Cmd, Level, Reply};
+use std::alloc::{AllocError, Global};
+
+/// What an arena was in the course of a history: each line has a number wherever the arena lived.
+#[derive(Drop)]
+pub struct Row {
+    pub arena: ArenaId,
+    /// The level at which it stands, if it lives.
+    pub stands: Option<Level>,
+    /// The number of its level.
+    pub level: Line,
+    /// How many workers it asked for.
+    pub request: Line,
+    /// How many workers it was allotted.
+    pub allot: Line,
+    /// How many seats were placed at it.
+    pub active: Line,
+    /// How many of these were too many.
+    pub recall: Line,
+    /// How many more it was allotted.
+    pub hire: Line,
+}
+
+impl Row {
+    /// The row of an arena before all moments.
+    pub(crate) fn new(alloc: Global, columns: usize, arena: ArenaId) -> Result<Row, AllocError>
+        ensures { IfOk result (λ row. row ≡ empty_row columns arena) }
+    {
+        Ok(Row {
+            arena,
+            stands: None,
+            level: Line::new(alloc, columns)?,
+            request: Line::new(alloc, columns)?,
+            allot: Line::new(alloc, columns)?,
+            active: Line::new(alloc, columns)?,
+            recall: Line::new(alloc, columns)?,
+            hire: Line::new(alloc, columns)?,
+        })
+    }
+
+    /// Makes each two columns one.
+    pub(crate) fn halve(&mut self)
+        ensures { self.new ≡ halved_row self.old }
+    {
+        self.level.halve();
+        self.request.halve();
+        self.allot.halve();
+        self.active.halve();
+        self.recall.halve();
+        self.hire.halve();
+    }
+
+    /// Takes the moment after a command and its reply into the column at a place.
+    pub(crate) fn take(&mut self, place: usize, market: &Market, cmd: &Cmd, reply: &Reply)
+        ensures { self.new ≡ taken_row place market.now cmd.now reply.now self.old }
+    {
+        self.stands = stands_after(self.arena, self.stands, cmd, reply);
+        self.add_level(place);
+        self.add_view(place, market.view(self.arena));
+    }
+
+    /// Puts the level at which the arena stands into the column at a place.
+    fn add_level(&mut self, place: usize)
+        ensures { self.new ≡ standing_row place self.old }
+    {
+        if let Some(level) = self.stands {
+            self.level.add(place, level.get());
+        }
+    }
+
+    /// Puts what is seen of the arena into the column at a place.
+    fn add_view(&mut self, place: usize, view: Option<ArenaView>)
+        ensures { self.new ≡ viewed_row place view self.old }
+    {
+        let Some(view) = view else {
+            return;
+        };
+        self.request.add(place, view.request);
+        self.allot.add(place, view.allot);
+        self.active.add(place, view.active);
+        self.recall.add(place, view.recall);
+        self.hire.add(place, view.hire);
+    }
+}
+
+/// Where an arena stands after a command and its reply, by where it stood before.
+fn stands_after(arena: ArenaId, stands: Option<Level>, cmd: &Cmd, reply: &Reply) -> Option<Level>
+    ensures { result ≡ stands_after arena stands cmd.now reply.now }
+{
+    match cmd {
+        Cmd::Open(_, _, level) => match reply {
+            Reply::Opened(opened) if *opened == arena => Some(*level),
+            _ => stands,
+        },
+        Cmd::Close(closed) => match reply {
+            Reply::Closed if *closed == arena => None,
+            _ => stands,
+        },
+        Cmd::Priority(moved, level) => match reply {
+            Reply::Moved if *moved == arena => Some(*level),
+            _ => stands,
+        },
+        _ => stands,
+    }
+}
+
+/// Makes each two columns of all rows one.
+pub(crate) fn halve_rows(rows: &mut [Row])
+    ensures { rows.new ≡ map halved_row rows.old }
+{
+    for index in 0..rows.len() {
+        rows[index].halve();
+    }
+}
+
+/// Takes the moment after a command and its reply into the column of all rows at a place.
+pub(crate) fn take_rows(rows: &mut [Row], place: usize, market: &Market, cmd: &Cmd, reply: &Reply)
+    ensures { rows.new ≡ map (taken_row place market.now cmd.now reply.now) rows.old }
+{
+    for index in 0..rows.len() {
+        rows[index].take(place, market, cmd, reply);
+    }
+}

@@ -1,0 +1,168 @@
+//! What no clause says: that a chart is made where memory is ample, and values worked out by hand.
+ghost use Rattle.std.specs.Prelude.{◌+◌, ◌<◌, ◌^◌};
+
+use crate::asserts::same;
+use crate::chart::Chart;
+use crate::line::Line;
+use crate::row::Row;
+use crate::span::Span;
+use market_core::Market;
+use market_types::{ArenaId, Cmd, Level, SeatNo};
+use std::alloc::Global;
+use std::process::Abort;
+use std::rt::HostRuntime;
+
+/// A market of base 8, hard limit 64, four seats and three levels.
+fn opened(rt: &impl Abort, alloc: Global) -> Market {
+    let Ok(market) = Market::new(alloc, 8, 64, 4, 3) else {
+        panic!(rt; "no market");
+    };
+    market
+}
+
+/// Arenas 1 and 2 in so many columns.
+fn charted(rt: &impl Abort, alloc: Global, columns: u32) -> Chart
+    requires { 0 < columns }
+{
+    let arenas = [ArenaId::new(1), ArenaId::new(2)];
+    let Ok(chart) = Chart::new(alloc, columns, &arenas) else {
+        panic!(rt; "no chart");
+    };
+    chart
+}
+
+/// Calls of seats, each of which a chart then takes.
+fn play(
+    rt: &impl Abort,
+    alloc: Global,
+    market: &mut Market,
+    chart: &mut Chart,
+    calls: &[(u8, Cmd)],
+) {
+    for (seat, cmd) in calls {
+        same(rt, market.seats(), 4);
+        same(rt, *seat < 4, true);
+        let Ok(reply) = market.apply(alloc, SeatNo::new(*seat), *cmd) else {
+            panic!(rt; "no reply");
+        };
+        same(rt, chart.moments() < 1_000_000, true);
+        chart.take(market, cmd, &reply);
+        drop(reply);
+    }
+}
+
+/// The columns of a line are these spans.
+fn says(rt: &impl Abort, line: &Line, spans: &[Option<(u32, u32)>]) {
+    let columns = line.columns();
+    same(rt, columns.len(), spans.len());
+    for (column, span) in columns.iter().zip(spans) {
+        let due = match span {
+            Some((least, most)) => Some(Span {
+                least: *least,
+                most: *most,
+            }),
+            None => None,
+        };
+        same(rt, *column, due);
+    }
+}
+
+/// The row at an index.
+fn row<'a>(rt: &impl Abort, chart: &'a Chart, index: usize) -> &'a Row {
+    match chart.lines().rows().get(index) {
+        Some(row) => row,
+        None => panic!(rt; "no row"),
+    }
+}
+
+#[test]
+fn nine_calls_in_four_columns(rt: HostRuntime) {
+    let mut market = opened(&rt, rt.alloc());
+    let mut chart = charted(&rt, rt.alloc(), 4);
+    let (first, second) = (ArenaId::new(1), ArenaId::new(2));
+    let (high, normal) = (Level::from_index(0), Level::from_index(1));
+    let calls = [
+        (0, Cmd::Open(4, 1, normal)),
+        (0, Cmd::Request(first, 5, 0)),
+        (1, Cmd::Join),
+        (2, Cmd::Join),
+        (0, Cmd::Control(2)),
+        (0, Cmd::Open(8, 0, high)),
+        (0, Cmd::Request(second, 1, 0)),
+        (1, Cmd::Stay),
+        (0, Cmd::Priority(first, high)),
+    ];
+    play(&rt, rt.alloc(), &mut market, &mut chart, &calls);
+    same(&rt, chart.moments(), 9);
+    let limit = [Some((7, 7)), Some((1, 1)), Some((1, 1)), None];
+    says(&rt, chart.lines().limit(), &limit);
+    says(&rt, chart.lines().effective(), &limit);
+    let old = row(&rt, &chart, 0);
+    same(&rt, old.stands, Some(high));
+    says(
+        &rt,
+        &old.level,
+        &[Some((2, 2)), Some((2, 2)), Some((1, 1)), None],
+    );
+    says(
+        &rt,
+        &old.request,
+        &[Some((0, 3)), Some((3, 3)), Some((3, 3)), None],
+    );
+    says(
+        &rt,
+        &old.allot,
+        &[Some((0, 3)), Some((0, 1)), Some((0, 0)), None],
+    );
+    says(
+        &rt,
+        &old.active,
+        &[Some((0, 2)), Some((1, 2)), Some((1, 1)), None],
+    );
+    says(
+        &rt,
+        &old.recall,
+        &[Some((0, 0)), Some((1, 2)), Some((1, 1)), None],
+    );
+    says(
+        &rt,
+        &old.hire,
+        &[Some((0, 3)), Some((0, 0)), Some((0, 0)), None],
+    );
+    let new = row(&rt, &chart, 1);
+    says(&rt, &new.level, &[None, Some((1, 1)), Some((1, 1)), None]);
+    says(&rt, &new.allot, &[None, Some((0, 1)), Some((1, 1)), None]);
+    drop(chart);
+    drop(market);
+}
+
+#[test]
+fn a_spike_of_one_moment_is_kept(rt: HostRuntime) {
+    let mut market = opened(&rt, rt.alloc());
+    let mut chart = charted(&rt, rt.alloc(), 3);
+    let arena = ArenaId::new(1);
+    let opening = [(0, Cmd::Open(8, 0, Level::from_index(2)))];
+    play(&rt, rt.alloc(), &mut market, &mut chart, &opening);
+    let still = [(0, Cmd::Limit), (0, Cmd::Show(arena)), (0, Cmd::Lists)];
+    for _ in 0..20 {
+        play(&rt, rt.alloc(), &mut market, &mut chart, &still);
+    }
+    let spike = [
+        (0, Cmd::Request(arena, 5, 0)),
+        (0, Cmd::Request(arena, -5, 0)),
+        (0, Cmd::Close(arena)),
+        (0, Cmd::Close(arena)),
+    ];
+    play(&rt, rt.alloc(), &mut market, &mut chart, &spike);
+    for _ in 0..50 {
+        play(&rt, rt.alloc(), &mut market, &mut chart, &still);
+    }
+    same(&rt, chart.moments(), 215);
+    // 128 moments in each column: the arena lived for the first 64 of them, of which one had the spike.
+    let row = row(&rt, &chart, 0);
+    same(&rt, row.stands, None);
+    says(&rt, &row.request, &[Some((0, 5)), None, None]);
+    says(&rt, &row.level, &[Some((3, 3)), None, None]);
+    drop(chart);
+    drop(market);
+}
