@@ -4,11 +4,10 @@ use Rattle.market_types.specs.declared.command.Cmd.{Cmd}
 use Rattle.market_types.specs.declared.command.Cmd.TheVariants.{Open, Request, Control as ControlBy, Priority, Join, Stay}
 use Rattle.market_types.specs.declared.command.Call.{Call}
 use Rattle.market_types.specs.State.{opening}
-use Rattle.market_types.specs.History.{state_after}
 use Rattle.journal_chart.specs.declared.span.Span.{Span}
 use Rattle.journal_chart.specs.declared.row.Row.{Row}
 use Rattle.journal_chart.specs.Columns.{width_of}
-use Rattle.journal_chart.specs.Numbers.{moments_of, Charted, chart_of}
+use Rattle.journal_chart.specs.Numbers.{Charted, chart_after}
 
 -- a column's least and most
 abbrev span : ℕ → ℕ → Option Span
@@ -27,7 +26,7 @@ nine_calls =
 
 -- the chart of these arenas after them, in at most so many columns
 abbrev drawn : ℕ → List ℕ → Charted
-drawn most arenas = chart_of most arenas (moments_of (opening 8 64 4 3) nine_calls) (state_after (opening 8 64 4 3) nine_calls)
+drawn most arenas = chart_after most arenas (opening 8 64 4 3) nine_calls
 
 -- four columns are full after four calls, and again after eight
 widths : map (width_of 4) (0 ∷ 1 ∷ 4 ∷ 5 ∷ 8 ∷ 9 ∷ 16 ∷ 17 ∷ []) ≡ 1 ∷ 1 ∷ 1 ∷ 2 ∷ 2 ∷ 4 ∷ 4 ∷ 8 ∷ []

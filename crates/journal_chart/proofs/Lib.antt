@@ -2,4 +2,5 @@ pub mod Thinned
 pub mod Standing
 pub mod Mapped
 pub mod Charts
+pub mod Histories
 mod Examples

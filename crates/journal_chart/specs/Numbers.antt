@@ -6,6 +6,7 @@ use Rattle.market_types.specs.declared.reply.ArenaView.{ArenaView}
 use Rattle.market_types.specs.State.{Arena, State}
 use Rattle.market_types.specs.Allotment.{limit_of, effective_limit_of}
 use Rattle.market_types.specs.Step.{arena_at, view_of, step}
+use Rattle.market_types.specs.History.{state_after}
 use Rattle.journal_chart.specs.declared.span.Span.{Span}
 use Rattle.journal_chart.specs.declared.row.Row.{Row}
 use Rattle.journal_chart.specs.Columns.{columns, width_of}
@@ -74,3 +75,7 @@ chart_of most arenas moments now = record { most = most; moments = length moment
 abbrev pub moments_of : State → List Call → List State
 moments_of s [] = []
 moments_of s (c ∷ calls) = (step s c.seat c.cmd).1 ∷ moments_of (step s c.seat c.cmd).1 calls
+
+-- the chart of these arenas over calls from this opening
+abbrev pub chart_after : ℕ → List ℕ → State → List Call → Charted
+chart_after most arenas start calls = chart_of most arenas (moments_of start calls) (state_after start calls)

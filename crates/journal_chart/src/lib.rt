@@ -2,12 +2,13 @@
 //! limits, over the moments after each entry, in columns that keep the least and the most.
 //!
 //! [`Chart`] takes one moment after another, in memory that does not grow with them. What it keeps is `specs/Numbers`, said over the
-//! market's states alone.
+//! market's states alone, and over a history of calls.
 #![tactic(auto)]
 
 #[cfg(test)]
 mod asserts;
 mod chart;
+mod law;
 mod line;
 mod lines;
 mod row;
@@ -16,6 +17,7 @@ mod span;
 mod tests;
 
 pub use chart::Chart;
+pub use law::a_call_is_a_moment;
 pub use line::Line;
 pub use lines::Lines;
 pub use row::Row;

@@ -1,7 +1,7 @@
 //! What no clause says: that a chart is made where memory is ample, and values worked out by hand.
-ghost use Rattle.std.specs.Prelude.{◌+◌, ◌<◌, ◌^◌};
+ghost use Rattle.std.specs.Prelude.{◌<◌};
 
-use crate::asserts::same;
+use crate::asserts::{holds, same};
 use crate::chart::Chart;
 use crate::line::Line;
 use crate::row::Row;
@@ -31,23 +31,25 @@ fn charted(rt: &impl Abort, alloc: Global, columns: u32) -> Chart
     chart
 }
 
-/// Calls of seats, each of which a chart then takes.
+/// Calls of seats, so many times one after the other, each of which a chart then takes.
 fn play(
     rt: &impl Abort,
     alloc: Global,
     market: &mut Market,
     chart: &mut Chart,
     calls: &[(u8, Cmd)],
+    times: u32,
 ) {
-    for (seat, cmd) in calls {
-        same(rt, market.seats(), 4);
-        same(rt, *seat < 4, true);
-        let Ok(reply) = market.apply(alloc, SeatNo::new(*seat), *cmd) else {
-            panic!(rt; "no reply");
-        };
-        same(rt, chart.moments() < 1_000_000, true);
-        chart.take(market, cmd, &reply);
-        drop(reply);
+    for _ in 0..times {
+        for (seat, cmd) in calls {
+            holds(rt, *seat < market.seats());
+            let Ok(reply) = market.apply(alloc, SeatNo::new(*seat), *cmd) else {
+                panic!(rt; "no reply");
+            };
+            holds(rt, chart.moments() < 1_000_000);
+            chart.take(market, cmd, &reply);
+            drop(reply);
+        }
     }
 }
 
@@ -75,6 +77,44 @@ fn row<'a>(rt: &impl Abort, chart: &'a Chart, index: usize) -> &'a Row {
     }
 }
 
+/// What arena 1 was in the course of nine calls, in four columns.
+fn shows_nine_calls(rt: &impl Abort, chart: &Chart) {
+    same(rt, chart.moments(), 9);
+    let limit = [Some((7, 7)), Some((1, 1)), Some((1, 1)), None];
+    says(rt, chart.lines().limit(), &limit);
+    let row = row(rt, chart, 0);
+    says(
+        rt,
+        &row.level,
+        &[Some((2, 2)), Some((2, 2)), Some((1, 1)), None],
+    );
+    says(
+        rt,
+        &row.request,
+        &[Some((0, 3)), Some((3, 3)), Some((3, 3)), None],
+    );
+    says(
+        rt,
+        &row.allot,
+        &[Some((0, 3)), Some((0, 1)), Some((0, 0)), None],
+    );
+    says(
+        rt,
+        &row.active,
+        &[Some((0, 2)), Some((1, 2)), Some((1, 1)), None],
+    );
+    says(
+        rt,
+        &row.recall,
+        &[Some((0, 0)), Some((1, 2)), Some((1, 1)), None],
+    );
+    says(
+        rt,
+        &row.hire,
+        &[Some((0, 3)), Some((0, 0)), Some((0, 0)), None],
+    );
+}
+
 #[test]
 fn nine_calls_in_four_columns(rt: HostRuntime) {
     let mut market = opened(&rt, rt.alloc());
@@ -92,48 +132,18 @@ fn nine_calls_in_four_columns(rt: HostRuntime) {
         (1, Cmd::Stay),
         (0, Cmd::Priority(first, high)),
     ];
-    play(&rt, rt.alloc(), &mut market, &mut chart, &calls);
-    same(&rt, chart.moments(), 9);
-    let limit = [Some((7, 7)), Some((1, 1)), Some((1, 1)), None];
-    says(&rt, chart.lines().limit(), &limit);
-    says(&rt, chart.lines().effective(), &limit);
-    let old = row(&rt, &chart, 0);
-    same(&rt, old.stands, Some(high));
-    says(
-        &rt,
-        &old.level,
-        &[Some((2, 2)), Some((2, 2)), Some((1, 1)), None],
-    );
-    says(
-        &rt,
-        &old.request,
-        &[Some((0, 3)), Some((3, 3)), Some((3, 3)), None],
-    );
-    says(
-        &rt,
-        &old.allot,
-        &[Some((0, 3)), Some((0, 1)), Some((0, 0)), None],
-    );
-    says(
-        &rt,
-        &old.active,
-        &[Some((0, 2)), Some((1, 2)), Some((1, 1)), None],
-    );
-    says(
-        &rt,
-        &old.recall,
-        &[Some((0, 0)), Some((1, 2)), Some((1, 1)), None],
-    );
-    says(
-        &rt,
-        &old.hire,
-        &[Some((0, 3)), Some((0, 0)), Some((0, 0)), None],
-    );
-    let new = row(&rt, &chart, 1);
-    says(&rt, &new.level, &[None, Some((1, 1)), Some((1, 1)), None]);
-    says(&rt, &new.allot, &[None, Some((0, 1)), Some((1, 1)), None]);
+    play(&rt, rt.alloc(), &mut market, &mut chart, &calls, 1);
+    shows_nine_calls(&rt, &chart);
     drop(chart);
     drop(market);
+}
+
+/// The arena lived for the first 64 of 215 moments, in columns of 128, and asked for 5 workers in one of them.
+fn shows_a_spike(rt: &impl Abort, chart: &Chart) {
+    same(rt, chart.moments(), 215);
+    let row = row(rt, chart, 0);
+    says(rt, &row.request, &[Some((0, 5)), None, None]);
+    says(rt, &row.level, &[Some((3, 3)), None, None]);
 }
 
 #[test]
@@ -142,27 +152,18 @@ fn a_spike_of_one_moment_is_kept(rt: HostRuntime) {
     let mut chart = charted(&rt, rt.alloc(), 3);
     let arena = ArenaId::new(1);
     let opening = [(0, Cmd::Open(8, 0, Level::from_index(2)))];
-    play(&rt, rt.alloc(), &mut market, &mut chart, &opening);
     let still = [(0, Cmd::Limit), (0, Cmd::Show(arena)), (0, Cmd::Lists)];
-    for _ in 0..20 {
-        play(&rt, rt.alloc(), &mut market, &mut chart, &still);
-    }
     let spike = [
         (0, Cmd::Request(arena, 5, 0)),
         (0, Cmd::Request(arena, -5, 0)),
         (0, Cmd::Close(arena)),
         (0, Cmd::Close(arena)),
     ];
-    play(&rt, rt.alloc(), &mut market, &mut chart, &spike);
-    for _ in 0..50 {
-        play(&rt, rt.alloc(), &mut market, &mut chart, &still);
-    }
-    same(&rt, chart.moments(), 215);
-    // 128 moments in each column: the arena lived for the first 64 of them, of which one had the spike.
-    let row = row(&rt, &chart, 0);
-    same(&rt, row.stands, None);
-    says(&rt, &row.request, &[Some((0, 5)), None, None]);
-    says(&rt, &row.level, &[Some((3, 3)), None, None]);
+    play(&rt, rt.alloc(), &mut market, &mut chart, &opening, 1);
+    play(&rt, rt.alloc(), &mut market, &mut chart, &still, 20);
+    play(&rt, rt.alloc(), &mut market, &mut chart, &spike, 1);
+    play(&rt, rt.alloc(), &mut market, &mut chart, &still, 50);
+    shows_a_spike(&rt, &chart);
     drop(chart);
     drop(market);
 }
