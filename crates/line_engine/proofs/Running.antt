@@ -33,7 +33,7 @@ cause-weaker P Q h limit Memory input x y c = c
 cause-weaker P Q h limit (Taker fault) input x y c = (c.0, c.1, c.2, h fault c.3)
 
 -- why a piece could not be read after the input's front has nothing to do with the taker
-cause-of-read : {F : Type 0} (P : F → Type 0) (limit : List ℕ → ℕ) (fault : InputFault F) (front piece : List ℕ) (room : ℕ) (source_failed : Bool)
+pub cause-of-read : {F : Type 0} (P : F → Type 0) (limit : List ℕ → ℕ) (fault : InputFault F) (front piece : List ℕ) (room : ℕ) (source_failed : Bool)
     → length front + room ≡ limit front → IsReadFault fault room piece source_failed → CauseOf P limit fault (front ++ piece) source_failed false
 cause-of-read P limit Read front piece room x is why =
     let within : length front ≤ limit front = omega (arith, is) in

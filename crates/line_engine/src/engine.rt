@@ -1,52 +1,14 @@
 //! The engine that takes an input, piece by piece.
-ghost use Rattle.std.specs.Prelude.{◌≡◌, ◌<◌, ◌≤◌, ◌^◌, [], length, vec_len, take, true, false, Err, OnOk, IfOk, IfErr};
-ghost use Rattle.std.specs.Io.KnownBytes.{Consumes, IsAtEnd};
+ghost use Rattle.std.specs.Prelude.{◌≡◌, ◌<◌, ◌^◌, [], length, true, false, Err, OnOk, IfOk, IfErr};
+ghost use Rattle.std.specs.Io.KnownBytes.{IsAtEnd};
 ghost use Rattle.line_engine.specs.Input.{TakesAll, Stops, HandsOver};
-ghost use Rattle.line_engine.specs.Pieces.{BreaksOff};
 
 use crate::fault::InputFault;
+use crate::input::{PIECE, new_buffer, read_piece};
 use crate::lines::Lines;
 use crate::taker::LineTaker;
 use byte_devices::{Sink, Source};
-use std::alloc::{AllocError, Global};
-
-/// The most bytes that one read gives.
-const PIECE: usize = 65_536;
-
-/// Room for one piece.
-fn new_buffer(alloc: Global, size: usize) -> Result<Vec<u8>, AllocError>
-    ensures { IfOk result (λ buffer. vec_len buffer ≡ size) }
-{
-    vec![in alloc; 0u8; size]
-}
-
-/// Reads the next piece of an input that may have `room` more bytes. It has no byte only where the source has ended.
-fn read_piece<R: Source, F>(
-    source: &mut R,
-    buffer: &mut [u8],
-    room: u64,
-) -> Result<usize, InputFault<F>>
-    requires some { 0 < length buffer.old }
-    requires working { R.failed source.old ≡ false }
-    requires begins { R.ended source.old ≡ false }
-    ensures bound { IfOk result (λ n. n ≤ length buffer.new) }
-    ensures within { IfOk result (λ n. n ≤ room) }
-    ensures read { IfOk result (λ n. Consumes (R.left source.old) (R.left source.new) (take n buffer.new)) }
-    ensures working { OnOk result (R.failed source.new ≡ false) }
-    ensures more { IfOk result (λ n. 0 < n → R.ended source.new ≡ false) }
-    ensures end { IfOk result (λ n. n ≡ 0 → R.ended source.new ≡ true) }
-    ensures all { IfOk result (λ n. n ≡ 0 → IsAtEnd (R.left source.new)) }
-    ensures breaks_off { IfErr result (λ fault. BreaksOff (R.left source.old) (R.left source.new) room (R.failed source.new) fault) }
-    ensures none_given { result ≡ Err InputFault.Read → Consumes (R.left source.old) (R.left source.new) [] }
-{
-    let Ok(count) = source.read(buffer) else {
-        return Err(InputFault::Read);
-    };
-    if count as u64 > room {
-        return Err(InputFault::TooLong);
-    }
-    Ok(count)
-}
+use std::alloc::Global;
 
 /// Hands the input's lines on, piece by piece.
 fn take_pieces<A: LineTaker, R: Source, W: Sink>(

@@ -1,5 +1,6 @@
 //! Cuts what a source gives into lines, hands them to a [`LineTaker`] one after the other, and hands the taker's replies
-//! over to a sink as it goes: [`take_lines`]. [`take_text`] hands on the lines of a text in memory, and lets the replies go.
+//! over to a sink as it goes: [`take_lines`]. [`take_text`] hands on the lines of a text in memory, and lets the replies go;
+//! [`read_input`] reads a whole input into memory.
 //! Whoever needs a whole input line by line writes a taker and no loop.
 //!
 //! A taker says how long a line it needs: of a longer one it gets the first bytes, told as [`LineForm::TooLong`]. It
@@ -11,6 +12,7 @@
 mod engine;
 mod fault;
 mod form;
+mod input;
 mod law;
 mod lines;
 mod taker;
@@ -19,6 +21,7 @@ mod text;
 pub use engine::take_lines;
 pub use fault::InputFault;
 pub use form::LineForm;
+pub use input::read_input;
 pub use law::silence;
 pub use taker::{LONGEST_INPUT, LONGEST_LINE, LineTaker};
 pub use text::{Nowhere, take_text};

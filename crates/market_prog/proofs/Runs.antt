@@ -1,13 +1,14 @@
 -- A run of a script is its lines, taken and answered.
-use Rattle.std.proofs.Common.{◌≡◌, ℕ, List, Bool, true, Option, refl, ap, ◌∙◌, subst}
+use Rattle.std.proofs.Common.{◌≡◌, ℕ, List, Bool, true, Option, true≢false, refl, sym, ap, ◌∙◌, subst}
 use Rattle.std.specs.Io.KnownBytes.{Appends}
 use Rattle.byte_devices.specs.Devices.{WritesFront}
 use Rattle.market_types.specs.State.{State}
 use Rattle.line_engine.specs.Lines.{Line, lines_of}
 use Rattle.line_engine.specs.Input.{TakesAll, StopsAt, CauseOf as InputCauseOf, Stops as InputStops, HandsOver as InputHandsOver, longest_input}
+use Rattle.line_engine.specs.Reading.{StopsReading}
 use Rattle.line_engine.specs.declared.fault.InputFault.{InputFault}
 use Rattle.line_engine.specs.declared.fault.InputFault.TheVariants.{Read as ReadFault, TooLong as LongInput, Write as WriteFault, Memory as InputMemory, Taker}
-use Rattle.market_prog.specs.declared.fault.RunFault.TheVariants.{Read}
+use Rattle.market_prog.specs.declared.fault.RunFault.TheVariants.{Read, Write}
 use Rattle.market_prog.specs.Faults.{run_fault_of_input}
 use Rattle.market_prog.specs.Run.{Answers, CauseOf, Stops, HandsOver}
 use Rattle.market_prog.specs.Sessions.{script_rule}
@@ -59,3 +60,11 @@ read-fault LongInput e = absurd (cc)
 read-fault WriteFault e = absurd (cc)
 read-fault InputMemory e = absurd (cc)
 read-fault (Taker fault) e = absurd (cc)
+
+-- reading a whole input never ends in a write
+pub no-write : {F : Type 0} (left left' : Option (List ℕ)) (source_failed : Bool) (fault : InputFault F) → StopsReading left left' source_failed fault → run_fault_of_input fault ≡ Write → ⊥
+no-write left left' x ReadFault h e = cc
+no-write left left' x LongInput h e = cc
+no-write left left' x WriteFault h e = true≢false (sym h.cause.2)
+no-write left left' x InputMemory h e = cc
+no-write left left' x (Taker fault) h e = cc

@@ -1,5 +1,5 @@
 -- What driving a plan reads and writes.
-use Rattle.std.specs.Prelude.{◌≡◌, ℕ, ◌≤◌, List, length, Bool, false, Option, Result, Ok, Err}
+use Rattle.std.specs.Prelude.{◌≡◌, ℕ, ◌≤◌, List, length, Bool, Option, Result, Ok, Err}
 use Rattle.std.specs.Io.KnownBytes.{Consumes, Appends}
 use Rattle.byte_devices.specs.Devices.{WritesFront}
 use Rattle.line_engine.specs.Input.{longest_input}
@@ -40,12 +40,6 @@ pub record StopsDriving (left left' taken taken' : Option (List ℕ)) (source_fa
   pub read : Consumes left left' plan
   pub cause : CauseOf fault plan source_failed sink_failed
   pub wrote : fault ≡ Write → WritesPart plan taken taken'
-
--- This much of an input was read, and no more could be (no clause of a public call has this word).
-pub record StopsReading (left left' : Option (List ℕ)) (source_failed : Bool) (fault : RunFault) : Type 0 where
-  pub input : List ℕ
-  pub read : Consumes left left' input
-  pub cause : CauseOf fault input source_failed false
 
 -- the exit status of `market drive`: 0 where all jobs are done, 1 where the plan is refused, 2 where a market was not opened, 3
 -- after any other fault and for want of memory

@@ -5,8 +5,8 @@ ghost use Rattle.market_prog.specs.Drive.{Drives, Ends, StopsDriving, drive_stat
 
 use crate::drive_text::{answer_text, fault_text};
 use crate::fault::RunFault;
-use crate::input::read_input;
 use byte_devices::{Sink, Source, put_all};
+use line_engine::read_input;
 use market_drive::{DriveFault, drive};
 use std::alloc::{AllocError, Global};
 use std::sync::Wait;
@@ -65,7 +65,7 @@ pub fn run_drive_through<G: Gate + Sync, T: Threads + Wait + Sync, R: Source, W:
     ensures whole_before_write { IfErr result (λ fault. fault ≡ RunFault.Write → (R.ended source.new ≡ true) × IsAtEnd (R.left source.new)) }
     ensures untouched { IfErr result (λ fault. fault ≢ RunFault.Write → sink.new ≡ sink.old) }
 {
-    let plan = read_input(alloc, source)?;
+    let plan = read_input::<R, AllocError>(alloc, source)?;
     let Ok((end, text)) = tell(rt, alloc, &plan, workers, gate) else {
         return Err(RunFault::Memory);
     };

@@ -8,7 +8,6 @@ mod engine;
 mod explain;
 mod fault;
 mod help;
-mod input;
 mod journal;
 mod options;
 mod recording;
