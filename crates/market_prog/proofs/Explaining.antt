@@ -12,7 +12,7 @@ use Rattle.market_types.specs.Opening.{MemoryAside}
 use Rattle.market_types.specs.State.{State}
 use Rattle.market_types.specs.Script.{told}
 use Rattle.line_engine.specs.Lines.{Line, lines_of}
-use Rattle.line_engine.specs.Rule.{after, replies_to}
+use Rattle.line_engine.specs.Rule.{replies_to}
 use Rattle.line_engine.specs.Input.{TakesAll, StopsAt, Stops as InputStops, longest_input}
 use Rattle.line_engine.specs.declared.fault.InputFault.{InputFault}
 use Rattle.line_engine.specs.declared.fault.InputFault.TheVariants.{Read as ReadFault, TooLong as LongInput, Write as WriteFault, Memory as InputMemory, Taker}
