@@ -1,3 +1,4 @@
+pub mod Texts
 pub mod Thinned
 pub mod Standing
 pub mod Mapped

@@ -2,6 +2,7 @@
 ghost use Rattle.std.specs.Prelude.{◌≡◌, ◌+◌, ◌*◌, ◌<◌, ◌^◌, ℕ, nat_le, if◌then◌else◌, List, [], ◌∷◌, ◌++◌, IfOk};
 ghost use Rattle.market_types.specs.State.{State};
 ghost use Rattle.market_types.specs.Step.{step};
+ghost use Rattle.journal_chart.specs.Columns.{width_of};
 ghost use Rattle.journal_chart.specs.Numbers.{chart_of};
 ghost use Rattle.journal_chart.specs.Steps.{halved_lines};
 
@@ -54,6 +55,21 @@ impl Chart {
         ensures { result ≡ self.now.moments }
     {
         self.moments
+    }
+
+    /// At most how many columns there are.
+    pub fn columns(&self) -> u32
+        ensures { result ≡ self.now.most }
+    {
+        self.columns
+    }
+
+    /// How many moments a column holds.
+    pub fn width(&self) -> u64
+        ensures exact { result ≡ width_of self.now.most self.now.moments }
+        ensures some { 0 < result }
+    {
+        self.width
     }
 
     /// All lines.

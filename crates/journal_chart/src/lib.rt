@@ -8,10 +8,13 @@
 #[cfg(test)]
 mod asserts;
 mod chart;
+mod figure;
 mod law;
 mod line;
 mod lines;
+mod picture;
 mod row;
+mod sheet;
 mod span;
 #[cfg(test)]
 mod tests;
@@ -20,5 +23,6 @@ pub use chart::Chart;
 pub use law::a_call_is_a_moment;
 pub use line::Line;
 pub use lines::Lines;
+pub use picture::push_picture;
 pub use row::Row;
 pub use span::Span;

@@ -40,7 +40,7 @@ impl Line {
     }
 
     /// The column at a place, `None` beyond the last.
-    fn at(&self, place: usize) -> Option<Span>
+    pub(crate) fn at(&self, place: usize) -> Option<Span>
         ensures { result ≡ at self.now place }
     {
         match self.columns.get(place) {

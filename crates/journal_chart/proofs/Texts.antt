@@ -1,0 +1,96 @@
+-- Texts that are put one behind the other.
+use Rattle.std.proofs.Common.{◌≡◌, ℕ, ◌+◌, ◌<◌, if◌then◌else◌, true, false, List, [], ◌∷◌, ◌++◌, drop, length, get_or, Result, Ok, Err, OnOk, is_ok, subst, codes, refl, sym, ap, ◌∙◌, append_assoc, append-nil, arith}
+use Rattle.std.specs.List.{flat_map, range_with_len}
+use Rattle.std.proofs.lemmas.List.{flat_map_more, map-id, at_drop_more}
+use Rattle.std.proofs.Math.Numerals.{suc-eq-add-one}
+use Rattle.std.proofs.lemmas.List.FromFn.{map-range_with_len_more}
+use Rattle.journal_chart.specs.declared.row.Row.{Row}
+use Rattle.journal_chart.specs.declared.sheet.Sheet.{Sheet}
+use Rattle.journal_chart.specs.Numbers.{Drawn}
+use Rattle.journal_chart.specs.Picture.{axis_text, head_text, is_at, levels_end, levels_text, limits_text, row_text, rows_end, rows_text, sheet_text, wide_of}
+
+-- one text more in front of those that are put
+pub behind : {T E : Type 0} (r : Result T E) (o a b x y : List ℕ) → a ≡ o ++ x → OnOk r (b ≡ a ++ y) → OnOk r (b ≡ o ++ (x ++ y))
+behind (Ok v) o a b x y e f = f ∙ ap (λ t. t ++ y) e ∙ append_assoc o x y
+behind (Err v) o a b x y e f = tt
+
+-- what std says of a text that is pushed
+pub pushed : {T E : Type 0} (r : Result T E) (a b y : List ℕ) → b ≡ (if is_ok r then a ++ y else a) → OnOk r (b ≡ a ++ y)
+pushed (Ok v) a b y e = e
+pushed (Err v) a b y e = tt
+
+pub three : {T E : Type 0} (r : Result T E) (o a b c u v w : List ℕ) → a ≡ o ++ u → b ≡ a ++ v → OnOk r (c ≡ b ++ w) → OnOk r (c ≡ o ++ (u ++ (v ++ w)))
+three r o a b c u v w p q l = behind r o a c u _ p (behind r a b c v w q l)
+
+pub four : {T E : Type 0} (r : Result T E) (o a b c d u v w x : List ℕ) → a ≡ o ++ u → b ≡ a ++ v → c ≡ b ++ w → OnOk r (d ≡ c ++ x)
+    → OnOk r (d ≡ o ++ (u ++ (v ++ (w ++ x))))
+four r o a b c d u v w x p q s l = behind r o a d u _ p (behind r a b d v _ q (behind r b c d w x s l))
+
+pub five : {T E : Type 0} (r : Result T E) (o a b c d e u v w x y : List ℕ) → a ≡ o ++ u → b ≡ a ++ v → c ≡ b ++ w → d ≡ c ++ x → OnOk r (e ≡ d ++ y)
+    → OnOk r (e ≡ o ++ (u ++ (v ++ (w ++ (x ++ y)))))
+five r o a b c d e u v w x y p q s t l = behind r o a e u _ p (behind r a b e v _ q (behind r b c e w _ s (behind r c d e x y t l)))
+
+-- texts of numbers from 0 on, and one more
+pub next-text : (text : ℕ → List ℕ) (n : ℕ) (o a b : List ℕ) → a ≡ o ++ flat_map text (range_with_len 0 n) → b ≡ a ++ text n
+    → b ≡ o ++ flat_map text (range_with_len 0 (n + 1))
+next-text text n o a b e f =
+    let longer : range_with_len 0 (n + 1) ≡ range_with_len 0 n ++ n ∷ [] =
+    sym (map-id (range_with_len 0 (n + 1))) ∙ map-range_with_len_more (λ (k : ℕ). k) 0 n n (omega arith) ∙ ap (λ l. l ++ n ∷ []) (map-id (range_with_len 0 n)) in
+    f ∙ ap (λ t. t ++ text n) e ∙ flat_map_more text o (range_with_len 0 n) n ∙ ap (λ l. o ++ flat_map text l) (sym longer)
+
+-- ---- levels, one below the other
+
+pub levels_end-none : (rows : List Row) → levels_end rows 0 ≡ 120
+unfolding levels_end
+levels_end-none rows = refl
+
+pub levels_end-more : (rows : List Row) (n y : ℕ) → y ≡ levels_end rows n → rows_end (n + 1) y rows ≡ levels_end rows (n + 1)
+unfolding levels_end
+levels_end-more rows n y e = ap (λ k. rows_end (n + 1) k rows) e ∙ ap (λ k. levels_end rows k) (suc-eq-add-one n)
+
+pub levels_text-none : (sheet : Sheet) (rows : List Row) (o : List ℕ) → o ≡ o ++ levels_text sheet rows 0
+unfolding levels_text
+levels_text-none sheet rows o = sym (append-nil o)
+
+pub levels_text-more : (sheet : Sheet) (rows : List Row) (n y : ℕ) (o a b : List ℕ) → y ≡ levels_end rows n → a ≡ o ++ levels_text sheet rows n
+    → b ≡ a ++ rows_text sheet (n + 1) y rows → b ≡ o ++ levels_text sheet rows (n + 1)
+unfolding levels_text
+levels_text-more sheet rows n y o a b e f g =
+    g ∙ ap (λ t. t ++ rows_text sheet (n + 1) y rows) f ∙ append_assoc o (levels_text sheet rows n) (rows_text sheet (n + 1) y rows)
+    ∙ ap (λ k. o ++ (levels_text sheet rows n ++ rows_text sheet (n + 1) k rows)) e ∙ ap (λ k. o ++ levels_text sheet rows k) (suc-eq-add-one n)
+
+-- ---- rows, one below the other
+
+-- a row that is put
+pub row-put : (sheet : Sheet) (level y : ℕ) (rows : List Row) (i : ℕ) (r : Row) (a b whole : List ℕ) → i < length rows → r ≡ get_or rows i r → is_at level r ≡ true
+    → a ++ rows_text sheet level y (drop i rows) ≡ whole → b ≡ a ++ row_text sheet level y r → b ++ rows_text sheet level (y + 48) (drop (i + 1) rows) ≡ whole
+row-put sheet level y rows i r a b whole inside is stands before put =
+    let rest : List ℕ = rows_text sheet level (y + 48) (drop (i + 1) rows) in
+    let other : List ℕ = rows_text sheet level y (drop (i + 1) rows) in
+    let taken : rows_text sheet level y (drop i rows) ≡ row_text sheet level y r ++ rest =
+    at_drop_more (rows_text sheet level y) rows i r inside ∙ ap (λ q. rows_text sheet level y (q ∷ drop (i + 1) rows)) (sym is)
+    ∙ ap (λ b. if b then row_text sheet level y r ++ rest else other) stands in
+    ap (λ t. t ++ rest) put ∙ append_assoc a (row_text sheet level y r) rest ∙ ap (λ t. a ++ t) (sym taken) ∙ before
+
+-- a row that stands elsewhere
+pub row-elsewhere : (sheet : Sheet) (level y : ℕ) (rows : List Row) (i : ℕ) (r : Row) (a whole : List ℕ) → i < length rows → r ≡ get_or rows i r → is_at level r ≡ false
+    → a ++ rows_text sheet level y (drop i rows) ≡ whole → a ++ rows_text sheet level y (drop (i + 1) rows) ≡ whole
+row-elsewhere sheet level y rows i r a whole inside is stands before =
+    let rest : List ℕ = rows_text sheet level (y + 48) (drop (i + 1) rows) in
+    let other : List ℕ = rows_text sheet level y (drop (i + 1) rows) in
+    let taken : rows_text sheet level y (drop i rows) ≡ other =
+    at_drop_more (rows_text sheet level y) rows i r inside ∙ ap (λ q. rows_text sheet level y (q ∷ drop (i + 1) rows)) (sym is)
+    ∙ ap (λ b. if b then row_text sheet level y r ++ rest else other) stands in
+    ap (λ t. a ++ t) (sym taken) ∙ before
+
+-- ---- the whole picture
+
+-- its five texts, at what the calls before them returned
+pub sheet-written : {T E : Type 0} (r : Result T E) (o a b c d e : List ℕ) (sheet : Sheet) (lines : Drawn) (rows : List Row) (wide y : ℕ) → rows ≡ lines.rows
+    → wide ≡ wide_of sheet → y ≡ levels_end rows 8 → a ≡ o ++ head_text wide (y + 32) → b ≡ a ++ limits_text sheet lines → c ≡ b ++ levels_text sheet rows 8
+    → d ≡ c ++ axis_text sheet (y + 20) → OnOk r (e ≡ d ++ codes "</svg>\n") → OnOk r (e ≡ o ++ sheet_text sheet lines)
+sheet-written r o a b c d e sheet lines rows wide y same broad end p q s t l =
+    let text : ℕ → ℕ → List Row → List ℕ =
+    λ w z rs. head_text w (z + 32) ++ (limits_text sheet lines ++ (levels_text sheet rs 8 ++ (axis_text sheet (z + 20) ++ codes "</svg>\n"))) in
+    subst (λ rs. OnOk r (e ≡ o ++ text (wide_of sheet) (levels_end rs 8) rs)) same
+    (subst (λ z. OnOk r (e ≡ o ++ text (wide_of sheet) z rows)) end (subst (λ w. OnOk r (e ≡ o ++ text w y rows)) broad (five r o a b c d e _ _ _ _ _ p q s t l)))

@@ -1,0 +1,16 @@
+use Rattle.std.proofs.Common.{sym, ◌∙◌, arith}
+use Rattle.journal_chart.proofs.Texts.{levels_end-none, levels_end-more, levels_text-none, levels_text-more}
+use Rattle.journal_chart.proofs.picture.write_levels.Goals as goal
+
+pub loop-level-init : goal.loop-level-init
+loop-level-init c =
+    record { written = levels_text-none c.args.sheet c.args.rows.now _; height = sym (levels_end-none c.args.rows.now); low = omega arith }
+
+pub loop-level-preserved : goal.loop-level-preserved
+loop-level-preserved c =
+    record {
+      written =
+          levels_text-more c.args.sheet c.args.rows.now c.loop-level.level _ _ _ _ c.loop-level.invariant.height c.loop-level.invariant.written c.in_ok-write_rows.ensures;
+      height = c.rows_end-y.ensures.exact ∙ levels_end-more c.args.rows.now c.loop-level.level _ c.loop-level.invariant.height;
+      low = omega (arith, c.rows_end-y.ensures.low, c.loop-level.invariant.low);
+    }

@@ -1,0 +1,7 @@
+use Rattle.std.proofs.Common.{◌≡◌, ◌++◌, string_bytes}
+use Rattle.std.specs.List.{flat_map, range_with_len}
+use Rattle.journal_chart.specs.Picture.{limits_column}
+use Rattle.journal_chart.proofs.picture.write_limits_columns.Given as goal
+
+abbrev pub invariant-loop-place : goal.invariant-loop-place
+invariant-loop-place l = string_bytes l.text ≡ string_bytes l.initial.text ++ flat_map (limits_column l.sheet l.scale l.lines) (range_with_len 0 l.place)

@@ -1,0 +1,316 @@
+//! A column of a row, as text.
+ghost use Rattle.std.specs.Prelude.{◌≡◌, ◌++◌, ◌<◌, ◌≤◌, OnOk, string_bytes};
+ghost use Rattle.journal_chart.specs.Picture.{area_text, bar_of, bars_text, cell_text, figure_at, ground_text, limits_cell, limits_place, limits_title, marks_text, placed_limits, placed_text, rise_of, shapes_text, stands_at, title_text};
+
+use crate::row::Row;
+use crate::span::Span;
+use std::alloc::AllocError;
+use std::fmt;
+
+/// What a row says in a column.
+#[derive(Clone, Copy)]
+pub(crate) struct Figure {
+    pub(crate) level: Span,
+    pub(crate) request: Span,
+    pub(crate) allot: Span,
+    pub(crate) active: Span,
+    pub(crate) recall: Span,
+    pub(crate) hire: Span,
+}
+
+/// The first and the last entry of a column.
+#[derive(Clone, Copy)]
+pub(crate) struct Entries {
+    pub(crate) first: u64,
+    pub(crate) last: u64,
+}
+
+/// How far below the top of a row a bar begins, and how high it is.
+#[derive(Clone, Copy)]
+struct Bar {
+    y: u64,
+    height: u64,
+}
+
+/// A number, or the least and the most of several.
+#[derive(Clone, Copy)]
+struct Range(Span);
+
+impl fmt::Display for Range {
+    ghost use Rattle.std.specs.Prelude.{Some};
+    ghost use Rattle.journal_chart.specs.Picture.{range_text};
+
+    ghost output = { λ r. Some (range_text r.0) };
+
+    fn fmt<W: fmt::Write>(&self, f: &mut fmt::Formatter<W>) -> fmt::Result {
+        let Span { least, most } = self.0;
+        if least == most {
+            return write!(f, "{least}");
+        }
+        write!(f, "{least} to {most}")
+    }
+}
+
+impl fmt::Display for Entries {
+    ghost use Rattle.std.specs.Prelude.{Some};
+    ghost use Rattle.journal_chart.specs.Picture.{entries_text};
+
+    ghost output = { λ e. Some (entries_text e) };
+
+    fn fmt<W: fmt::Write>(&self, f: &mut fmt::Formatter<W>) -> fmt::Result {
+        let (first, last) = (self.first, self.last);
+        if first == last {
+            return write!(f, "entry {first}");
+        }
+        write!(f, "entries {first} to {last}")
+    }
+}
+
+impl fmt::Display for Bar {
+    ghost use Rattle.std.specs.Prelude.{Some};
+    ghost use Rattle.journal_chart.specs.Picture.{bar_text};
+
+    ghost output = { λ b. Some (bar_text b) };
+
+    fn fmt<W: fmt::Write>(&self, f: &mut fmt::Formatter<W>) -> fmt::Result {
+        let (y, height) = (self.y, self.height);
+        write!(f, " y=\"{y}\" width=\"6\" height=\"{height}\"/>")
+    }
+}
+
+impl Row {
+    /// What the row says in a column, where its arena lived.
+    pub(crate) fn figure(&self, place: usize) -> Option<Figure>
+        ensures { result ≡ figure_at self.now place }
+    {
+        Some(Figure {
+            level: self.level.at(place)?,
+            request: self.request.at(place)?,
+            allot: self.allot.at(place)?,
+            active: self.active.at(place)?,
+            recall: self.recall.at(place)?,
+            hire: self.hire.at(place)?,
+        })
+    }
+}
+
+/// This is the least or the greatest level at which an arena stood in a column.
+pub(crate) fn stands_at(level: u32, column: Option<Span>) -> bool
+    ensures { result ≡ stands_at level column }
+{
+    match column {
+        Some(span) => span.least == level || span.most == level,
+        None => false,
+    }
+}
+
+/// How high a number stands, where the greatest of the row stands at 36.
+fn rise(scale: u64, number: u32) -> u64
+    requires { 0 < scale }
+    ensures exact { result ≡ rise_of scale number }
+    ensures high { result ≤ 36 }
+{
+    (u64::from(number) * 36 / scale).min(36)
+}
+
+/// A bar from the least to the most, never thinner than 2.
+fn bar_of(scale: u64, span: Span) -> Bar
+    requires { 0 < scale }
+    ensures { result ≡ bar_of scale span }
+{
+    let (low, high) = (rise(scale, span.least), rise(scale, span.most));
+    Bar {
+        y: 36 - high,
+        height: high.saturating_sub(low) + 2,
+    }
+}
+
+/// Writes what a pointer over a column is told.
+fn write_title(
+    text: &mut String,
+    entries: Entries,
+    arena: u32,
+    figure: Figure,
+) -> Result<(), AllocError>
+    ensures { OnOk result (string_bytes text.new ≡ string_bytes text.old ++ title_text entries arena figure) }
+{
+    let (level, request) = (Range(figure.level), Range(figure.request));
+    let (allot, active) = (Range(figure.allot), Range(figure.active));
+    write!(text, "<title>{entries}: arena {arena}, level {level}")?;
+    write!(
+        text,
+        ", request {request}, allotment {allot}, active {active}</title>"
+    )
+}
+
+/// Writes the ground.
+fn write_ground(text: &mut String, level: Span) -> Result<(), AllocError>
+    ensures { OnOk result (string_bytes text.new ≡ string_bytes text.old ++ ground_text level) }
+{
+    if level.least == level.most {
+        return text.push_str("<rect class=\"h\" width=\"6\" height=\"44\"/>");
+    }
+    text.push_str("<rect class=\"v\" width=\"6\" height=\"44\"/>")
+}
+
+/// Writes the allotment as an area.
+fn write_area(text: &mut String, scale: u64, allot: Span) -> Result<(), AllocError>
+    requires { 0 < scale }
+    ensures { OnOk result (string_bytes text.new ≡ string_bytes text.old ++ area_text scale allot) }
+{
+    let most = bar_of(
+        scale,
+        Span {
+            least: 0,
+            most: allot.most,
+        },
+    );
+    let least = bar_of(
+        scale,
+        Span {
+            least: 0,
+            most: allot.least,
+        },
+    );
+    write!(text, "<rect class=\"m\"{most}<rect class=\"l\"{least}")
+}
+
+/// Writes the request and the active workers as bars.
+fn write_bars(text: &mut String, scale: u64, request: Span, active: Span) -> Result<(), AllocError>
+    requires { 0 < scale }
+    ensures { OnOk result (string_bytes text.new ≡ string_bytes text.old ++ bars_text scale request active) }
+{
+    let (request, active) = (bar_of(scale, request), bar_of(scale, active));
+    write!(text, "<rect class=\"r\"{request}<rect class=\"a\"{active}")
+}
+
+/// Writes the marks of recalls and of hires.
+fn write_marks(text: &mut String, recall: u32, hire: u32) -> Result<(), AllocError>
+    ensures { OnOk result (string_bytes text.new ≡ string_bytes text.old ++ marks_text recall hire) }
+{
+    let recall = Bar {
+        y: 39,
+        height: u64::from(recall.min(2)),
+    };
+    let hire = Bar {
+        y: 42,
+        height: u64::from(hire.min(2)),
+    };
+    write!(text, "<rect class=\"k\"{recall}<rect class=\"n\"{hire}")
+}
+
+/// Writes the ground, the area of the allotment, the bars, and the marks.
+fn write_shapes(text: &mut String, scale: u64, figure: Figure) -> Result<(), AllocError>
+    requires { 0 < scale }
+    ensures { OnOk result (string_bytes text.new ≡ string_bytes text.old ++ shapes_text scale figure) }
+{
+    write_ground(text, figure.level)?;
+    write_area(text, scale, figure.allot)?;
+    write_bars(text, scale, figure.request, figure.active)?;
+    write_marks(text, figure.recall.most, figure.hire.most)
+}
+
+/// Writes a column of an arena at a level, where it is drawn there.
+pub(crate) fn write_cell(
+    text: &mut String,
+    level: u32,
+    arena: u32,
+    scale: u64,
+    entries: Entries,
+    place: u32,
+    figure: Option<Figure>,
+) -> Result<(), AllocError>
+    requires { 0 < scale }
+    ensures { OnOk result (string_bytes text.new ≡ string_bytes text.old ++ cell_text level arena scale entries place figure) }
+{
+    let Some(figure) = figure else {
+        return Ok(());
+    };
+    if !stands_at(level, Some(figure.level)) {
+        return Ok(());
+    }
+    write_placed(text, arena, scale, entries, place, figure)
+}
+
+/// Writes a column at its place.
+fn write_placed(
+    text: &mut String,
+    arena: u32,
+    scale: u64,
+    entries: Entries,
+    place: u32,
+    figure: Figure,
+) -> Result<(), AllocError>
+    requires { 0 < scale }
+    ensures { OnOk result (string_bytes text.new ≡ string_bytes text.old ++ placed_text arena scale entries place figure) }
+{
+    let x = 150 + 6 * u64::from(place);
+    write!(text, "<g transform=\"translate({x})\">")?;
+    write_title(text, entries, arena, figure)?;
+    write_shapes(text, scale, figure)?;
+    text.push_str("</g>\n")
+}
+
+/// Writes a column of the limits.
+pub(crate) fn write_limits_cell(
+    text: &mut String,
+    scale: u64,
+    entries: Entries,
+    place: u32,
+    limit: Option<Span>,
+    effective: Option<Span>,
+) -> Result<(), AllocError>
+    requires { 0 < scale }
+    ensures { OnOk result (string_bytes text.new ≡ string_bytes text.old ++ limits_cell scale entries place limit effective) }
+{
+    let Some(limit) = limit else {
+        return Ok(());
+    };
+    let Some(effective) = effective else {
+        return Ok(());
+    };
+    write_placed_limits(text, scale, entries, place, limit, effective)
+}
+
+/// Writes what a pointer over a column of the limits is told, and the ground.
+fn write_limits_title(
+    text: &mut String,
+    entries: Entries,
+    limit: Span,
+    effective: Span,
+) -> Result<(), AllocError>
+    ensures { OnOk result (string_bytes text.new ≡ string_bytes text.old ++ limits_title entries limit effective) }
+{
+    let (limit, effective) = (Range(limit), Range(effective));
+    write!(text, "<title>{entries}: limit {limit}")?;
+    write!(
+        text,
+        ", effective limit {effective}</title><rect class=\"h\" width=\"6\" height=\"44\"/>"
+    )
+}
+
+/// Writes where a column of the limits stands.
+fn write_limits_place(text: &mut String, place: u32) -> Result<(), AllocError>
+    ensures { OnOk result (string_bytes text.new ≡ string_bytes text.old ++ limits_place place) }
+{
+    let x = 150 + 6 * u64::from(place);
+    write!(text, "<g transform=\"translate({x} 60)\">")
+}
+
+/// Writes a column of the limits at its place.
+fn write_placed_limits(
+    text: &mut String,
+    scale: u64,
+    entries: Entries,
+    place: u32,
+    limit: Span,
+    effective: Span,
+) -> Result<(), AllocError>
+    requires { 0 < scale }
+    ensures { OnOk result (string_bytes text.new ≡ string_bytes text.old ++ placed_limits scale entries place limit effective) }
+{
+    write_limits_place(text, place)?;
+    write_limits_title(text, entries, limit, effective)?;
+    write_bars(text, scale, limit, effective)?;
+    text.push_str("</g>\n")
+}

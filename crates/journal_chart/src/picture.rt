@@ -1,0 +1,372 @@
+//! The picture of a chart, as the text of an SVG.
+ghost use Rattle.std.specs.Prelude.{◌≡◌, ◌+◌, ◌*◌, ◌++◌, ◌<◌, ◌≤◌, ◌^◌, length, OnErr, OnOk, string_bytes};
+ghost use Rattle.std.specs.List.{count_by};
+ghost use Rattle.journal_chart.specs.Picture.{axis_name, axis_text, box_text, column_text, columns_text, filled, head_text, is_at, legend_text, levels_end, levels_text, limits_column, limits_columns, limits_name, limits_scale, limits_text, name_text, picture_text, row_text, rows_end, rows_text, sheet_text, size_text, style_text, tick_text, ticks_text};
+
+use crate::chart::Chart;
+use crate::figure::{write_cell, write_limits_cell};
+use crate::lines::Lines;
+use crate::row::Row;
+use crate::sheet::{Sheet, greatest, is_at, scale_of};
+use std::alloc::AllocError;
+
+/// Writes a column of a row at a level.
+fn write_column(
+    text: &mut String,
+    sheet: Sheet,
+    level: u32,
+    scale: u64,
+    row: &Row,
+    place: u32,
+) -> Result<(), AllocError>
+    requires wide { 0 < sheet.width }
+    requires inside { place < filled sheet }
+    requires high { 0 < scale }
+    ensures { OnOk result (string_bytes text.new ≡ string_bytes text.old ++ column_text sheet level scale row.now place) }
+{
+    let figure = row.figure(place as usize);
+    write_cell(
+        text,
+        level,
+        row.arena.get(),
+        scale,
+        sheet.entries(place),
+        place,
+        figure,
+    )
+}
+
+/// Writes the columns of a row at a level.
+fn write_columns(
+    text: &mut String,
+    sheet: Sheet,
+    level: u32,
+    scale: u64,
+    row: &Row,
+) -> Result<(), AllocError>
+    requires wide { 0 < sheet.width }
+    requires high { 0 < scale }
+    ensures { OnOk result (string_bytes text.new ≡ string_bytes text.old ++ columns_text sheet level scale row.now) }
+{
+    for place in 0..sheet.filled() {
+        write_column(text, sheet, level, scale, row, place)?;
+    }
+    Ok(())
+}
+
+/// Writes a row's name and what stands at its top.
+fn write_name(
+    text: &mut String,
+    level: u32,
+    scale: u64,
+    y: u64,
+    row: &Row,
+) -> Result<(), AllocError>
+    ensures { OnOk result (string_bytes text.new ≡ string_bytes text.old ++ name_text level scale y row.now) }
+{
+    let arena = row.arena.get();
+    write!(
+        text,
+        "<g transform=\"translate(0 {y})\"><text x=\"8\" y=\"24\">level {level}"
+    )?;
+    write!(
+        text,
+        ", arena {arena}</text><text x=\"142\" y=\"10\" class=\"e\">{scale}</text>\n"
+    )
+}
+
+/// Writes a row at a level.
+fn write_row(
+    text: &mut String,
+    sheet: Sheet,
+    level: u32,
+    y: u64,
+    row: &Row,
+) -> Result<(), AllocError>
+    requires { 0 < sheet.width }
+    ensures { OnOk result (string_bytes text.new ≡ string_bytes text.old ++ row_text sheet level y row.now) }
+{
+    let scale = scale_of(row);
+    write_name(text, level, scale, y, row)?;
+    write_columns(text, sheet, level, scale, row)?;
+    text.push_str("</g>\n")
+}
+
+/// Writes the rows at a level, one below the other.
+fn write_rows(
+    text: &mut String,
+    sheet: Sheet,
+    level: u32,
+    y: u64,
+    rows: &[Row],
+) -> Result<(), AllocError>
+    requires wide { 0 < sheet.width }
+    requires few { length rows.now < 2 ^ 32 }
+    requires low { y < 2 ^ 48 }
+    ensures { OnOk result (string_bytes text.new ≡ string_bytes text.old ++ rows_text sheet level y rows.now) }
+{
+    let mut below = y;
+    for row in rows {
+        if !is_at(row, level) {
+            continue;
+        }
+        write_row(text, sheet, level, below, row)?;
+        below += 48;
+    }
+    Ok(())
+}
+
+/// How many rows there are at a level.
+fn count_at(rows: &[Row], level: u32) -> usize
+    ensures exact { result ≡ count_by (is_at level) rows.now }
+    ensures most { result ≤ length rows.now }
+{
+    rows.iter().filter(|row| is_at(row, level)).count()
+}
+
+/// Where the rows at a level end.
+fn rows_end(rows: &[Row], level: u32, y: u64) -> u64
+    requires few { length rows.now < 2 ^ 32 }
+    requires low { y < 2 ^ 48 }
+    ensures exact { result ≡ rows_end level y rows.now }
+    ensures low { result ≤ y + 48 * 2 ^ 32 }
+{
+    y + 48 * count_at(rows, level) as u64
+}
+
+/// Where the rows of all levels end.
+fn levels_end(rows: &[Row]) -> u64
+    requires few { length rows.now < 2 ^ 32 }
+    ensures exact { result ≡ levels_end rows.now 8 }
+    ensures low { result < 2 ^ 48 }
+{
+    let mut y = 120;
+    for level in 0..8 {
+        y = rows_end(rows, level + 1, y);
+    }
+    y
+}
+
+/// Writes the rows of all levels, one level below the other.
+fn write_levels(text: &mut String, sheet: Sheet, rows: &[Row]) -> Result<(), AllocError>
+    requires wide { 0 < sheet.width }
+    requires few { length rows.now < 2 ^ 32 }
+    ensures { OnOk result (string_bytes text.new ≡ string_bytes text.old ++ levels_text sheet rows.now 8) }
+{
+    let mut y = 120;
+    for level in 0..8 {
+        write_rows(text, sheet, level + 1, y, rows)?;
+        y = rows_end(rows, level + 1, y);
+    }
+    Ok(())
+}
+
+/// Writes a column of the limits.
+fn write_limits_column(
+    text: &mut String,
+    sheet: Sheet,
+    scale: u64,
+    lines: &Lines,
+    place: u32,
+) -> Result<(), AllocError>
+    requires wide { 0 < sheet.width }
+    requires inside { place < filled sheet }
+    requires high { 0 < scale }
+    ensures { OnOk result (string_bytes text.new ≡ string_bytes text.old ++ limits_column sheet scale lines.now place) }
+{
+    let limit = lines.limit().at(place as usize);
+    let effective = lines.effective().at(place as usize);
+    write_limits_cell(text, scale, sheet.entries(place), place, limit, effective)
+}
+
+/// Writes the columns of the limits.
+fn write_limits_columns(
+    text: &mut String,
+    sheet: Sheet,
+    scale: u64,
+    lines: &Lines,
+) -> Result<(), AllocError>
+    requires wide { 0 < sheet.width }
+    requires high { 0 < scale }
+    ensures { OnOk result (string_bytes text.new ≡ string_bytes text.old ++ limits_columns sheet scale lines.now) }
+{
+    for place in 0..sheet.filled() {
+        write_limits_column(text, sheet, scale, lines, place)?;
+    }
+    Ok(())
+}
+
+/// What stands at the top of the limits.
+fn limits_scale(lines: &Lines) -> u64
+    ensures exact { result ≡ limits_scale lines.now }
+    ensures some { 0 < result }
+{
+    let limit = greatest(lines.limit().columns());
+    let effective = greatest(lines.effective().columns());
+    u64::from(limit.max(effective).max(1))
+}
+
+/// Writes the name of the limits and what stands at their top.
+fn write_limits_name(text: &mut String, scale: u64) -> Result<(), AllocError>
+    ensures { OnOk result (string_bytes text.new ≡ string_bytes text.old ++ limits_name scale) }
+{
+    write!(
+        text,
+        "<text x=\"8\" y=\"84\">limit</text><text x=\"142\" y=\"70\" class=\"e\">{scale}</text>\n"
+    )
+}
+
+/// Writes the limits.
+fn write_limits(text: &mut String, sheet: Sheet, lines: &Lines) -> Result<(), AllocError>
+    requires { 0 < sheet.width }
+    ensures { OnOk result (string_bytes text.new ≡ string_bytes text.old ++ limits_text sheet lines.now) }
+{
+    let scale = limits_scale(lines);
+    write_limits_name(text, scale)?;
+    write_limits_columns(text, sheet, scale, lines)
+}
+
+/// Writes the first entry of every sixteenth column.
+fn write_tick(text: &mut String, sheet: Sheet, y: u64, place: u32) -> Result<(), AllocError>
+    requires wide { 0 < sheet.width }
+    requires inside { place < filled sheet }
+    ensures { OnOk result (string_bytes text.new ≡ string_bytes text.old ++ tick_text sheet y place) }
+{
+    if place % 16 != 0 {
+        return Ok(());
+    }
+    let x = 150 + 6 * u64::from(place);
+    let first = sheet.before(place) + 1;
+    write!(text, "<text x=\"{x}\" y=\"{y}\">{first}</text>\n")
+}
+
+/// Writes the first entries of all columns that tell it.
+fn write_ticks(text: &mut String, sheet: Sheet, y: u64) -> Result<(), AllocError>
+    requires { 0 < sheet.width }
+    ensures { OnOk result (string_bytes text.new ≡ string_bytes text.old ++ ticks_text sheet y) }
+{
+    for place in 0..sheet.filled() {
+        write_tick(text, sheet, y, place)?;
+    }
+    Ok(())
+}
+
+/// Writes the name of the entries.
+fn write_axis_name(text: &mut String, y: u64) -> Result<(), AllocError>
+    ensures { OnOk result (string_bytes text.new ≡ string_bytes text.old ++ axis_name y) }
+{
+    write!(text, "<text x=\"8\" y=\"{y}\">entry</text>\n")
+}
+
+/// Writes the entries below the rows.
+fn write_axis(text: &mut String, sheet: Sheet, y: u64) -> Result<(), AllocError>
+    requires { 0 < sheet.width }
+    ensures { OnOk result (string_bytes text.new ≡ string_bytes text.old ++ axis_text sheet y) }
+{
+    write_axis_name(text, y)?;
+    write_ticks(text, sheet, y)
+}
+
+/// Writes how wide and how high the picture is.
+fn write_size(text: &mut String, wide: u64, high: u64) -> Result<(), AllocError>
+    ensures { OnOk result (string_bytes text.new ≡ string_bytes text.old ++ size_text wide high) }
+{
+    write!(
+        text,
+        "<svg xmlns=\"http://www.w3.org/2000/svg\" width=\"{wide}\" height=\"{high}\""
+    )
+}
+
+/// Writes the box that is seen, which is all of the picture.
+fn write_box(text: &mut String, wide: u64, high: u64) -> Result<(), AllocError>
+    ensures { OnOk result (string_bytes text.new ≡ string_bytes text.old ++ box_text wide high) }
+{
+    write!(text, " viewBox=\"0 0 {wide} {high}\">\n")
+}
+
+/// Writes the colours of the classes.
+#[tactic(auto, unfolding(crate::specs::Picture::style_text))]
+fn write_style(text: &mut String) -> Result<(), AllocError>
+    ensures { OnOk result (string_bytes text.new ≡ string_bytes text.old ++ style_text) }
+{
+    text.push_str(
+        "<style>svg{background:#fff;font:12px sans-serif}text,.r{fill:#222}.e{text-anchor:end}\
+         .h{fill:transparent}.v{fill:#f6d58f}.m{fill:#bfe1f5}.l{fill:#56b4e9}.a{fill:#d55e00}.k{fill:#cc79a7}\
+         .n{fill:#009e73}@media(prefers-color-scheme:dark){svg{background:#111}text,.r{fill:#ddd}\
+         .v{fill:#6b4e10}.m{fill:#173f57}.l{fill:#2a7fb8}.a{fill:#ff9d5c}}</style>\n",
+    )
+}
+
+/// Writes the legend.
+#[tactic(auto, unfolding(crate::specs::Picture::legend_text))]
+fn write_legend(text: &mut String) -> Result<(), AllocError>
+    ensures { OnOk result (string_bytes text.new ≡ string_bytes text.old ++ legend_text) }
+{
+    text.push_str(
+        "<text x=\"8\" y=\"20\">A market's history</text>\
+         <rect class=\"r\" x=\"150\" y=\"14\" width=\"14\" height=\"2\"/>\
+         <text x=\"168\" y=\"20\">request, limit</text>\
+         <rect class=\"m\" x=\"270\" y=\"9\" width=\"7\" height=\"12\"/>\
+         <rect class=\"l\" x=\"277\" y=\"9\" width=\"7\" height=\"12\"/>\
+         <text x=\"288\" y=\"20\">allotment, its most and its least</text>\
+         <rect class=\"a\" x=\"500\" y=\"14\" width=\"14\" height=\"2\"/>\
+         <text x=\"518\" y=\"20\">active, effective limit</text>\
+         <rect class=\"k\" x=\"150\" y=\"36\" width=\"14\" height=\"2\"/>\
+         <text x=\"168\" y=\"42\">recalls</text>\
+         <rect class=\"n\" x=\"270\" y=\"36\" width=\"14\" height=\"2\"/>\
+         <text x=\"288\" y=\"42\">hires</text>\
+         <rect class=\"v\" x=\"500\" y=\"31\" width=\"14\" height=\"12\"/>\
+         <text x=\"518\" y=\"42\">moved between levels</text>\n",
+    )
+}
+
+/// Writes the size, the colours of the classes, and the legend.
+fn write_head(text: &mut String, wide: u64, high: u64) -> Result<(), AllocError>
+    ensures { OnOk result (string_bytes text.new ≡ string_bytes text.old ++ head_text wide high) }
+{
+    write_size(text, wide, high)?;
+    write_box(text, wide, high)?;
+    write_style(text)?;
+    write_legend(text)
+}
+
+/// Writes the picture of some columns and lines.
+fn write_sheet(text: &mut String, sheet: Sheet, lines: &Lines) -> Result<(), AllocError>
+    requires wide { 0 < sheet.width }
+    requires few { length lines.now.rows < 2 ^ 32 }
+    ensures { OnOk result (string_bytes text.new ≡ string_bytes text.old ++ sheet_text sheet lines.now) }
+{
+    let rows = lines.rows();
+    let end = levels_end(rows);
+    write_head(text, sheet.wide(), end + 32)?;
+    write_limits(text, sheet, lines)?;
+    write_levels(text, sheet, rows)?;
+    write_axis(text, sheet, end + 20)?;
+    text.push_str("</svg>\n")
+}
+
+/// Writes the picture of a chart.
+fn write_picture(text: &mut String, chart: &Chart) -> Result<(), AllocError>
+    requires few { length chart.now.lines.rows < 2 ^ 32 }
+    ensures { OnOk result (string_bytes text.new ≡ string_bytes text.old ++ picture_text chart.now) }
+{
+    let sheet = Sheet {
+        width: chart.width(),
+        moments: chart.moments(),
+        columns: chart.columns(),
+    };
+    write_sheet(text, sheet, chart.lines())
+}
+
+/// Puts the picture of a chart, an SVG that stands alone, behind what `out` holds. It has a row for each arena at each level at which
+/// it stood (of the levels of one column, the least and the greatest), in which each column tells a pointer its numbers. `Err` says
+/// that memory ran out, and leaves `out` as it was.
+pub fn push_picture(out: &mut Vec<u8>, chart: &Chart) -> Result<(), AllocError>
+    requires few { length chart.now.lines.rows < 2 ^ 32 }
+    ensures ok { OnOk result (out.new.items ≡ out.old.items ++ picture_text chart.now) }
+    ensures err { OnErr result (out.new.items ≡ out.old.items) }
+{
+    let mut text = String::new(*out.allocator());
+    write_picture(&mut text, chart)?;
+    out.extend_from_slice(text.as_bytes())
+}

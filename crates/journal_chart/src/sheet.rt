@@ -1,0 +1,105 @@
+//! The columns of a picture.
+ghost use Rattle.std.specs.Prelude.{◌≡◌, ◌*◌, ◌<◌};
+ghost use Rattle.std.specs.List.{list_any};
+ghost use Rattle.journal_chart.specs.Picture.{entries_of, filled, greatest, is_at, most_of, scale_of, stands_at, wide_of};
+
+use crate::figure::{Entries, stands_at};
+use crate::row::Row;
+use crate::span::Span;
+
+/// How many moments there are, how many of them a column holds, and at most how many columns there are.
+#[derive(Clone, Copy)]
+pub(crate) struct Sheet {
+    pub(crate) width: u64,
+    pub(crate) moments: u64,
+    pub(crate) columns: u32,
+}
+
+impl Sheet {
+    /// How wide the picture is.
+    pub(crate) fn wide(self) -> u64
+        ensures { result ≡ wide_of self }
+    {
+        (160 + 6 * u64::from(self.columns)).max(660)
+    }
+
+    /// How many columns have moments.
+    pub(crate) fn filled(self) -> u32
+        requires { 0 < self.width }
+        ensures { result ≡ filled self }
+    {
+        if self.moments == 0 {
+            return 0;
+        }
+        ((self.moments - 1) / self.width + 1).min(u64::from(self.columns)) as u32
+    }
+
+    /// The number of moments before a column.
+    pub(crate) fn before(self, place: u32) -> u64
+        requires wide { 0 < self.width }
+        requires inside { place < filled self }
+        ensures exact { result ≡ place * self.width }
+        ensures within { result < self.moments }
+    {
+        u64::from(place) * self.width
+    }
+
+    /// The entries of a column.
+    pub(crate) fn entries(self, place: u32) -> Entries
+        requires wide { 0 < self.width }
+        requires inside { place < filled self }
+        ensures { result ≡ entries_of self place }
+    {
+        let before = self.before(place);
+        Entries {
+            first: before + 1,
+            last: before + self.width.min(self.moments - before),
+        }
+    }
+}
+
+/// The most of a column, or 0.
+fn most_of(column: Option<Span>) -> u32
+    ensures { result ≡ most_of column }
+{
+    match column {
+        Some(span) => span.most,
+        None => 0,
+    }
+}
+
+/// The greatest number of a line, or 0.
+pub(crate) fn greatest(columns: &[Option<Span>]) -> u32
+    ensures { result ≡ greatest columns.now }
+{
+    let mut most = 0;
+    for column in columns {
+        most = most.max(most_of(*column));
+    }
+    most
+}
+
+/// What stands at the top of a row.
+pub(crate) fn scale_of(row: &Row) -> u64
+    ensures exact { result ≡ scale_of row.now }
+    ensures some { 0 < result }
+{
+    let request = greatest(row.request.columns());
+    let allot = greatest(row.allot.columns());
+    let active = greatest(row.active.columns());
+    u64::from(request.max(allot.max(active)).max(1))
+}
+
+/// This is the least or the greatest level of one of these columns.
+fn any_at(columns: &[Option<Span>], level: u32) -> bool
+    ensures { result ≡ list_any (stands_at level) columns.now }
+{
+    columns.iter().any(|column| stands_at(level, *column))
+}
+
+/// This is the least or the greatest level of one of the columns of a row.
+pub(crate) fn is_at(row: &Row, level: u32) -> bool
+    ensures { result ≡ is_at level row.now }
+{
+    any_at(row.level.columns(), level)
+}
