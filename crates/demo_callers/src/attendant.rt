@@ -6,7 +6,6 @@ use market_lock::{Office, Pass, Placed};
 use office_crew::{Caller, Task};
 use std::alloc::Global;
 use std::sync::Wait;
-use std::sync::ledger::Ledger;
 
 /// A caller of an office that lasts.
 #[derive(Drop)]
@@ -36,13 +35,13 @@ impl<O> Attendant<'_, O> {
 }
 
 impl<O: Sink> Task for Attendant<'_, O> {
-    fn work<C: Ledger, W: Ledger, R: Wait>(
+    fn work<R: Wait>(
         &mut self,
         rt: &R,
         alloc: Global,
-        office: &Office<C, W>,
-        caller: Caller<Pass<C, W>, Placed<C, W>>,
-    ) -> Caller<Pass<C, W>, Placed<C, W>> {
+        office: &Office,
+        caller: Caller<Pass, Placed>,
+    ) -> Caller<Pass, Placed> {
         match self {
             Attendant::Guest(guest) => guest.work(rt, alloc, office, caller),
             Attendant::Writer(writer) => writer.work(rt, alloc, office, caller),

@@ -12,7 +12,6 @@ use office_crew::{Asked, Caller, Task, ask};
 use std::alloc::Global;
 use std::rt::HostRuntime;
 use std::sync::Wait;
-use std::sync::ledger::Ledger;
 
 /// It looks at the clock each time that it has called so often.
 const CALLS_A_LOOK: u32 = 1_024;
@@ -105,13 +104,13 @@ impl<'a> Guest<'a> {
     }
 
     /// Calls so often as it does between two looks at the clock.
-    fn call_often<C: Ledger, W: Ledger, R: Wait>(
+    fn call_often<R: Wait>(
         &mut self,
         rt: &R,
         alloc: Global,
-        office: &Office<C, W>,
-        caller: Caller<Pass<C, W>, Placed<C, W>>,
-    ) -> Caller<Pass<C, W>, Placed<C, W>>
+        office: &Office,
+        caller: Caller<Pass, Placed>,
+    ) -> Caller<Pass, Placed>
         requires office { (who_is caller).table ≡ office.now.table }
         ensures same { IsSamePass (who_is caller) (who_is result) }
     {
@@ -147,13 +146,13 @@ impl<'a> Guest<'a> {
 }
 
 impl Task for Guest<'_> {
-    fn work<C: Ledger, W: Ledger, R: Wait>(
+    fn work<R: Wait>(
         &mut self,
         rt: &R,
         alloc: Global,
-        office: &Office<C, W>,
-        caller: Caller<Pass<C, W>, Placed<C, W>>,
-    ) -> Caller<Pass<C, W>, Placed<C, W>> {
+        office: &Office,
+        caller: Caller<Pass, Placed>,
+    ) -> Caller<Pass, Placed> {
         let mut caller = caller;
         for _ in rt.forever() {
             caller = self.call_often(rt, alloc, office, caller);

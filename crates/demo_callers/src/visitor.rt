@@ -6,7 +6,6 @@ use market_types::{ArenaId, Cmd, ControlId, Level, Reply};
 use office_crew::{Asked, Caller, Task, ask};
 use std::alloc::Global;
 use std::sync::Wait;
-use std::sync::ledger::Ledger;
 
 /// It calls so many arenas, the newest that it opened and those before.
 const ARENAS: u32 = 24;
@@ -90,13 +89,13 @@ impl Visitor {
 }
 
 impl Task for Visitor {
-    fn work<C: Ledger, W: Ledger, R: Wait>(
+    fn work<R: Wait>(
         &mut self,
         rt: &R,
         alloc: Global,
-        office: &Office<C, W>,
-        caller: Caller<Pass<C, W>, Placed<C, W>>,
-    ) -> Caller<Pass<C, W>, Placed<C, W>> {
+        office: &Office,
+        caller: Caller<Pass, Placed>,
+    ) -> Caller<Pass, Placed> {
         let mut caller = caller;
         for _ in 0..self.turns {
             let cmd = match &caller {

@@ -17,7 +17,6 @@ use office_crew::{Caller, Missed, Scribe, Task};
 use std::alloc::{AllocError, Global};
 use std::rt::HostRuntime;
 use std::sync::Wait;
-use std::sync::ledger::Ledger;
 
 /// A vector that entries are cut into has room for one of each seat.
 const MOST_SEATS: usize = 64;
@@ -93,12 +92,12 @@ impl<'a, O: Sink> Writer<'a, O> {
     }
 
     /// Writes part after part. It ends with why.
-    fn write_parts<C: Ledger, W: Ledger, R: Wait>(
+    fn write_parts<R: Wait>(
         &mut self,
         rt: &R,
         alloc: Global,
-        office: &Office<C, W>,
-        scribe: &mut Scribe<C, W>,
+        office: &Office,
+        scribe: &mut Scribe,
     ) -> Result<(), Stop>
         requires office { scribe.old.pass.table ≡ office.now.table }
         requires begins { scribe.old.written ≡ [] }
@@ -157,13 +156,13 @@ fn room_of(part: Part) -> Result<Vec<Entry>, AllocError>
 }
 
 impl<O: Sink> Task for Writer<'_, O> {
-    fn work<C: Ledger, W: Ledger, R: Wait>(
+    fn work<R: Wait>(
         &mut self,
         rt: &R,
         alloc: Global,
-        office: &Office<C, W>,
-        caller: Caller<Pass<C, W>, Placed<C, W>>,
-    ) -> Caller<Pass<C, W>, Placed<C, W>> {
+        office: &Office,
+        caller: Caller<Pass, Placed>,
+    ) -> Caller<Pass, Placed> {
         let pass = match caller {
             Caller::Free(pass) => pass,
             Caller::Working(worker) => return Caller::Working(worker),

@@ -1,11 +1,9 @@
 //! The longest history that a market can have, with the most arenas, seats and places: what is answered in its last places, and what is
 //! written of it. A call that wants memory above some size, whatever is left, meets its contract, and fails here.
 ghost use Rattle.std.specs.Prelude.{◌≡◌, false};
-ghost use Rattle.market_types.specs.History.{place_in};
-ghost use Rattle.market_desk.specs.Workers.{workers_at};
 
 use crate::asserts::{holds, same};
-use crate::desks::{answer, gathered};
+use crate::desks::{answer, kept};
 use crate::journals::finds;
 use byte_devices::TestSink;
 use edit_history::{Chronicle, Keeping, Part, Terms};
@@ -14,11 +12,8 @@ use journal_replay::{Extent, Header, write_header, write_part};
 use market_desk::Desk;
 use market_types::{ArenaId, Cmd, Correction, LastNumber, Level, Reply, SeatNo};
 use std::alloc::{AllocError, Global};
-use std::marker::Brand;
 use std::process::Abort;
 use std::rt::HostRuntime;
-use std::sync::ledger::{Blank, Ledger};
-use worker_ledger::{Book, Share, Totals};
 
 const ARENAS: u32 = 1_024;
 
@@ -185,45 +180,29 @@ fn the_longest_history_is_cut_out_and_written(rt: HostRuntime) {
 }
 
 /// Seat 0 of a desk gives these commands.
-fn serve<C: Ledger, W: Ledger>(
-    rt: &impl Abort,
-    desk: &mut Desk<C, W>,
-    share: &mut Share<C, W>,
-    alloc: Global,
-    commands: &[Cmd],
-)
-    requires worker { share.old.workers ≡ workers_at (place_in 0 desk.old.log) }
-    ensures worker { share.new.workers ≡ workers_at (place_in 0 desk.new.log) }
-{
+fn serve(rt: &impl Abort, desk: &mut Desk, alloc: Global, commands: &[Cmd]) {
     for cmd in commands {
-        let reply = answer(desk, share, alloc, cmd);
+        let reply = answer(desk, alloc, cmd);
         holds(rt, reply.is_ok());
         drop(reply);
     }
 }
 
 /// All arenas are listed, and then seat 0 joins in the last places, and leaves.
-fn serve_last<C: Ledger, W: Ledger>(
-    rt: &impl Abort,
-    desk: &mut Desk<C, W>,
-    share: &mut Share<C, W>,
-    alloc: Global,
-)
-    requires worker { share.old.workers ≡ workers_at (place_in 0 desk.old.log) }
-{
-    let Ok(lists) = answer(desk, share, alloc, &Cmd::Lists) else {
+fn serve_last(rt: &impl Abort, desk: &mut Desk, alloc: Global) {
+    let Ok(lists) = answer(desk, alloc, &Cmd::Lists) else {
         panic!(rt; "no lists");
     };
     holds(rt, lists_all(&lists));
     drop(lists);
-    let joined = answer(desk, share, alloc, &Cmd::Join);
+    let joined = answer(desk, alloc, &Cmd::Join);
     holds(
         rt,
         matches!(&joined, Ok(Reply::Placed(arena)) if arena.get() == ARENAS),
     );
     drop(joined);
     same(rt, desk.chronicle().free(), 0);
-    let left = answer(desk, share, alloc, &Cmd::Leave);
+    let left = answer(desk, alloc, &Cmd::Leave);
     holds(
         rt,
         matches!(&left, Ok(Reply::Left(arena)) if arena.get() == ARENAS),
@@ -231,40 +210,21 @@ fn serve_last<C: Ledger, W: Ledger>(
     drop(left);
 }
 
-/// What a desk of the longest history has at its end.
-fn served<C: Ledger, W: Ledger>(
-    rt: &impl Abort,
-    alloc: Global,
-    calls: Blank,
-    workers: Blank,
-) -> (u64, Totals)
-    requires calls { calls.name ≡ C.name }
-    requires calls_parts { (calls.parts ≡ C.parts) × (C.parts ≡ 64) }
-    requires workers { workers.name ≡ W.name }
-    requires workers_parts { (workers.parts ≡ W.parts) × (W.parts ≡ 64) }
-{
+/// What is kept by a desk of the longest history at its end.
+fn served(rt: &impl Abort, alloc: Global) -> (u64, u32) {
     let Ok(chronicle) = Chronicle::on_terms(alloc, TERMS) else {
         panic!(rt; "no chronicle");
-    };
-    let Ok((book, mut shares)) = Book::<C, W>::new(alloc, 64, calls, workers) else {
-        panic!(rt; "no book");
     };
     let Ok(commands) = commands(alloc, PLACES - 3) else {
         panic!(rt; "no memory");
     };
-    let mut desk = Desk::new(chronicle, book);
-    let share = &mut shares.as_mut_slice()[0];
-    serve(rt, &mut desk, share, alloc, &commands);
-    serve_last(rt, &mut desk, share, alloc);
-    gathered(desk, shares)
+    let mut desk = Desk::new(chronicle);
+    serve(rt, &mut desk, alloc, &commands);
+    serve_last(rt, &mut desk, alloc);
+    kept(desk)
 }
 
 #[test]
 fn a_desk_serves_in_the_last_places(rt: HostRuntime) {
-    let counted = served::<Brand, Brand>(&rt, rt.alloc(), Blank::new(64), Blank::new(64));
-    let totals = Totals {
-        calls: 1_048_576,
-        workers: 0,
-    };
-    same(&rt, counted, (1_048_576, totals));
+    same(&rt, served(&rt, rt.alloc()), (1_048_576, 0));
 }

@@ -19,7 +19,6 @@ mod journals;
 #[cfg(test)]
 mod largest;
 #[cfg(test)]
-mod ledgers;
 #[cfg(test)]
 mod lines;
 #[cfg(test)]

@@ -9,3 +9,7 @@ abbrev pub forgotten : Keeping → ℕ → ℕ → ℕ
 forgotten Everything calls cut = 0
 forgotten InParts calls cut = cut
 forgotten Nothing calls cut = min calls most_forgotten
+
+-- the greatest number that 64 bits hold: no history is longer
+abbrev pub most_counted : ℕ
+most_counted = 18446744073709551615

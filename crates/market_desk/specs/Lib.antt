@@ -1,3 +1,2 @@
 pub mod Workers
 pub mod Forgetting
-pub mod Booked

@@ -1,4 +1,4 @@
-//! The market with its history, and its book.
+//! The market with its history.
 ghost use Rattle.std.specs.Prelude.{◌≡◌, ℕ, ◌+◌, ◌<◌, ◌≤◌, ◌++◌, [], ◌∷◌, length, IfOk, OnOk, OnErr, IfErr, IsErrOf, IsOk, vec_capacity, IfSome, IfNone, OnSome, IsSome};
 ghost use Rattle.market_types.specs.Step.{step, place_of};
 ghost use Rattle.market_types.specs.History.{IsLegal, place_in};
@@ -9,72 +9,52 @@ ghost use Rattle.edit_history.specs.Parts.{EndsWith};
 ghost use Rattle.edit_history.specs.Places.{takes, placed, LacksPlaces};
 ghost use Rattle.edit_history.specs.declared.fault.CallFault.TheVariants.{HistoryFull};
 ghost use Rattle.edit_history.specs.declared.keeping.Keeping.TheVariants.{InParts};
-ghost use Rattle.worker_ledger.specs.Counted.{nothing, most_counted};
-ghost use Rattle.market_desk.specs.Workers.{workers_at, workers_after, MayGet};
-ghost use Rattle.market_desk.specs.Forgetting.{forgotten};
+ghost use Rattle.market_desk.specs.Forgetting.{forgotten, most_counted};
 
 use edit_history::{CallFault, Chronicle, Keeping, MOST_FORGOTTEN, Part, own_entries_place_a_seat};
 use market_core::a_call_moves_its_own_seat;
 use market_types::{Cmd, Entry, Reply, SeatNo};
 use std::alloc::Global;
 use std::marker::Model;
-use std::sync::ledger::Ledger;
-use worker_ledger::{Book, Share};
 
-/// The market with its history, and the book that counts for all callers. Contracts see it as its chronicle: the opening, the
-/// history since, and the number of places. `C` names the ledger of the book's calls and `W` that of its workers.
+/// The market with its history. Contracts see it as its chronicle: the opening, the history since, and the number of places.
 #[derive(Drop)]
-pub struct Desk<C: Ledger, W: Ledger> {
+pub struct Desk {
     chronicle: Chronicle,
-    book: Book<C, W>,
 }
 
-impl<C: Ledger, W: Ledger> Model for Desk<C, W> {
+impl Model for Desk {
+    ghost use Rattle.std.specs.Prelude.{◌≡◌, length};
     ghost use Rattle.edit_history.specs.Chronicled.{Chronicled};
-    ghost use Rattle.market_desk.specs.Booked.{IsBooked};
+    ghost use Rattle.market_desk.specs.Forgetting.{forgotten};
 
     ghost Value = { Chronicled };
 
     ghost view = { λ d. d.chronicle };
 
-    ghost invariant = { λ d. IsBooked d.chronicle d.book };
+    ghost invariant = { λ d. d.chronicle.from ≡ forgotten d.chronicle.keeping (length d.chronicle.log) d.chronicle.from };
 }
 
-impl<C: Ledger, W: Ledger> Desk<C, W> {
-    /// A desk of a new chronicle, recorded or not, and a new book, whose shares are dealt apart. It takes no memory.
-    pub fn new(chronicle: Chronicle, book: Book<C, W>) -> Self
+impl Desk {
+    /// A desk of a new chronicle, recorded or not. It takes no memory.
+    pub fn new(chronicle: Chronicle) -> Self
         requires begun { chronicle.log ≡ [] }
         requires whole { chronicle.from ≡ 0 }
-        requires blank { book ≡ nothing }
         ensures exact { result ≡ chronicle }
     {
-        facts_of(&chronicle);
-        Desk { chronicle, book }
+        Desk { chronicle }
     }
 
-    /// Does what a seat asks, as `Chronicle::call` does, and counts it: in book and share at once, one call for the entry, and
-    /// a worker that comes where the seat is placed, and goes where it is recalled or leaves. `HistoryFull`, where free places
-    /// lack, and then `Memory` are as there: nothing is then changed, recorded or counted. A Leave by a placed seat takes no
-    /// memory and always succeeds. The seat is one that the market has, and the share is its caller's: it has a worker
-    /// exactly where the seat's own entries place it. An unrecorded chronicle stores none of its first 18,446,744,073,708,503,039
-    /// entries.
-    pub fn serve(
-        &mut self,
-        alloc: Global,
-        share: &mut Share<C, W>,
-        seat: SeatNo,
-        cmd: Cmd,
-    ) -> Result<Reply, CallFault>
+    /// Does what a seat asks, as `Chronicle::call` does. `HistoryFull`, where free places lack, and then `Memory` are as there:
+    /// nothing is then changed or recorded. A Leave by a placed seat takes no memory and always succeeds. The seat is one that the
+    /// market has. An unrecorded chronicle stores none of its first 18,446,744,073,708,503,039 entries.
+    pub fn serve(&mut self, alloc: Global, seat: SeatNo, cmd: Cmd) -> Result<Reply, CallFault>
         requires seat { seat < length self.old.start.seats }
-        requires worker { share.old.workers ≡ workers_at (place_in seat self.old.log) }
         ensures reply { IfOk result (λ reply. reply ≡ (step (market_of self.old) seat cmd).0) }
         ensures answers { IfOk result (λ reply. Answers (place_in seat self.old.log) cmd reply) }
         ensures held { self.new.market ≡ market_of self.new }
         ensures recorded { IfOk result (λ reply. self.new.log ≡ self.old.log ++ entry seat cmd reply ∷ []) }
-        ensures counted { OnOk result (share.new.calls ≡ share.old.calls + 1) }
-        ensures worker { share.new.workers ≡ workers_at (place_in seat self.new.log) }
         ensures unchanged { OnErr result (self.new ≡ self.old) }
-        ensures uncounted { OnErr result (share.new ≡ share.old) }
         ensures full { LacksPlaces self.old seat cmd → IsErrOf result HistoryFull }
         ensures room { IfErr result (λ fault. fault ≡ HistoryFull → LacksPlaces self.old seat cmd) }
         ensures leave { takes (place_in seat self.old.log) cmd ≡ 0 → IsOk result }
@@ -85,17 +65,17 @@ impl<C: Ledger, W: Ledger> Desk<C, W> {
         ensures keeping { self.new.keeping ≡ self.old.keeping }
         ensures found { IsLegal self.old.start self.old.log }
         ensures legal { IsLegal self.new.start self.new.log }
+        ensures countable { length self.new.log ≤ most_counted }
     {
         a_call_moves_its_own_seat();
         facts_of(&self.chronicle);
         let reply = answer(&mut self.chronicle, alloc, seat, cmd)?;
         facts_of(&self.chronicle);
-        count_reply(&mut self.book, share, &reply);
         Ok(reply)
     }
 
     /// Takes out the entries that are kept, as `Chronicle::cut` does, where they are to be kept in parts; else the answer is
-    /// `None`. Nothing is then changed, and nothing is counted either way.
+    /// `None`. Nothing is then changed.
     pub fn cut(&mut self, spare: Vec<Entry>) -> Option<Part>
         ensures part { IfSome result (λ part. EndsWith self.old.log part.from part.entries.items) }
         ensures from { IfSome result (λ part. part.from ≡ self.old.from) }
@@ -123,19 +103,16 @@ impl<C: Ledger, W: Ledger> Desk<C, W> {
         &self.chronicle
     }
 
-    /// The chronicle, whose history is legal and has made the market that it holds, and the book, which has a call for each entry and
-    /// a worker for each placed seat: so these are what the shares have counted together, once the book has gathered them.
-    pub fn into_parts(self) -> (Chronicle, Book<C, W>)
-        ensures chronicle { result.0 ≡ self }
-        ensures calls { result.1.calls ≡ length self.log }
-        ensures workers { result.1.workers ≡ placed (market_of self) }
+    /// The chronicle, whose history is legal and has made the market that it holds.
+    pub fn into_chronicle(self) -> Chronicle
+        ensures chronicle { result ≡ self }
         ensures legal { IsLegal self.start self.log }
-        ensures held { result.0.market ≡ market_of result.0 }
+        ensures held { result.market ≡ market_of result }
         ensures from { self.from ≡ forgotten self.keeping (length self.log) self.from }
     {
-        let Desk { chronicle, book } = self;
+        let Desk { chronicle } = self;
         facts_of(&chronicle);
-        (chronicle, book)
+        chronicle
     }
 }
 
@@ -147,34 +124,14 @@ fn facts_of(chronicle: &Chronicle)
     ensures own { (seat : ℕ) → seat < length chronicle.now.start.seats
         → place_of (market_of chronicle.now) seat ≡ place_in seat chronicle.now.log }
     ensures seats { length (market_of chronicle.now).seats ≡ length chronicle.now.start.seats }
-    ensures few_seats { length chronicle.now.start.seats ≤ 64 }
     ensures few_calls { length chronicle.now.log ≤ most_counted }
     ensures kept { chronicle.now.from ≤ length chronicle.now.log }
     ensures few_placed { placed (market_of chronicle.now) ≤ length chronicle.now.start.seats }
-    ensures unplaced { chronicle.now.log ≡ [] → placed (market_of chronicle.now) ≡ 0 }
 {
     own_entries_place_a_seat();
     // What a chronicle's readers promise is true of it.
     let _ = chronicle.market();
     let _ = chronicle.len();
-}
-
-/// Counts a call with its reply: a worker that is placed comes, and one that is recalled or leaves goes.
-fn count_reply<C: Ledger, W: Ledger>(book: &mut Book<C, W>, share: &mut Share<C, W>, reply: &Reply)
-    requires calls { book.old.calls < most_counted }
-    requires workers { book.old.workers < most_counted }
-    requires moved { MayGet share.old.workers reply.now }
-    ensures calls { book.new.calls ≡ book.old.calls + 1 }
-    ensures call { share.new.calls ≡ share.old.calls + 1 }
-    ensures workers { book.new.workers + share.old.workers ≡ book.old.workers + share.new.workers }
-    ensures worker { share.new.workers ≡ workers_after share.old.workers reply.now }
-{
-    book.count(share);
-    match reply {
-        Reply::Placed(_) => book.enter(share),
-        Reply::Recalled(_) | Reply::Left(_) => book.exit(share),
-        _ => {}
-    }
 }
 
 /// Does what a seat asks, and keeps the entry where it is to be kept.

@@ -12,7 +12,6 @@ use market_types::{Cmd, Reply};
 use office_crew::{Asked, Caller, Task, ask};
 use std::alloc::Global;
 use std::sync::Wait;
-use std::sync::ledger::Ledger;
 
 /// Why a command was not answered, if it was asked and was not.
 fn fault_in(answer: &Option<Result<Reply, CallFault>>) -> Option<CallFault>
@@ -53,13 +52,13 @@ impl Task for Opener<'_> {
 
     /// Where it tells no fault, each of its commands was answered, but for those that would move its seat; where it tells a full
     /// history, places were lacking.
-    fn work<C: Ledger, W: Ledger, R: Wait>(
+    fn work<R: Wait>(
         &mut self,
         rt: &R,
         alloc: Global,
-        office: &Office<C, W>,
-        caller: Caller<Pass<C, W>, Placed<C, W>>,
-    ) -> Caller<Pass<C, W>, Placed<C, W>>
+        office: &Office,
+        caller: Caller<Pass, Placed>,
+    ) -> Caller<Pass, Placed>
         requires office { (who_is caller).table ≡ office.now.table }
         ensures same { IsSamePass (who_is caller) (who_is result) }
         ensures worked { IfNone self.new.fault (HasGiven self.old.cmds.now (who_is caller) (who_is result)) × (self.old.fault ≡ None → IfSome self.new.fault (λ fault. HasEndedSo (who_is caller) (who_is result) (Call fault))) }

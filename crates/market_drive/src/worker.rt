@@ -17,7 +17,6 @@ use std::alloc::Global;
 use std::marker::{Brand, Model, PhantomData};
 use std::mem;
 use std::sync::Wait;
-use std::sync::ledger::Ledger;
 use worker_main::{Ended, Gate, Report, Station, work};
 
 /// How often a worker asks a gate at most, before it gives up.
@@ -98,13 +97,7 @@ impl<'a, G: Gate, Y: Yard> Worker<'a, G, Y> {
     }
 
     /// Works with this pass for the first time, and gives it back.
-    fn work_with<C: Ledger, W: Ledger, R: Wait>(
-        &mut self,
-        rt: &R,
-        alloc: Global,
-        office: &Office<C, W>,
-        pass: Pass<C, W>,
-    ) -> Pass<C, W>
+    fn work_with<R: Wait>(&mut self, rt: &R, alloc: Global, office: &Office, pass: Pass) -> Pass
         requires office { pass.table ≡ office.now.table }
         requires first { self.old ≡ None }
         ensures same { IsSamePass pass result }
@@ -160,13 +153,13 @@ impl<'a, G: Gate, Y: Yard> Task for Worker<'a, G, Y> {
     ghost worked = { λ before p after q. before ≡ None → IsSomeAnd after (λ ended. Y.ends ended × HasEndedSo p q ended) };
 
     /// Where it has not worked before, it ends in one of the ways in which its yard's workers can end.
-    fn work<C: Ledger, W: Ledger, R: Wait>(
+    fn work<R: Wait>(
         &mut self,
         rt: &R,
         alloc: Global,
-        office: &Office<C, W>,
-        caller: Caller<Pass<C, W>, Placed<C, W>>,
-    ) -> Caller<Pass<C, W>, Placed<C, W>> {
+        office: &Office,
+        caller: Caller<Pass, Placed>,
+    ) -> Caller<Pass, Placed> {
         // A worker works once: its answers are those of one pass of its takers.
         if self.ended.is_some() {
             return caller;

@@ -1,10 +1,10 @@
 -- What one call leaves: the desk was found after the history `log`, of which so many entries were not kept, and `e` is given back.
-use Rattle.std.proofs.Common.{◌≡◌, ◌≢◌, ℕ, ◌+◌, ◌<◌, ◌≤◌, List, [], ◌∷◌, ◌++◌, length, drop, get_or, refl, ap, sym, ◌∙◌, subst, arith, length-append, Result, Ok, Err, Option, Some, None, false}
+use Rattle.std.proofs.Common.{◌≡◌, ◌≢◌, ℕ, ◌+◌, ◌<◌, ◌≤◌, List, [], ◌∷◌, ◌++◌, length, drop, get_or, refl, ap, sym, ◌∙◌, subst, arith, length-append, Result, Ok, Err, Option, Some, None, true, false, is_ok}
 use Rattle.std.specs.List.{sum_by}
 use Rattle.std.proofs.lemmas.List.{length-replicate}
 use Rattle.std.proofs.lemmas.List.Sums.{sum_by_push}
 use Rattle.std.proofs.Math.Seq.{drop-append_seam}
-use Rattle.std.specs.Prelude.{IfOk, IfErr, IsOk, IfSome, OnSome, IsSome}
+use Rattle.std.specs.Prelude.{IfOk, IfErr, OnErr, IsErrOf, IsOk, IfSome, OnSome, IsSome}
 use mathlib.Core.List.{IsPrefix}
 use Rattle.atomic_table.specs.Table.{Me}
 use Rattle.atomic_table.specs.Seated.{TableId}
@@ -20,10 +20,10 @@ use Rattle.edit_history.specs.Parts.{EndsWith}
 use Rattle.edit_history.specs.Places.{takes, LacksPlaces}
 use Rattle.edit_history.specs.declared.part.Part.{Part}
 use Rattle.edit_history.specs.declared.fault.CallFault.{CallFault}
+use Rattle.edit_history.specs.declared.fault.CallFault.TheVariants.{HistoryFull}
 use Rattle.edit_history.specs.declared.keeping.Keeping.{Keeping}
 use Rattle.edit_history.specs.declared.keeping.Keeping.TheVariants.{Everything, InParts, Nothing}
-use Rattle.worker_ledger.specs.Counted.{Counted}
-use Rattle.market_desk.specs.Workers.{own_place, workers_at}
+use Rattle.market_desk.specs.Workers.{own_place}
 use Rattle.market_desk.specs.Forgetting.{forgotten}
 use Rattle.market_lock.specs.declared.view.Cut.{Cut}
 use Rattle.market_lock.specs.declared.view.Known.{Known}
@@ -32,11 +32,11 @@ use Rattle.market_lock.specs.declared.view.View.TheVariants.{Idle, Holder}
 use Rattle.market_lock.specs.Cutting.{cut_by, IsCutUp}
 use Rattle.market_lock.specs.Views.{opening_of, chronicle_from, chronicle_cut, shown, cut, same_cuts, next_cuts}
 use Rattle.market_lock.specs.Rule.{Follows}
-use Rattle.market_lock.specs.Serving.{Serves, MayServe, Cuts}
+use Rattle.market_lock.specs.Serving.{Done, Serves, MayServe, Cuts}
 use Rattle.market_lock.specs.Held.{HasTaken, HasDesk, HoldsDesk, HasGiven, HasPart, IsSeenCut}
 use Rattle.market_lock.specs.Seen.{known_of, pass_of, Extends, Looks, OthersCut, HasCut, IsTicket}
 use Rattle.market_lock.specs.Moves.{Fails}
-use Rattle.market_lock.proofs.Entries.{of-own, of-other, own_place-longer, unmoved}
+use Rattle.market_lock.proofs.Entries.{more-own, of-own, of-other, own_place-longer, unmoved}
 use Rattle.market_lock.proofs.Fronts.{prefix_self}
 use Rattle.market_lock.proofs.Tiles.{by_own, by_other, still_cut, all_cut}
 
@@ -52,15 +52,15 @@ pub record Found (k : Known) (log : List Entry) (from : ℕ) (cuts : List Cut) :
   pub own : cut_by k.seat cuts ≡ cut_by k.seat k.cuts
   pub up : IsCutUp k.terms.keeping log from cuts
 
-pub record Served (k : Known) (number : ℕ) (cmd : Cmd) (r : Result Reply CallFault) (log : List Entry) (from : ℕ) (cuts : List Cut) (e : Chronicled) (s t : Counted) : Type 0 where
-  pub ticket : IsTicket k number s
+pub record Served (k : Known) (number : ℕ) (cmd : Cmd) (r : Result Reply CallFault) (log : List Entry) (from : ℕ) (cuts : List Cut) (e : Chronicled) (n m : ℕ) : Type 0 where
+  pub ticket : IsTicket k number n
   pub front : IsPrefix k.seen log
   pub own : of_seat k.seat log ≡ k.mine
   pub later : k.from ≤ from
   pub found : Found k log from cuts
-  pub did : Serves k.seat cmd r (chronicle_from k.terms log from) e s t
+  pub did : Serves k.seat cmd r (chronicle_from k.terms log from) e n m
 
-module _ (k : Known) (number : ℕ) (cmd : Cmd) (log : List Entry) (from : ℕ) (cuts : List Cut) (e : Chronicled) (a b : Counted) where
+module _ (k : Known) (number : ℕ) (cmd : Cmd) (log : List Entry) (from : ℕ) (cuts : List Cut) (e : Chronicled) (a b : ℕ) where
   -- what is given back is the chronicle after its history
   back : (r : Result Reply CallFault) → Served k number cmd r log from cuts e a b → e ≡ chronicle_from k.terms e.log e.from
   back r s = λ i. record { start = s.did.start i; market = (s.did.held ∙ ap (λ (o : State). state_after o (calls_of e.log)) s.did.start) i; log = e.log; places = s.did.places i; from = e.from; keeping = s.did.keeping i }
@@ -158,14 +158,14 @@ module _ (k : Known) (number : ℕ) (cmd : Cmd) (log : List Entry) (from : ℕ) 
   still (Ok x) s quiet = moved (Ok x) s ∙ unmoved cmd (own_place k.mine) x quiet (answers (Ok x) s)
   still (Err f) s quiet = ap own_place (own_same f s)
 
-  counted : (r : Result Reply CallFault) → Served k number cmd r log from cuts e a b → b.calls ≡ length (of_seat k.seat e.log)
+  counted : (r : Result Reply CallFault) → Served k number cmd r log from cuts e a b → b ≡ length (of_seat k.seat e.log)
   counted (Ok x) s =
       let long = ap length (own_after x s) in
       let more = length-append k.mine (entry k.seat cmd x ∷ []) in
       let gain = s.did.done.2 in
-      let old = s.ticket.calls in
+      let old = s.ticket.counted in
       omega arith
-  counted (Err f) s = ap (λ (z : Counted). z.calls) s.did.done.1 ∙ (s.ticket.calls ∙ ap length (sym (own_same f s)))
+  counted (Err f) s = s.did.done.1 ∙ (s.ticket.counted ∙ ap length (sym (own_same f s)))
 
   -- what the ticket then keeps
   pub keeps_ticket : (r : Result Reply CallFault) → Served k number cmd r log from cuts e a b → IsTicket (shown k e.log e.from cuts) number b
@@ -176,13 +176,12 @@ module _ (k : Known) (number : ℕ) (cmd : Cmd) (log : List Entry) (from : ℕ) 
         legal = legal_after r s;
         own = refl;
         cut_up = cut_up_after r s;
-        calls = counted r s;
-        workers = s.did.workers;
+        counted = counted r s;
       }
 
 -- ---- a cut: the desk was found after the history `log`, of which so many entries were not kept, and `e` is given back
 
-pub record CutOff (k : Known) (number room : ℕ) (r : Option Part) (log : List Entry) (from : ℕ) (cuts : List Cut) (e : Chronicled) (s : Counted) : Type 0 where
+pub record CutOff (k : Known) (number room : ℕ) (r : Option Part) (log : List Entry) (from : ℕ) (cuts : List Cut) (e : Chronicled) (s : ℕ) : Type 0 where
   pub ticket : IsTicket k number s
   pub front : IsPrefix k.seen log
   pub own : of_seat k.seat log ≡ k.mine
@@ -190,7 +189,7 @@ pub record CutOff (k : Known) (number room : ℕ) (r : Option Part) (log : List 
   pub found : Found k log from cuts
   pub did : Cuts room r (chronicle_from k.terms log from) e
 
-module _ (k : Known) (number room : ℕ) (log : List Entry) (from : ℕ) (cuts : List Cut) (e : Chronicled) (s : Counted) where
+module _ (k : Known) (number room : ℕ) (log : List Entry) (from : ℕ) (cuts : List Cut) (e : Chronicled) (s : ℕ) where
   -- where the entries are kept from then on
   abbrev cut_end : Option Part → ℕ
   cut_end (Some part) = length log
@@ -288,8 +287,7 @@ module _ (k : Known) (number room : ℕ) (log : List Entry) (from : ℕ) (cuts :
     legal = cut_legal r o;
     own = refl;
     cut_up = cut_up_now r o;
-    calls = o.ticket.calls ∙ ap length (sym (cut_own r o));
-    workers = o.ticket.workers ∙ ap (λ own. workers_at (own_place own)) (sym (cut_own r o));
+    counted = o.ticket.counted ∙ ap length (sym (cut_own r o));
   }
 
   -- what the caller is told
@@ -310,16 +308,16 @@ abbrev M : Type 0
 M = Me Chronicled View
 
 -- the desk that was taken has the seat
-pub may_serve : (m0 m1 : M) (number : ℕ) (a : Counted) → IsTicket (known_of m0.0) number a → HasTaken m0 m1 → HasDesk m1 (λ d. MayServe number d a)
+pub may_serve : (m0 m1 : M) (number a : ℕ) → IsTicket (known_of m0.0) number a → HasTaken m0 m1 → HasDesk m1 (λ d. MayServe number d a)
 may_serve m0 m1 number a ticket t =
     let k : Known = known_of m0.0 in
     let d : Chronicled = chronicle_from k.terms t.0 t.1 in
     let long : length d.start.seats ≡ k.terms.seats = length-replicate k.terms.seats None in
     let room : number < length d.start.seats = omega (arith, long, ticket.small, ticket.number_is) in
-    let own : place_in number d.log ≡ own_place k.mine = ap (λ n. place_in n d.log) (sym ticket.number_is) ∙ ap own_place t.5 in
-    (d, t.3 ∙ ap (λ (v : View). (v, (0, d) ∷ [])) (sym (ap (λ (m : M). m.0) t.3)), (room, ticket.workers ∙ ap workers_at (sym own)))
+    let own : of_seat number d.log ≡ k.mine = ap (λ n. of_seat n d.log) (sym ticket.number_is) ∙ t.5 in
+    (d, t.3 ∙ ap (λ (v : View). (v, (0, d) ∷ [])) (sym (ap (λ (m : M). m.0) t.3)), (room, ticket.counted ∙ ap length (sym own)))
 
-pub record After (k : Known) (number : ℕ) (cmd : Cmd) (r : Result Reply CallFault) (a b : Counted) (m : M) : Type 0 where
+pub record After (k : Known) (number : ℕ) (cmd : Cmd) (r : Result Reply CallFault) (a b : ℕ) (m : M) : Type 0 where
   pub log : List Entry
   pub from : ℕ
   pub cuts : List Cut
@@ -327,7 +325,7 @@ pub record After (k : Known) (number : ℕ) (cmd : Cmd) (r : Result Reply CallFa
   pub served : Served k number cmd r log from cuts e a b
   pub holds : m ≡ (Holder (shown k log from cuts), (0, e) ∷ [])
 
-pub served_by : (m0 m1 m2 : M) (number : ℕ) (cmd : Cmd) (r : Result Reply CallFault) (a b : Counted) → IsTicket (known_of m0.0) number a → HasTaken m0 m1 → m2.0 ≡ m1.0
+pub served_by : (m0 m1 m2 : M) (number : ℕ) (cmd : Cmd) (r : Result Reply CallFault) (a b : ℕ) → IsTicket (known_of m0.0) number a → HasTaken m0 m1 → m2.0 ≡ m1.0
     → HasDesk m1 (λ d. HasDesk m2 (λ e. Serves number cmd r d e a b)) → After (known_of m0.0) number cmd r a b m2
 served_by m0 m1 m2 number cmd r a b ticket t view v =
     let k : Known = known_of m0.0 in
@@ -350,7 +348,7 @@ served_by m0 m1 m2 number cmd r a b ticket t view v =
       holds = v.2.1 ∙ ap (λ (x : View). (x, (0, e) ∷ [])) (view ∙ ap (λ (m : M). m.0) t.3);
     }
 
-module _ (k : Known) (number : ℕ) (cmd : Cmd) (r : Result Reply CallFault) (a b : Counted) (m : M) (o : After k number cmd r a b m) where
+module _ (k : Known) (number : ℕ) (cmd : Cmd) (r : Result Reply CallFault) (a b : ℕ) (m : M) (o : After k number cmd r a b m) where
   given_back : m ≡ (Holder (shown k o.log o.from o.cuts), (0, chronicle_from k.terms o.e.log o.e.from) ∷ [])
   given_back = o.holds ∙ ap (λ (c : Chronicled). (Holder (shown k o.log o.from o.cuts), (0, c) ∷ [])) (back k number cmd o.log o.from o.cuts o.e a b r o.served)
 
@@ -399,7 +397,7 @@ may_cut m0 m1 t =
     let d : Chronicled = chronicle_from (known_of m0.0).terms t.0 t.1 in
     (d, t.3 ∙ ap (λ (v : View). (v, (0, d) ∷ [])) (sym (ap (λ (m : M). m.0) t.3)), tt)
 
-pub record AfterCut (k : Known) (number room : ℕ) (r : Option Part) (s : Counted) (m : M) : Type 0 where
+pub record AfterCut (k : Known) (number room : ℕ) (r : Option Part) (s : ℕ) (m : M) : Type 0 where
   pub log : List Entry
   pub from : ℕ
   pub cuts : List Cut
@@ -407,7 +405,7 @@ pub record AfterCut (k : Known) (number room : ℕ) (r : Option Part) (s : Count
   pub off : CutOff k number room r log from cuts e s
   pub holds : m ≡ (Holder (shown k log from cuts), (0, e) ∷ [])
 
-pub cut_off_by : (m0 m1 m2 : M) (number room : ℕ) (r : Option Part) (s : Counted) → IsTicket (known_of m0.0) number s → HasTaken m0 m1 → m2.0 ≡ m1.0
+pub cut_off_by : (m0 m1 m2 : M) (number room : ℕ) (r : Option Part) (s : ℕ) → IsTicket (known_of m0.0) number s → HasTaken m0 m1 → m2.0 ≡ m1.0
     → HasDesk m1 (λ d. HasDesk m2 (λ e. Cuts room r d e)) → AfterCut (known_of m0.0) number room r s m2
 cut_off_by m0 m1 m2 number room r s ticket t view v =
     let k : Known = known_of m0.0 in
@@ -423,7 +421,7 @@ cut_off_by m0 m1 m2 number room r s ticket t view v =
       holds = v.2.1 ∙ ap (λ (x : View). (x, (0, e) ∷ [])) (view ∙ ap (λ (m : M). m.0) t.3);
     }
 
-module _ (k : Known) (number room : ℕ) (r : Option Part) (s : Counted) (m : M) (o : AfterCut k number room r s m) where
+module _ (k : Known) (number room : ℕ) (r : Option Part) (s : ℕ) (m : M) (o : AfterCut k number room r s m) where
   cut_given_back : m ≡ (Holder (shown k o.log o.from o.cuts), (0, chronicle_from k.terms o.e.log o.e.from) ∷ [])
   cut_given_back = o.holds ∙ ap (λ (c : Chronicled). (Holder (shown k o.log o.from o.cuts), (0, c) ∷ [])) (cut_back k number room o.log o.from o.cuts o.e s r o.off)
 
@@ -474,3 +472,15 @@ told_part k l room None h = (tt, tt, tt, tt, tt)
 pub told_served : (k l : Known) (room : ℕ) (r : Option Part) → HasPart k l room r → k.terms.keeping ≡ InParts → k.terms.seats ≤ room → length l.seen ≤ most_forgotten → IsSome r
 told_served k l room (Some part) h keeps roomy few = refl
 told_served k l room None h keeps roomy few = absurd (h keeps roomy few)
+
+-- one more entry of the caller's can be counted, where all can
+pub one_more_own : (seat most : ℕ) (cmd : Cmd) (r : Result Reply CallFault) (xs ys : List Entry) → IfOk r (λ x. ys ≡ xs ++ entry seat cmd x ∷ []) → length ys ≤ most → is_ok r ≡ true
+    → length (of_seat seat xs) + 1 ≤ most
+one_more_own seat most cmd (Ok x) xs ys is few ok = more-own seat most cmd x xs ys is few
+one_more_own seat most cmd (Err f) xs ys is few ok = absurd cc
+
+-- what a call of the desk that is not answered leaves
+pub refused_so : (seat : ℕ) (cmd : Cmd) (r : Result Reply CallFault) (d e : Chronicled) (n : ℕ) → OnErr r (e ≡ d) → IfErr r (λ fault. fault ≡ HistoryFull → LacksPlaces d seat cmd)
+    → (LacksPlaces d seat cmd → IsErrOf r HistoryFull) → (takes (place_in seat d.log) cmd ≡ 0 → IsOk r) → is_ok r ≡ false → Done seat cmd r d e n n
+refused_so seat cmd (Ok x) d e n same room full free not = absurd cc
+refused_so seat cmd (Err f) d e n same room full free not = (same, refl, room, (λ lacks. let is = full lacks in cc), λ none. absurd (let is = free none in cc))

@@ -1,31 +1,27 @@
--- Threads may share an office by `&`, and passes and placed workers may cross threads.
-use denote.RattleType.{RattleType}
+-- Threads may share an office by `&`, and it, its passes and placed workers may cross threads.
 use denote.Param.Send.{IsSend, IsSync, sendable, recorded_sync, struct_sync}
 use denote.Struct.Struct.{Struct}
 use denote.Struct.Declared.{shape}
 use Rattle.std.proofs.Crossing.{crosses, frees, send as heap_send, sync as heap_sync}
-use Rattle.std.specs.declared.sync.ledger.Ledger.{Ghosts}
 use Rattle.atomic_table.proofs.shared.Shared.TheSendSync.{the_sync as shared_sync}
 use Rattle.atomic_table.proofs.send_lease.SendLease.TheSendSync.{the_sync as lease_sync}
 use Rattle.atomic_table.proofs.shared.Seat.TheSendSync.{the_send as seat_send}
-use Rattle.worker_ledger.proofs.book.Share.TheSendSync.{the_send as share_send}
 use Rattle.market_desk.proofs.Crossing.{desk_send}
 use Rattle.market_lock.specs.contracts.office.Office as Office
 use Rattle.market_lock.specs.contracts.office.Office.TheInside as Inside
 use Rattle.market_lock.specs.contracts.pass.Pass as Pass
 use Rattle.market_lock.specs.contracts.pass.Placed as Placed
 
-module _ (C W : RattleType) (c : Ghosts C.Denot) (w : Ghosts W.Denot) where
-  inside_sync : IsSync (Inside.the_row C W c w)
-  inside_sync =
-      let T = Inside.the_type C W c w in
-      recorded_sync (Struct (shape T)) T.D T.to T.to_one (struct_sync (shape T) (search (sendable, desk_send, shared_sync, lease_sync, heap_sync, heap_send, frees) depth 40, (search sendable depth 20, tt)))
+inside_sync : IsSync Inside.the_row
+inside_sync =
+    let T = Inside.the_type in
+    recorded_sync (Struct (shape T)) T.D T.to T.to_one (struct_sync (shape T) (search (sendable, desk_send, shared_sync, lease_sync, heap_sync, heap_send, frees) depth 40, (search sendable depth 20, tt)))
 
-  pub office_sync : IsSync (Office.the_row C W c w)
-  office_sync = search (sendable, inside_sync) depth 40
+pub office_sync : IsSync Office.the_row
+office_sync = search (sendable, inside_sync) depth 40
 
-  pub pass_send : IsSend (Pass.the_row C W c w)
-  pass_send = search (crosses, sendable, desk_send, seat_send, share_send) depth 60
+pub pass_send : IsSend Pass.the_row
+pass_send = search (crosses, sendable, desk_send, seat_send) depth 60
 
-  pub placed_send : IsSend (Placed.the_row C W c w)
-  placed_send = search (crosses, sendable, desk_send, seat_send, share_send) depth 60
+pub placed_send : IsSend Placed.the_row
+placed_send = search (crosses, sendable, desk_send, seat_send) depth 60

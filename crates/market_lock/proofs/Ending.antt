@@ -1,8 +1,7 @@
 -- What is known when all have met.
-use Rattle.std.proofs.Common.{◌≡◌, ◌==◌, ℕ, ◌+◌, ◌<◌, List, [], ◌∷◌, ◌++◌, length, refl, ap, sym, ◌∙◌, subst, arith, length-append, All, Some, None}
+use Rattle.std.proofs.Common.{◌≡◌, ◌==◌, ℕ, ◌+◌, ◌<◌, ◌≤◌, List, [], ◌∷◌, ◌++◌, length, refl, ap, sym, ◌∙◌, subst, arith, length-append, All, Some, None}
 use Rattle.std.proofs.lemmas.List.{length-replicate}
 use Rattle.std.specs.List.{count_by, sum_by}
-use Rattle.std.proofs.lemmas.List.Sums.{sum_by-cons}
 use mathlib.Core.Option.{some, some-injective}
 use mathlib.Core.List.{IsPrefix}
 use lib.ListN.{get_elem?}
@@ -22,12 +21,13 @@ use Rattle.market_lock.specs.declared.view.View.{View}
 use Rattle.market_lock.specs.declared.view.View.TheVariants.{Closer}
 use Rattle.market_lock.specs.Views.{opening_of, chronicle_from}
 use Rattle.market_lock.specs.Cutting.{cut_by, IsCutUp}
-use Rattle.market_lock.specs.Rule.{Kept, Once, Fitting, parts_of_all}
-use Rattle.market_lock.specs.Seen.{OfPass, OfPlaced, Met, HasParts, weight_by, AllParts}
+use Rattle.market_lock.specs.Rule.{Kept, Once, Fitting, parts_of, parts_of_all}
+use Rattle.market_lock.specs.Seen.{OfPass, OfPlaced, Met, HasParts, AllParts}
 use Rattle.market_lock.specs.Held.{taken_in, whos, IsClosing, kept_of, known_for}
 use Rattle.market_lock.specs.Headline.{IsGivenBy, shown_of}
 use Rattle.market_lock.proofs.Steps.{ends_it}
-use Rattle.market_lock.proofs.Meeting.{all_taken, all_who, active_is}
+use Rattle.market_lock.proofs.Counting.{added, added_same, all_seats, entries_counted}
+use Rattle.market_lock.proofs.Meeting.{all_taken, all_who, added_all, placed_is, active_is}
 
 abbrev M : Type 0
 M = Me Chronicled View
@@ -49,6 +49,8 @@ pub record Ended (key : Terms) (ps qs : List OfPass) (desk : Chronicled) : Type 
   pub fits : (i : ℕ) (k : Known) → get_elem? kept i ≡ some k → Fitting key desk.log cuts k
   pub cut_up : IsCutUp key.keeping desk.log desk.from cuts
   pub parts : (weigh : Cut → ℕ) → parts_of_all weigh kept ≡ sum_by weigh cuts
+  pub all : length kept ≡ key.seats
+  pub strangers : (n : ℕ) → key.seats ≤ n → of_seat n desk.log ≡ []
 
 pub ended_by : (key : Terms) (id : ℕ) (m0 m1 m2 : M) (ps qs : List OfPass) (ws : List ℕ) (xs : List Chronicled) (desk : Chronicled)
     → m0 ≡ (Closer key [], []) → IsClosing key m1 (kept_of m0.0 ++ taken_in ps) → IsClosing key m2 (kept_of m1.0 ++ taken_in qs) → length ps + length qs ≡ key.seats
@@ -59,7 +61,8 @@ ended_by key id m0 m1 m2 ps qs ws xs desk e0 e1 e2 all final got =
     let kept : List Known = taken_in ps ++ taken_in qs in
     let last : m2.0 ≡ Closer key kept = ap (λ (m : M). m.0) e2 ∙ ap (λ l. Closer key (l ++ taken_in qs)) second in
     let closed = subst (λ (v : View). Final (Seen (Kept key) id v) ws xs) last final in
-    let en = ends_it key id key kept ws xs (omega (arith, all, length-append (taken_in ps) (taken_in qs), long_taken ps, long_taken qs)) closed in
+    let long : length kept ≡ key.seats = omega (arith, all, length-append (taken_in ps) (taken_in qs), long_taken ps, long_taken qs) in
+    let en = ends_it key id key kept ws xs (omega (arith, long)) closed in
     let log : List Entry = en.0 in
     let same : chronicle_from key log en.1 ≡ desk = some-injective (chronicle_from key log en.1) desk (ap (λ (l : List Chronicled). get_elem? l 0) (sym en.3) ∙ got) in
     record {
@@ -71,20 +74,13 @@ ended_by key id m0 m1 m2 ps qs ws xs desk e0 e1 e2 all final got =
       fits = λ i k e. subst (λ (x : Chronicled). Fitting key x.log en.2 k) same (en.5 i k e);
       cut_up = subst (λ (x : Chronicled). IsCutUp key.keeping x.log x.from en.2) same en.6;
       parts = en.7;
+      all = long;
+      strangers = subst (λ (x : Chronicled). (n : ℕ) → key.seats ≤ n → of_seat n x.log ≡ []) same en.8;
     }
 
-module _ (weigh : Cut → ℕ) where
-  parts_append : (xs ys : List Known) → parts_of_all weigh (xs ++ ys) ≡ parts_of_all weigh xs + parts_of_all weigh ys
-  parts_append [] ys = omega arith
-  parts_append (x ∷ xs) ys = let rest = parts_append xs ys in omega arith
-
-  parts_taken : (ps : List OfPass) → parts_of_all weigh (taken_in ps) ≡ sum_by (weight_by weigh) ps
-  parts_taken [] = refl
-  parts_taken (p ∷ ps) = omega (arith, parts_taken ps, parts_append (taken_in ps) (known_for p ∷ []), sum_by-cons (weight_by weigh) p ps)
-
-  parts_whos : (qs : List OfPlaced) → sum_by (weight_by weigh) (whos qs) ≡ sum_by (λ (q : OfPlaced). weight_by weigh q.who) qs
-  parts_whos [] = refl
-  parts_whos (q ∷ qs) = omega (arith, parts_whos qs, sum_by-cons (weight_by weigh) q.who (whos qs), sum_by-cons (λ (q : OfPlaced). weight_by weigh q.who) q qs)
+parts_added : (weigh : Cut → ℕ) (ks : List Known) → parts_of_all weigh ks ≡ added (parts_of weigh) ks
+parts_added weigh [] = refl
+parts_added weigh (k ∷ ks) = ap (λ n. parts_of weigh k + n) (parts_added weigh ks)
 
 -- all parts that were cut
 pub all_parts : (key : Terms) (ps : List OfPass) (qs : List OfPlaced) (desk : Chronicled) → Ended key ps (whos qs) desk → AllParts key.keeping desk.log desk.from ps qs
@@ -95,7 +91,7 @@ all_parts key ps qs desk o =
       cut_up = o.cut_up;
       of_passes = each.0;
       of_placed = all_who (HasParts o.cuts) qs each.1;
-      each_once = λ weigh. omega (arith, o.parts weigh, ap (parts_of_all weigh) o.kept_is, parts_append weigh (taken_in ps) (taken_in (whos qs)), parts_taken weigh ps, parts_taken weigh (whos qs), parts_whos weigh qs);
+      each_once = λ weigh. sym (o.parts weigh) ∙ (parts_added weigh o.kept ∙ added_all (parts_of weigh) o.kept ps qs o.kept_is);
     }
 
 module _ (key : Terms) (ps qs : List OfPass) (desk : Chronicled) (o : Ended key ps qs desk) where
@@ -132,17 +128,28 @@ OwnPlaces = (base hard seats levels last seat : ℕ) (history : List Entry)
     → IsLegal (opening_to base hard seats levels last) history → seat < seats
     → place_of (state_after (opening_to base hard seats levels last) (calls_of history)) seat ≡ place_in seat history
 
-pub all_active : OwnPlaces → (key : Terms) (ps : List OfPass) (qs : List OfPlaced) (desk : Chronicled) → Ended key ps (whos qs) desk → IsLegal desk.start desk.log
-    → length (market_of desk).seats ≡ key.seats
-    → All (λ (p : OfPass). own_place p.mine ≡ None) ps → All (λ (q : OfPlaced). own_place q.who.mine ≡ Some q.arena) qs
-    → placed (market_of desk) ≡ length qs → (a : ℕ) → active (market_of desk) a ≡ count_by (λ (q : OfPlaced). q.arena == a) qs
-all_active law key ps qs desk o legal long none' some' full a =
-    let begun : IsLegal (opening_of key) desk.log = subst (λ (s : State). IsLegal s desk.log) (started key ps (whos qs) desk o) legal in
-    let there : (i : ℕ) (k : Known) → get_elem? o.kept i ≡ some k → (k.seat < length (market_of desk).seats) × (place_of (market_of desk) k.seat ≡ own_place k.mine) =
-    λ i k e.
-    let f = o.fits i k e in
-    let at : place_of (state_after (opening_of key) (calls_of desk.log)) k.seat ≡ place_in k.seat desk.log = law key.base key.hard key.seats key.levels key.last k.seat desk.log begun f.2 in
-    let moved : place_of (market_of desk) k.seat ≡ place_of (state_after (opening_of key) (calls_of desk.log)) k.seat =
-    ap (λ (s : State). place_of (state_after s (calls_of desk.log)) k.seat) (started key ps (whos qs) desk o) in
-    (omega (arith, long, f.2), moved ∙ (at ∙ ap own_place f.1)) in
-    active_is (market_of desk) o.kept ps qs o.kept_is o.once there none' some' full a
+module _ (key : Terms) (ps : List OfPass) (qs : List OfPlaced) (desk : Chronicled) (o : Ended key ps (whos qs) desk) where
+  -- the history has as many entries as the callers have together
+  pub all_calls : length desk.log ≡ sum_by (λ (p : OfPass). length p.mine) ps + sum_by (λ (q : OfPlaced). length q.who.mine) qs
+  all_calls =
+      let counted = entries_counted desk.log key.seats o.strangers in
+      let seats = all_seats (λ s. length (of_seat s desk.log)) o.kept key.seats (λ i k e. (o.fits i k e).2) o.once o.all in
+      let own = added_same (λ k. length (of_seat k.seat desk.log)) (λ k. length k.mine) o.kept (λ i k e. ap length (o.fits i k e).1) in
+      omega (arith, counted, seats, own, added_all (λ k. length k.mine) o.kept ps qs o.kept_is)
+
+  module _ (law : OwnPlaces) (legal : IsLegal desk.start desk.log) (long : length (market_of desk).seats ≡ key.seats)
+      (none' : All (λ (p : OfPass). own_place p.mine ≡ None) ps) (some' : All (λ (q : OfPlaced). own_place q.who.mine ≡ Some q.arena) qs) where
+    there : (i : ℕ) (k : Known) → get_elem? o.kept i ≡ some k → (k.seat < length (market_of desk).seats) × (place_of (market_of desk) k.seat ≡ own_place k.mine)
+    there i k e =
+        let f = o.fits i k e in
+        let begun : IsLegal (opening_of key) desk.log = subst (λ (s : State). IsLegal s desk.log) (started key ps (whos qs) desk o) legal in
+        let at : place_of (state_after (opening_of key) (calls_of desk.log)) k.seat ≡ place_in k.seat desk.log = law key.base key.hard key.seats key.levels key.last k.seat desk.log begun f.2 in
+        let moved : place_of (market_of desk) k.seat ≡ place_of (state_after (opening_of key) (calls_of desk.log)) k.seat =
+        ap (λ (s : State). place_of (state_after s (calls_of desk.log)) k.seat) (started key ps (whos qs) desk o) in
+        (omega (arith, long, f.2), moved ∙ (at ∙ ap own_place f.1))
+
+    pub all_placed : placed (market_of desk) ≡ length qs
+    all_placed = placed_is (market_of desk) o.kept ps qs o.kept_is o.once (omega (arith, o.all, long)) there none' some'
+
+    pub all_active : (a : ℕ) → active (market_of desk) a ≡ count_by (λ (q : OfPlaced). q.arena == a) qs
+    all_active = active_is (market_of desk) o.kept ps qs o.kept_is o.once (omega (arith, o.all, long)) there none' some'

@@ -1,5 +1,5 @@
 -- One entry more: the entries of each seat, and where they leave it.
-use Rattle.std.proofs.Common.{◌≡◌, ◌≢◌, ℕ, ◌==◌, Bool, true, false, cond, List, [], ◌∷◌, ◌++◌, Option, Some, None, refl, ap, ◌∙◌, append-nil, eq-eqb, ne_eqb}
+use Rattle.std.proofs.Common.{◌≡◌, ◌≢◌, ℕ, ◌==◌, Bool, true, false, cond, List, [], ◌∷◌, ◌++◌, ◌+◌, ◌≤◌, length, Option, Some, None, refl, ap, ◌∙◌, append-nil, length-append, arith, eq-eqb, ne_eqb}
 use Rattle.std.proofs.lemmas.List.Sums.{fold-append}
 use Rattle.market_types.specs.declared.command.Cmd.{Cmd}
 use Rattle.market_types.specs.declared.command.Cmd.TheVariants.{Open, Close, Priority, Resize, Request, Control, Uncontrol, Join, Stay, Leave, Show, Lists, Limit}
@@ -64,3 +64,17 @@ unmoved Lists None r quiet h = stays None r h
 unmoved Lists (Some a) r quiet h = stays (Some a) r h
 unmoved Limit None r quiet h = stays None r h
 unmoved Limit (Some a) r quiet h = stays (Some a) r h
+
+few_if : (b : Bool) (x : Entry) (l m : List Entry) → length m ≤ length l → length (cond b (x ∷ m) m) ≤ length l + 1
+few_if true x l m h = omega (arith, h)
+few_if false x l m h = omega (arith, h)
+
+-- a seat has no more entries than there are
+few-own : (n : ℕ) (xs : List Entry) → length (of_seat n xs) ≤ length xs
+few-own n [] = omega arith
+few-own n (x ∷ xs) = omega (arith, few_if (x.call.seat == n) x xs (of_seat n xs) (few-own n xs))
+
+-- so one more of its own can be counted where they all can
+pub more-own : (n most : ℕ) (cmd : Cmd) (reply : Reply) (xs ys : List Entry) → ys ≡ xs ++ entry n cmd reply ∷ [] → length ys ≤ most → length (of_seat n xs) + 1 ≤ most
+more-own n most cmd reply xs ys is few =
+    omega (arith, few, few-own n ys, ap (λ l. length (of_seat n l)) is, ap length (of-own n cmd reply xs), length-append (of_seat n xs) (entry n cmd reply ∷ []))

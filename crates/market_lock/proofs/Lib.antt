@@ -1,3 +1,4 @@
+mod Counting
 mod Fronts
 pub mod Tiles
 mod Seats

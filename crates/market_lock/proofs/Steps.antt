@@ -391,7 +391,7 @@ module _ (terms : Terms) where
   -- ---- the end
   pub ends_it : (id : ℕ) (t : Terms) (kept : List Known) (ws : List ℕ) (xs : List Chronicled) → terms.seats ≤ length kept → Final (Seen (Kept terms) id (Closer t kept)) ws xs
       → (log : List Entry) × (from : ℕ) × (cuts : List Cut) × (xs ≡ chronicle_from terms log from ∷ []) × Once kept × ((i : ℕ) (k : Known) → get_elem? kept i ≡ some k → Fitting terms log cuts k)
-      × IsCutUp terms.keeping log from cuts × ((weigh : Cut → ℕ) → parts_of_all weigh kept ≡ sum_by weigh cuts)
+      × IsCutUp terms.keeping log from cuts × ((weigh : Cut → ℕ) → parts_of_all weigh kept ≡ sum_by weigh cuts) × ((n : ℕ) → terms.seats ≤ n → of_seat n log ≡ [])
   ends_it id t kept ws xs all (s, r, same_words, long, values) =
       let k = r.0 in let at = r.1 in
       let free : word s ≡ 0 = dite (ℕ_discrete (word s) 0) (λ z. z) (λ busy. let h = k.away busy in
@@ -410,6 +410,7 @@ module _ (terms : Terms) where
         (λ i x p. let old = k.keeps id t kept at i x p in (old.0.front, old.0.own, (let b = old.0.below in let most = k.enough in omega arith), old.0.cut_front, old.0.cut_own)),
         k.cut_up,
         (λ weigh. omega (arith, parts_one weigh s.views id (Closer t kept) at few, k.parted weigh)),
+        (λ n h. k.strangers n (let most = k.enough in omega arith)),
       )
 
   -- ---- the start

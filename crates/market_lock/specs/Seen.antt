@@ -8,8 +8,6 @@ use Rattle.market_types.specs.declared.reply.OpenFault.{OpenFault}
 use Rattle.market_types.specs.declared.reply.Reply.{Reply}
 use Rattle.market_types.specs.History.{IsLegal, of_seat}
 use Rattle.edit_history.specs.Chronicled.{Chronicled, entry}
-use Rattle.worker_ledger.specs.Counted.{Counted}
-use Rattle.market_desk.specs.Workers.{own_place, workers_at}
 use Rattle.edit_history.specs.declared.keeping.Keeping.{Keeping}
 use Rattle.edit_history.specs.declared.part.Part.{Part}
 use Rattle.edit_history.specs.declared.terms.Terms.{Terms}
@@ -110,13 +108,12 @@ pass_of t k = record { table = t; terms = k.terms; seat = k.seat; seen = k.seen;
 abbrev pub office_of : TableId → Terms → OfOffice
 office_of t terms = record { table = t; terms = terms }
 
--- what a caller's ticket keeps (no public clause has this word): its entries are all that its legal history has of its seat, the parts that it knows of are all that was cut out of that history, its
--- share has counted its entries, and counts a worker where they leave the seat placed
-pub record IsTicket (k : Known) (number : ℕ) (share : Counted) : Type 0 where
+-- what a caller's ticket keeps (no public clause has this word): its entries are all that its legal history has of its seat, the parts that it knows of are all that was cut out of that history, and it
+-- has counted its entries
+pub record IsTicket (k : Known) (number calls : ℕ) : Type 0 where
   pub number_is : k.seat ≡ number
   pub small : k.seat < k.terms.seats
   pub legal : IsLegal (opening_of k.terms) k.seen
   pub own : of_seat k.seat k.seen ≡ k.mine
   pub cut_up : IsCutUp k.terms.keeping k.seen k.from k.cuts
-  pub calls : share.calls ≡ length k.mine
-  pub workers : share.workers ≡ workers_at (own_place k.mine)
+  pub counted : calls ≡ length k.mine

@@ -2,7 +2,7 @@
 use Rattle.std.specs.Prelude.{◌≡◌, ℕ, ◌+◌, ◌<◌, ◌≤◌, [], ◌∷◌, ◌++◌, length, Result, Ok, Err, Option, Some, None}
 use Rattle.market_types.specs.declared.command.Cmd.{Cmd}
 use Rattle.market_types.specs.declared.reply.Reply.{Reply}
-use Rattle.market_types.specs.History.{IsLegal, place_in}
+use Rattle.market_types.specs.History.{IsLegal, of_seat, place_in}
 use Rattle.market_core.specs.Moves.{Answers}
 use Rattle.edit_history.specs.Chronicled.{Chronicled, entry, market_of, most_forgotten}
 use Rattle.edit_history.specs.Parts.{EndsWith}
@@ -11,23 +11,21 @@ use Rattle.edit_history.specs.declared.part.Part.{Part}
 use Rattle.edit_history.specs.declared.keeping.Keeping.TheVariants.{InParts}
 use Rattle.edit_history.specs.declared.fault.CallFault.{CallFault}
 use Rattle.edit_history.specs.declared.fault.CallFault.TheVariants.{HistoryFull}
-use Rattle.worker_ledger.specs.Counted.{Counted}
-use Rattle.market_desk.specs.Workers.{workers_at}
 use Rattle.market_desk.specs.Forgetting.{forgotten}
 
--- the desk d has the seat, whose caller has the share s
-abbrev pub MayServe : ℕ → Chronicled → Counted → Type 0
-MayServe seat d s = (seat < length d.start.seats) × (s.workers ≡ workers_at (place_in seat d.log))
+-- the desk d has the seat, whose caller has counted so many calls
+abbrev pub MayServe : ℕ → Chronicled → ℕ → Type 0
+MayServe seat d calls = (seat < length d.start.seats) × (calls ≡ length (of_seat seat d.log))
 
--- the entry and its count; or nothing is changed
-abbrev pub Done : ℕ → Cmd → Result Reply CallFault → Chronicled → Chronicled → Counted → Counted → Type 0
-Done seat cmd (Ok reply) d e s t = Answers (place_in seat d.log) cmd reply × (e.log ≡ d.log ++ entry seat cmd reply ∷ []) × (t.calls ≡ s.calls + 1)
-Done seat cmd (Err fault) d e s t =
-    (e ≡ d) × (t ≡ s) × (fault ≡ HistoryFull → LacksPlaces d seat cmd) × (LacksPlaces d seat cmd → fault ≡ HistoryFull)
+-- the entry and its count, m that was n; or nothing is changed
+abbrev pub Done : ℕ → Cmd → Result Reply CallFault → Chronicled → Chronicled → ℕ → ℕ → Type 0
+Done seat cmd (Ok reply) d e n m = Answers (place_in seat d.log) cmd reply × (e.log ≡ d.log ++ entry seat cmd reply ∷ []) × (m ≡ n + 1)
+Done seat cmd (Err fault) d e n m =
+    (e ≡ d) × (m ≡ n) × (fault ≡ HistoryFull → LacksPlaces d seat cmd) × (LacksPlaces d seat cmd → fault ≡ HistoryFull)
     × (takes (place_in seat d.log) cmd ≡ 0 → ⊥)
 
--- from the desk d and the share s to e and t
-pub record Serves (seat : ℕ) (cmd : Cmd) (r : Result Reply CallFault) (d e : Chronicled) (s t : Counted) : Type 0 where
+-- from the desk d and so many calls, n, to e and m
+pub record Serves (seat : ℕ) (cmd : Cmd) (r : Result Reply CallFault) (d e : Chronicled) (n m : ℕ) : Type 0 where
   pub start : e.start ≡ d.start
   pub places : e.places ≡ d.places
   pub from : e.from ≡ forgotten e.keeping (length e.log) d.from
@@ -36,8 +34,7 @@ pub record Serves (seat : ℕ) (cmd : Cmd) (r : Result Reply CallFault) (d e : C
   pub found : IsLegal d.start d.log
   pub legal : IsLegal e.start e.log
   pub held : e.market ≡ market_of e
-  pub workers : t.workers ≡ workers_at (place_in seat e.log)
-  pub done : Done seat cmd r d e s t
+  pub done : Done seat cmd r d e n m
 
 -- the entries that were kept, and the desk that keeps none of them; or nothing is changed, where there is no room for the placed seats, or a part can't be had
 abbrev pub Out : ℕ → Option Part → Chronicled → Chronicled → Type 0

@@ -13,7 +13,7 @@
 //!
 //! A call waits while another is served. An attempt ([`Office::try_call`] and the like) does not: it is `Busy` then, and changes nothing.
 //!
-//! Behind it lies one lock. The market with its history and the book of its counts lie on a desk (`market_desk`), in the one
+//! Behind it lies one lock. The market with its history lies on a desk (`market_desk`), in the one
 //! slot of a table (`atomic_table`) whose one word tells whether the desk is at home. An attempt takes the desk, has it
 //! served, and gives it back; a call that waits makes attempts. `rule` says what holds between any two steps, `ticket` is one
 //! call, `opening` and `closing` are the two ends.

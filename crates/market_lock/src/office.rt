@@ -33,16 +33,15 @@ use market_types::{ArenaId, Cmd, Entry, LastNumber, OpenFault, Reply, SeatNo};
 use std::alloc::Global;
 use std::marker::Model;
 use std::sync::Wait;
-use std::sync::ledger::{Blank, Ledger};
-use worker_ledger::{Pool, Totals};
 
-/// A market that callers on any threads share by `&`. `C` and `W` name the ledgers of its calls and of its placed workers.
-pub struct Office<C: Ledger, W: Ledger> {
-    table: Shelf<C, W>,
+/// A market that callers on any threads share by `&`.
+#[derive(Drop)]
+pub struct Office {
+    table: Shelf,
     alloc: Global,
 }
 
-impl<C: Ledger, W: Ledger> Model for Office<C, W> {
+impl Model for Office {
     ghost use Rattle.std.specs.Prelude.{◌≡◌};
     ghost use Rattle.market_lock.specs.Seen.{OfOffice, office_of};
 
@@ -50,10 +49,10 @@ impl<C: Ledger, W: Ledger> Model for Office<C, W> {
 
     ghost view = { λ o. office_of o.table.shared.table_id o.table.shared.key };
 
-    ghost invariant = { λ o. (o.table.shared.table_id.words ≡ 1) × (o.table.shared.table_id.slots ≡ 1) × (C.parts ≡ o.table.shared.key.seats) × (W.parts ≡ o.table.shared.key.seats) };
+    ghost invariant = { λ o. (o.table.shared.table_id.words ≡ 1) × (o.table.shared.table_id.slots ≡ 1) };
 }
 
-/// What an office leaves: its market with its history, the calls that all callers counted, and their placed workers.
+/// What an office leaves: its market with its history, how many calls its callers made, and how many of them are placed.
 #[derive(Drop)]
 pub struct Closed {
     pub chronicle: Chronicle,
@@ -61,18 +60,11 @@ pub struct Closed {
     pub workers: u64,
 }
 
-impl<C: Ledger, W: Ledger> Office<C, W> {
+impl Office {
     /// An office with an empty history, on these terms, and a pass for each seat, in order, which has seen and called nothing.
     /// The faults are those of `Chronicle::on_terms`: `BadBase`, `BadHard`, `BadSeats`, `BadPlaces`, `BadLevels`, then `Memory`.
-    /// The two new ledgers have a part for each seat, and `C` and `W` stand for them. It doesn't wait.
-    pub fn on_terms(
-        alloc: Global,
-        terms: Terms,
-        calls: Blank,
-        workers: Blank,
-    ) -> Result<(Self, Vec<Pass<C, W>>), OpenFault>
-        requires calls { (calls.name ≡ C.name) × (calls.parts ≡ C.parts) × (C.parts ≡ terms.seats) }
-        requires workers { (workers.name ≡ W.name) × (workers.parts ≡ W.parts) × (W.parts ≡ terms.seats) }
+    /// It doesn't wait.
+    pub fn on_terms(alloc: Global, terms: Terms) -> Result<(Self, Vec<Pass>), OpenFault>
         ensures exact { MemoryAside (opened_by terms) (kept_by result) }
         ensures terms { IfOk result (λ o. o.0.terms ≡ terms) }
         ensures one_for_each { IfOk result (λ o. length o.1.items ≡ terms.seats) }
@@ -82,7 +74,7 @@ impl<C: Ledger, W: Ledger> Office<C, W> {
     {
         a_forgetful_chronicle_is_never_full();
         let chronicle = Chronicle::on_terms(alloc, terms)?;
-        Self::with_chronicle(alloc, &terms, chronicle, calls, workers)
+        Self::with_chronicle(alloc, &terms, chronicle)
     }
 
     /// The same with the usual last number, and every entry is kept.
@@ -93,11 +85,7 @@ impl<C: Ledger, W: Ledger> Office<C, W> {
         seats: u8,
         places: u32,
         levels: u32,
-        calls: Blank,
-        workers: Blank,
-    ) -> Result<(Self, Vec<Pass<C, W>>), OpenFault>
-        requires calls { (calls.name ≡ C.name) × (calls.parts ≡ C.parts) × (C.parts ≡ seats) }
-        requires workers { (workers.name ≡ W.name) × (workers.parts ≡ W.parts) × (W.parts ≡ seats) }
+    ) -> Result<(Self, Vec<Pass>), OpenFault>
         ensures exact { MemoryAside (opened_chronicle base hard seats places levels) (kept_by result) }
         ensures one_for_each { IfOk result (λ o. length o.1.items ≡ seats) }
         ensures passes { IfOk result (λ o. (k : ℕ) → k < seats → slice_get o.1.items k ≡ Some (fresh o.0 k)) }
@@ -112,7 +100,7 @@ impl<C: Ledger, W: Ledger> Office<C, W> {
             last: LastNumber::USUAL,
             keeping: Keeping::Everything,
         };
-        Self::on_terms(alloc, terms, calls, workers)
+        Self::on_terms(alloc, terms)
     }
 
     /// An office whose entries are taken out in parts by `cut`. Its places are taken by the entries since the last cut alone, so
@@ -125,11 +113,7 @@ impl<C: Ledger, W: Ledger> Office<C, W> {
         seats: u8,
         places: u32,
         levels: u32,
-        calls: Blank,
-        workers: Blank,
-    ) -> Result<(Self, Vec<Pass<C, W>>), OpenFault>
-        requires calls { (calls.name ≡ C.name) × (calls.parts ≡ C.parts) × (C.parts ≡ seats) }
-        requires workers { (workers.name ≡ W.name) × (workers.parts ≡ W.parts) × (W.parts ≡ seats) }
+    ) -> Result<(Self, Vec<Pass>), OpenFault>
         ensures exact { MemoryAside (opened_in_parts base hard seats places levels) (kept_by result) }
         ensures one_for_each { IfOk result (λ o. length o.1.items ≡ seats) }
         ensures passes { IfOk result (λ o. (k : ℕ) → k < seats → slice_get o.1.items k ≡ Some (fresh o.0 k)) }
@@ -144,7 +128,7 @@ impl<C: Ledger, W: Ledger> Office<C, W> {
             last: LastNumber::USUAL,
             keeping: Keeping::InParts,
         };
-        Self::on_terms(alloc, terms, calls, workers)
+        Self::on_terms(alloc, terms)
     }
 
     /// An office that keeps no entries. Its history exists in proofs alone, so that a call takes no memory but the market's own,
@@ -156,11 +140,7 @@ impl<C: Ledger, W: Ledger> Office<C, W> {
         hard: u32,
         seats: u8,
         levels: u32,
-        calls: Blank,
-        workers: Blank,
-    ) -> Result<(Self, Vec<Pass<C, W>>), OpenFault>
-        requires calls { (calls.name ≡ C.name) × (calls.parts ≡ C.parts) × (C.parts ≡ seats) }
-        requires workers { (workers.name ≡ W.name) × (workers.parts ≡ W.parts) × (W.parts ≡ seats) }
+    ) -> Result<(Self, Vec<Pass>), OpenFault>
         ensures exact { MemoryAside (opened_unrecorded base hard seats levels) (kept_by result) }
         ensures one_for_each { IfOk result (λ o. length o.1.items ≡ seats) }
         ensures passes { IfOk result (λ o. (k : ℕ) → k < seats → slice_get o.1.items k ≡ Some (fresh o.0 k)) }
@@ -176,7 +156,7 @@ impl<C: Ledger, W: Ledger> Office<C, W> {
             last: LastNumber::USUAL,
             keeping: Keeping::Nothing,
         };
-        Self::on_terms(alloc, terms, calls, workers)
+        Self::on_terms(alloc, terms)
     }
 
     /// An office of a new chronicle, and its passes. Out of memory is the only fault.
@@ -184,11 +164,7 @@ impl<C: Ledger, W: Ledger> Office<C, W> {
         alloc: Global,
         terms: &Terms,
         chronicle: Chronicle,
-        calls: Blank,
-        workers: Blank,
-    ) -> Result<(Self, Vec<Pass<C, W>>), OpenFault>
-        requires calls { (calls.name ≡ C.name) × (calls.parts ≡ C.parts) × (C.parts ≡ terms.now.seats) }
-        requires workers { (workers.name ≡ W.name) × (workers.parts ≡ W.parts) × (W.parts ≡ terms.now.seats) }
+    ) -> Result<(Self, Vec<Pass>), OpenFault>
         requires chronicle { chronicle ≡ chronicle_of terms.now [] }
         ensures terms { IfOk result (λ o. o.0.terms ≡ terms.now) }
         ensures fault { IfErr result (λ fault. fault ≡ Memory) }
@@ -197,26 +173,18 @@ impl<C: Ledger, W: Ledger> Office<C, W> {
         ensures own { IfOk result (λ o. All (λ (p : OfPass). p.table ≡ o.0.table) o.1.items) }
     {
         let seats = terms.seats;
-        let Ok(mut passes) = Vec::<Pass<C, W>>::with_capacity(alloc, seats as usize) else {
+        let Ok(mut passes) = Vec::<Pass>::with_capacity(alloc, seats as usize) else {
             drop(chronicle);
             return Err(OpenFault::Memory);
         };
-        let Ok(furnished) = furnish::<C, W>(alloc, terms, chronicle, calls, workers) else {
+        let Ok(furnished) = furnish(alloc, terms, chronicle) else {
             passes.destroy_empty();
             return Err(OpenFault::Memory);
         };
-        let Furnished {
-            table,
-            mut seat,
-            mut shares,
-        } = furnished;
+        let Furnished { table, mut seat } = furnished;
         for number in 0..seats {
-            let Some(share) = shares.pop() else {
-                unreachable!()
-            };
-            passes.push_reserved(deal(&table, &mut seat, share, SeatNo::new(number)));
+            passes.push_reserved(deal(&table, &mut seat, SeatNo::new(number)));
         }
-        shares.destroy_empty();
         Ok((Office { table, alloc }, passes))
     }
 
@@ -227,7 +195,7 @@ impl<C: Ledger, W: Ledger> Office<C, W> {
         &self,
         rt: &R,
         alloc: Global,
-        pass: &mut Pass<C, W>,
+        pass: &mut Pass,
         cmd: Cmd,
     ) -> Result<Reply, CallFault>
         requires office { pass.old.table ≡ self.now.table }
@@ -245,7 +213,7 @@ impl<C: Ledger, W: Ledger> Office<C, W> {
     pub fn try_call(
         &self,
         alloc: Global,
-        pass: &mut Pass<C, W>,
+        pass: &mut Pass,
         cmd: Cmd,
     ) -> Attempt<Result<Reply, CallFault>, ()>
         requires office { pass.old.table ≡ self.now.table }
@@ -263,7 +231,7 @@ impl<C: Ledger, W: Ledger> Office<C, W> {
         &self,
         rt: &R,
         alloc: Global,
-        placed: &mut Placed<C, W>,
+        placed: &mut Placed,
         cmd: Cmd,
     ) -> Result<Reply, CallFault>
         requires office { placed.old.who.table ≡ self.now.table }
@@ -280,7 +248,7 @@ impl<C: Ledger, W: Ledger> Office<C, W> {
     pub fn try_call_placed(
         &self,
         alloc: Global,
-        placed: &mut Placed<C, W>,
+        placed: &mut Placed,
         cmd: Cmd,
     ) -> Attempt<Result<Reply, CallFault>, ()>
         requires office { placed.old.who.table ≡ self.now.table }
@@ -296,12 +264,7 @@ impl<C: Ledger, W: Ledger> Office<C, W> {
 
     /// Asks for an arena in need of a worker. Whatever others do, the seat is not placed before: so it is never told that it is.
     /// The faults are those of `call`; the pass then comes back.
-    pub fn join<R: Wait>(
-        &self,
-        rt: &R,
-        alloc: Global,
-        pass: Pass<C, W>,
-    ) -> Joined<Pass<C, W>, Placed<C, W>>
+    pub fn join<R: Wait>(&self, rt: &R, alloc: Global, pass: Pass) -> Joined<Pass, Placed>
         requires office { pass.table ≡ self.now.table }
         ensures exact { HasJoined pass result }
     {
@@ -311,11 +274,7 @@ impl<C: Ledger, W: Ledger> Office<C, W> {
     }
 
     /// An attempt at a `join`.
-    pub fn try_join(
-        &self,
-        alloc: Global,
-        pass: Pass<C, W>,
-    ) -> Attempt<Joined<Pass<C, W>, Placed<C, W>>, Pass<C, W>>
+    pub fn try_join(&self, alloc: Global, pass: Pass) -> Attempt<Joined<Pass, Placed>, Pass>
         requires office { pass.table ≡ self.now.table }
         ensures exact { IfMade result (λ joined. HasJoined pass joined) }
         ensures busy { IfBusy result (λ back. back ≡ pass) }
@@ -329,10 +288,7 @@ impl<C: Ledger, W: Ledger> Office<C, W> {
 
     /// What a Join has made of its caller.
     #[inline(always)]
-    fn after_join(
-        ticket: Ticket<C, W>,
-        answer: Result<Reply, CallFault>,
-    ) -> Joined<Pass<C, W>, Placed<C, W>>
+    fn after_join(ticket: Ticket, answer: Result<Reply, CallFault>) -> Joined<Pass, Placed>
         requires answers { IfOk answer (λ reply. Answers None Join reply) }
         requires moved { IfOk answer (λ reply. own_place ticket.mine ≡ place_after None reply) }
         requires still { OnErr answer (own_place ticket.mine ≡ None) }
@@ -354,12 +310,7 @@ impl<C: Ledger, W: Ledger> Office<C, W> {
 
     /// Asks whether the worker's arena still wants it. Whatever others do, the seat is placed there before. The faults are those
     /// of `call`; the worker then stays placed.
-    pub fn stay<R: Wait>(
-        &self,
-        rt: &R,
-        alloc: Global,
-        placed: Placed<C, W>,
-    ) -> Stayed<Pass<C, W>, Placed<C, W>>
+    pub fn stay<R: Wait>(&self, rt: &R, alloc: Global, placed: Placed) -> Stayed<Pass, Placed>
         requires office { placed.who.table ≡ self.now.table }
         ensures exact { HasStayed placed result }
     {
@@ -369,11 +320,7 @@ impl<C: Ledger, W: Ledger> Office<C, W> {
     }
 
     /// An attempt at a `stay`.
-    pub fn try_stay(
-        &self,
-        alloc: Global,
-        placed: Placed<C, W>,
-    ) -> Attempt<Stayed<Pass<C, W>, Placed<C, W>>, Placed<C, W>>
+    pub fn try_stay(&self, alloc: Global, placed: Placed) -> Attempt<Stayed<Pass, Placed>, Placed>
         requires office { placed.who.table ≡ self.now.table }
         ensures exact { IfMade result (λ stayed. HasStayed placed stayed) }
         ensures busy { IfBusy result (λ back. back ≡ placed) }
@@ -388,10 +335,10 @@ impl<C: Ledger, W: Ledger> Office<C, W> {
     /// What a Stay has made of the worker of this arena.
     #[inline(always)]
     fn after_stay(
-        ticket: Ticket<C, W>,
+        ticket: Ticket,
         arena: ArenaId,
         answer: Result<Reply, CallFault>,
-    ) -> Stayed<Pass<C, W>, Placed<C, W>>
+    ) -> Stayed<Pass, Placed>
         requires answers { IfOk answer (λ reply. Answers (Some arena) Stay reply) }
         requires moved { IfOk answer (λ reply. own_place ticket.mine ≡ place_after (Some arena) reply) }
         requires still { OnErr answer (own_place ticket.mine ≡ Some arena) }
@@ -409,7 +356,7 @@ impl<C: Ledger, W: Ledger> Office<C, W> {
     }
 
     /// The worker leaves its arena. It takes no memory and is never refused.
-    pub fn leave<R: Wait>(&self, rt: &R, placed: Placed<C, W>) -> Pass<C, W>
+    pub fn leave<R: Wait>(&self, rt: &R, placed: Placed) -> Pass
         requires office { placed.who.table ≡ self.now.table }
         ensures exact { Called placed.who Leave (Left placed.arena) result }
     {
@@ -424,7 +371,7 @@ impl<C: Ledger, W: Ledger> Office<C, W> {
     }
 
     /// An attempt at a `leave`. It takes no memory, and is not refused where the desk is at home.
-    pub fn try_leave(&self, placed: Placed<C, W>) -> Attempt<Pass<C, W>, Placed<C, W>>
+    pub fn try_leave(&self, placed: Placed) -> Attempt<Pass, Placed>
         requires office { placed.who.table ≡ self.now.table }
         ensures exact { IfMade result (λ pass. Called placed.who Leave (Left placed.arena) pass) }
         ensures busy { IfBusy result (λ back. back ≡ placed) }
@@ -444,7 +391,7 @@ impl<C: Ledger, W: Ledger> Office<C, W> {
     /// these workers is to find room for its Leave there. Room for as many entries as the office has seats is always enough. The
     /// answer is `None` where `spare` has less room than that, where the office was not opened by `open_in_parts`, and where the
     /// history is longer than 18,446,744,073,708,503,039 entries; nothing is then cut out. It waits for the lock, and for nothing else.
-    pub fn cut<R: Wait>(&self, rt: &R, pass: &mut Pass<C, W>, spare: Vec<Entry>) -> Option<Part>
+    pub fn cut<R: Wait>(&self, rt: &R, pass: &mut Pass, spare: Vec<Entry>) -> Option<Part>
         requires office { pass.old.table ≡ self.now.table }
         ensures same { IsSamePass pass.old pass.new }
         ensures legal { IsLegal (opening_of pass.new.terms) pass.new.seen }
@@ -464,11 +411,7 @@ impl<C: Ledger, W: Ledger> Office<C, W> {
     }
 
     /// An attempt at a `cut`. Where another caller has the desk the spare vector comes back, emptied, with the room that it had.
-    pub fn try_cut(
-        &self,
-        pass: &mut Pass<C, W>,
-        spare: Vec<Entry>,
-    ) -> Attempt<Option<Part>, Vec<Entry>>
+    pub fn try_cut(&self, pass: &mut Pass, spare: Vec<Entry>) -> Attempt<Option<Part>, Vec<Entry>>
         requires office { pass.old.table ≡ self.now.table }
         ensures same { IsSamePass pass.old pass.new }
         ensures legal { IfMade result (λ _. IsLegal (opening_of pass.new.terms) pass.new.seen) }
@@ -493,7 +436,7 @@ impl<C: Ledger, W: Ledger> Office<C, W> {
     /// are all that the history has of its seat. The entries that can be read are those since the last cut. Of an office in
     /// parts, all parts that the passes cut, put one behind the other by where they begin, and then these entries, are the whole
     /// history: no gap, nothing twice. It doesn't wait, and takes no memory.
-    pub fn close(self, passes: Vec<Pass<C, W>>, placed: Vec<Placed<C, W>>) -> Closed
+    pub fn close(self, passes: Vec<Pass>, placed: Vec<Placed>) -> Closed
         requires own { All (λ (p : OfPass). p.table ≡ self.table) passes.items }
         requires own_placed { All (λ (p : OfPlaced). p.who.table ≡ self.table) placed.items }
         requires all { vec_len passes + vec_len placed ≡ self.terms.seats }
@@ -509,18 +452,18 @@ impl<C: Ledger, W: Ledger> Office<C, W> {
         ensures active { (a : ℕ) → active (market_of result.chronicle) a ≡ count_by (λ (p : OfPlaced). p.arena == a) placed.items }
     {
         let Office { table, alloc: _ } = self;
+        let workers = placed.len() as u64;
         let mut seat = table.shared.load_new_seat::<Enter>(0).1;
-        let mut pool = Pool::new();
-        take_back_passes(&table, &mut seat, passes, &mut pool);
-        take_back_placed(&table, &mut seat, placed, &mut pool);
+        take_back_passes(&table, &mut seat, passes);
+        take_back_placed(&table, &mut seat, placed);
         let mut closed = table.close_with(seat);
         let desk = closed.take(0);
         closed.free();
-        let (chronicle, book) = desk.into_parts();
+        let chronicle = desk.into_chronicle();
         // These two tell that the market still has its seats, and that a seat's own entries say where it is.
         let _ = chronicle.market();
         own_entries_place_a_seat();
-        let Totals { calls, workers } = book.gather_pool(pool);
+        let calls = chronicle.len();
         Closed {
             chronicle,
             calls,

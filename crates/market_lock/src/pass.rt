@@ -8,16 +8,15 @@ use crate::ticket::Ticket;
 use edit_history::CallFault;
 use market_types::{ArenaId, SeatNo};
 use std::marker::Model;
-use std::sync::ledger::Ledger;
 
 /// The right to call an office from one seat, while that seat is not placed. It can't be dropped: an office closes with all of its
 /// passes. Contracts see what its caller knows: the history that it saw last, its own entries in it, and all parts that had been
 /// cut out of it then: by which seat, and where each began and ended.
-pub struct Pass<C: Ledger, W: Ledger> {
-    pub(crate) ticket: Ticket<C, W>,
+pub struct Pass {
+    pub(crate) ticket: Ticket,
 }
 
-impl<C: Ledger, W: Ledger> Model for Pass<C, W> {
+impl Model for Pass {
     ghost use Rattle.std.specs.Prelude.{◌≡◌, None};
     ghost use Rattle.market_desk.specs.Workers.{own_place};
     ghost use Rattle.market_lock.specs.Seen.{OfPass};
@@ -30,12 +29,12 @@ impl<C: Ledger, W: Ledger> Model for Pass<C, W> {
 }
 
 /// The same while the seat is placed, as a worker of an arena. It can't be dropped either.
-pub struct Placed<C: Ledger, W: Ledger> {
-    pub(crate) ticket: Ticket<C, W>,
+pub struct Placed {
+    pub(crate) ticket: Ticket,
     pub(crate) arena: ArenaId,
 }
 
-impl<C: Ledger, W: Ledger> Model for Placed<C, W> {
+impl Model for Placed {
     ghost use Rattle.std.specs.Prelude.{◌≡◌, Some};
     ghost use Rattle.market_desk.specs.Workers.{own_place};
     ghost use Rattle.market_lock.specs.Seen.{OfPlaced};
@@ -47,7 +46,7 @@ impl<C: Ledger, W: Ledger> Model for Placed<C, W> {
     ghost invariant = { λ p. own_place p.ticket.mine ≡ Some p.arena };
 }
 
-impl<C: Ledger, W: Ledger> Pass<C, W> {
+impl Pass {
     /// Its seat, which the history that it saw does not place.
     pub fn seat(&self) -> SeatNo
         ensures exact { result ≡ self.now.seat }
@@ -58,7 +57,7 @@ impl<C: Ledger, W: Ledger> Pass<C, W> {
         self.ticket.number()
     }
 
-    /// How many of its calls were answered: its share of what the office counts. It takes no memory and doesn't wait.
+    /// How many of its calls were answered: its part of what the office counts. It takes no memory and doesn't wait.
     pub fn calls(&self) -> u64
         ensures exact { result ≡ length self.now.mine }
     {
@@ -66,7 +65,7 @@ impl<C: Ledger, W: Ledger> Pass<C, W> {
     }
 }
 
-impl<C: Ledger, W: Ledger> Placed<C, W> {
+impl Placed {
     /// Its seat.
     pub fn seat(&self) -> SeatNo
         ensures exact { result ≡ self.now.who.seat }
@@ -76,7 +75,7 @@ impl<C: Ledger, W: Ledger> Placed<C, W> {
         self.ticket.number()
     }
 
-    /// How many of its calls were answered: its share of what the office counts. It takes no memory and doesn't wait.
+    /// How many of its calls were answered: its part of what the office counts. It takes no memory and doesn't wait.
     pub fn calls(&self) -> u64
         ensures exact { result ≡ length self.now.who.mine }
     {

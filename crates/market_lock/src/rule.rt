@@ -4,12 +4,11 @@ use atomic_table::{Join, Play, Seat, Split, Table, TableRule};
 use edit_history::Terms;
 use market_desk::Desk;
 use std::alloc::Global;
-use std::sync::ledger::Ledger;
 
 /// The desk is at home, or one seat has it; what each seat knows is true of its history.
 pub(crate) struct Lock;
 
-impl<C: Ledger, W: Ledger> TableRule<Desk<C, W>, View, Terms> for Lock {
+impl TableRule<Desk, View, Terms> for Lock {
     ghost use Rattle.market_lock.specs.declared.view.View.TheVariants.{Opener};
     ghost use Rattle.market_lock.specs.Rule.{Kept};
 
@@ -21,7 +20,7 @@ impl<C: Ledger, W: Ledger> TableRule<Desk<C, W>, View, Terms> for Lock {
 /// A seat takes the desk, where it is at home.
 pub(crate) struct Take;
 
-impl<C: Ledger, W: Ledger> Play<Desk<C, W>, View> for Take {
+impl Play<Desk, View> for Take {
     ghost use Rattle.market_lock.specs.Rule.{Takes};
 
     ghost then = { Takes };
@@ -30,7 +29,7 @@ impl<C: Ledger, W: Ledger> Play<Desk<C, W>, View> for Take {
 /// The seat that has the desk gives it back.
 pub(crate) struct Give;
 
-impl<C: Ledger, W: Ledger> Play<Desk<C, W>, View> for Give {
+impl Play<Desk, View> for Give {
     ghost use Rattle.market_lock.specs.Rule.{Gives};
 
     ghost then = { Gives };
@@ -39,7 +38,7 @@ impl<C: Ledger, W: Ledger> Play<Desk<C, W>, View> for Give {
 /// The seat that has the desk gives it back, once it has cut out what was kept.
 pub(crate) struct GiveCut;
 
-impl<C: Ledger, W: Ledger> Play<Desk<C, W>, View> for GiveCut {
+impl Play<Desk, View> for GiveCut {
     ghost use Rattle.market_lock.specs.Rule.{GivesCut};
 
     ghost then = { GivesCut };
@@ -48,7 +47,7 @@ impl<C: Ledger, W: Ledger> Play<Desk<C, W>, View> for GiveCut {
 /// A seat comes that takes the others back.
 pub(crate) struct Enter;
 
-impl<C: Ledger, W: Ledger> Play<Desk<C, W>, View> for Enter {
+impl Play<Desk, View> for Enter {
     ghost use Rattle.market_lock.specs.Rule.{Enters};
 
     ghost then = { Enters };
@@ -78,7 +77,7 @@ impl Join<View> for Gather {
 }
 
 /// The table: one word, which tells whether the desk is at home, and one slot, in which it then lies.
-pub(crate) type Shelf<C, W> = Table<Desk<C, W>, View, Terms, Lock, Global>;
+pub(crate) type Shelf = Table<Desk, View, Terms, Lock, Global>;
 
 /// A seat of the table. It takes no bytes.
-pub(crate) type Place<C, W> = Seat<Desk<C, W>, View>;
+pub(crate) type Place = Seat<Desk, View>;

@@ -25,9 +25,7 @@ use std::alloc::Global;
 use std::hint::spin_loop;
 use std::marker::Model;
 use std::sync::Wait;
-use std::sync::ledger::Ledger;
 use std::thread;
-use worker_ledger::Share;
 
 /// How many pauses of its processor a caller makes that lost for the first time.
 const FEWEST_PAUSES: u32 = 16;
@@ -35,14 +33,14 @@ const FEWEST_PAUSES: u32 = 16;
 /// And how many at most.
 const MOST_PAUSES: u32 = 512;
 
-/// A seat of the table with its number, and the share that counts its calls. It can't be dropped.
-pub(crate) struct Ticket<C: Ledger, W: Ledger> {
-    pub seat: Place<C, W>,
+/// A seat of the table with its number, and how many of its calls were answered. It can't be dropped.
+pub(crate) struct Ticket {
+    pub seat: Place,
     pub number: SeatNo,
-    pub share: Share<C, W>,
+    pub calls: u64,
 }
 
-impl<C: Ledger, W: Ledger> Model for Ticket<C, W> {
+impl Model for Ticket {
     ghost use Rattle.std.specs.Prelude.{◌≡◌, []};
     ghost use Rattle.market_lock.specs.declared.view.View.TheVariants.{Idle};
     ghost use Rattle.market_lock.specs.Seen.{OfPass, known_of, pass_of, IsTicket};
@@ -51,7 +49,7 @@ impl<C: Ledger, W: Ledger> Model for Ticket<C, W> {
 
     ghost view = { λ t. pass_of t.seat.table_id (known_of t.seat.me.0) };
 
-    ghost invariant = { λ t. (t.seat.me ≡ (Idle (known_of t.seat.me.0), [])) × IsTicket (known_of t.seat.me.0) t.number t.share };
+    ghost invariant = { λ t. (t.seat.me ≡ (Idle (known_of t.seat.me.0), [])) × IsTicket (known_of t.seat.me.0) t.number t.calls };
 }
 
 /// Waits for so many pauses, and says how many it should be next time: twice as many, up to a bound. Who waits does not look at
@@ -69,7 +67,7 @@ fn wait_a_while(pauses: u32) -> u32 {
 }
 
 /// Takes the desk, if it is at home, and says whether it was.
-fn take<C: Ledger, W: Ledger>(table: &Shelf<C, W>, seat: &mut Place<C, W>) -> bool
+fn take(table: &Shelf, seat: &mut Place) -> bool
     requires table { (seat.old.table_id ≡ table.now.shared.table_id) × (table.now.shared.table_id.words ≡ 1) }
     requires seat { IsIdle seat.old.me }
     ensures table { seat.new.table_id ≡ seat.old.table_id }
@@ -79,31 +77,31 @@ fn take<C: Ledger, W: Ledger>(table: &Shelf<C, W>, seat: &mut Place<C, W>) -> bo
     table.shared.compare_exchange::<Take>(seat, 0, 0, 1) == 0
 }
 
-/// One call of the desk that the seat has.
-fn serve<C: Ledger, W: Ledger>(
+/// One call of the desk that the seat has, which is counted where it is answered.
+fn serve(
     alloc: Global,
-    table: &Shelf<C, W>,
-    seat: &mut Place<C, W>,
-    share: &mut Share<C, W>,
+    table: &Shelf,
+    seat: &mut Place,
+    calls: &mut u64,
     number: SeatNo,
     cmd: Cmd,
 ) -> Result<Reply, CallFault>
     requires table { seat.old.table_id ≡ table.now.shared.table_id }
-    requires desk { HasDesk seat.old.me (λ d. MayServe number d share.old) }
+    requires desk { HasDesk seat.old.me (λ d. MayServe number d calls.old) }
     ensures table { seat.new.table_id ≡ seat.old.table_id }
     ensures view { seat.new.me.0 ≡ seat.old.me.0 }
-    ensures desk { HasDesk seat.old.me (λ d. HasDesk seat.new.me (λ e. Serves number cmd result d e share.old share.new)) }
+    ensures desk { HasDesk seat.old.me (λ d. HasDesk seat.new.me (λ e. Serves number cmd result d e calls.old calls.new)) }
 {
     let desk = seat.slot_mut(&table.shared, 0);
-    desk.serve(alloc, share, number, cmd)
+    let answer = desk.serve(alloc, number, cmd);
+    if answer.is_ok() {
+        *calls += 1;
+    }
+    answer
 }
 
 /// The desk that the seat has hands out the entries that it keeps.
-fn cut_off<C: Ledger, W: Ledger>(
-    table: &Shelf<C, W>,
-    seat: &mut Place<C, W>,
-    spare: Vec<Entry>,
-) -> Option<Part>
+fn cut_off(table: &Shelf, seat: &mut Place, spare: Vec<Entry>) -> Option<Part>
     requires table { seat.old.table_id ≡ table.now.shared.table_id }
     requires desk { HasDesk seat.old.me (λ _. Unit {0}) }
     ensures table { seat.new.table_id ≡ seat.old.table_id }
@@ -115,7 +113,7 @@ fn cut_off<C: Ledger, W: Ledger>(
 }
 
 /// Gives the desk back.
-fn give<C: Ledger, W: Ledger>(table: &Shelf<C, W>, seat: &mut Place<C, W>)
+fn give(table: &Shelf, seat: &mut Place)
     requires table { (seat.old.table_id ≡ table.now.shared.table_id) × (table.now.shared.table_id.words ≡ 1) × (table.now.shared.table_id.slots ≡ 1) }
     requires desk { HoldsDesk seat.old.me (λ k log from. Follows k log from (same_cuts k log)) }
     ensures table { seat.new.table_id ≡ seat.old.table_id }
@@ -125,7 +123,7 @@ fn give<C: Ledger, W: Ledger>(table: &Shelf<C, W>, seat: &mut Place<C, W>)
 }
 
 /// Gives the desk back, from which this part was cut, or none.
-fn give_cut<C: Ledger, W: Ledger>(table: &Shelf<C, W>, seat: &mut Place<C, W>, part: &Option<Part>)
+fn give_cut(table: &Shelf, seat: &mut Place, part: &Option<Part>)
     requires table { (seat.old.table_id ≡ table.now.shared.table_id) × (table.now.shared.table_id.words ≡ 1) × (table.now.shared.table_id.slots ≡ 1) }
     requires desk { HoldsDesk seat.old.me (λ k log from. Follows k log from (next_cuts part.now k log)) }
     ensures table { seat.new.table_id ≡ seat.old.table_id }
@@ -137,13 +135,13 @@ fn give_cut<C: Ledger, W: Ledger>(table: &Shelf<C, W>, seat: &mut Place<C, W>, p
     }
 }
 
-impl<C: Ledger, W: Ledger> Ticket<C, W> {
+impl Ticket {
     /// An attempt at one call: the desk is taken, if it is at home, serves it, and is given back.
     #[inline(always)]
     pub fn try_call(
         &mut self,
         alloc: Global,
-        table: &Shelf<C, W>,
+        table: &Shelf,
         cmd: Cmd,
     ) -> Attempt<Result<Reply, CallFault>, ()>
         requires { (self.old.table ≡ table.now.shared.table_id) × (table.now.shared.table_id.words ≡ 1) × (table.now.shared.table_id.slots ≡ 1) }
@@ -166,7 +164,7 @@ impl<C: Ledger, W: Ledger> Ticket<C, W> {
             alloc,
             table,
             &mut self.seat,
-            &mut self.share,
+            &mut self.calls,
             self.number,
             cmd,
         );
@@ -179,7 +177,7 @@ impl<C: Ledger, W: Ledger> Ticket<C, W> {
         &mut self,
         rt: &R,
         alloc: Global,
-        table: &Shelf<C, W>,
+        table: &Shelf,
         cmd: Cmd,
     ) -> Result<Reply, CallFault>
         requires { (self.old.table ≡ table.now.shared.table_id) × (table.now.shared.table_id.words ≡ 1) × (table.now.shared.table_id.slots ≡ 1) }
@@ -207,11 +205,7 @@ impl<C: Ledger, W: Ledger> Ticket<C, W> {
 
     /// An attempt at a cut: the desk is taken, if it is at home, hands out the entries that it keeps, and is given back.
     #[inline(always)]
-    pub fn try_cut(
-        &mut self,
-        table: &Shelf<C, W>,
-        spare: Vec<Entry>,
-    ) -> Attempt<Option<Part>, Vec<Entry>>
+    pub fn try_cut(&mut self, table: &Shelf, spare: Vec<Entry>) -> Attempt<Option<Part>, Vec<Entry>>
         requires { (self.old.table ≡ table.now.shared.table_id) × (table.now.shared.table_id.words ≡ 1) × (table.now.shared.table_id.slots ≡ 1) }
         ensures same { IsSamePass self.old self.new }
         ensures legal { IfMade result (λ _. IsLegal (opening_of self.new.terms) self.new.seen) }
@@ -236,7 +230,7 @@ impl<C: Ledger, W: Ledger> Ticket<C, W> {
     }
 
     /// A cut: attempts at it, with pauses between them, until the desk was at home.
-    pub fn cut<R: Wait>(&mut self, rt: &R, table: &Shelf<C, W>, spare: Vec<Entry>) -> Option<Part>
+    pub fn cut<R: Wait>(&mut self, rt: &R, table: &Shelf, spare: Vec<Entry>) -> Option<Part>
         requires { (self.old.table ≡ table.now.shared.table_id) × (table.now.shared.table_id.words ≡ 1) × (table.now.shared.table_id.slots ≡ 1) }
         ensures same { IsSamePass self.old self.new }
         ensures legal { IsLegal (opening_of self.new.terms) self.new.seen }
@@ -272,10 +266,10 @@ impl<C: Ledger, W: Ledger> Ticket<C, W> {
         self.number
     }
 
-    /// How many calls its share has counted.
+    /// How many of its calls were answered.
     pub fn calls(&self) -> u64
         ensures exact { result ≡ length self.now.mine }
     {
-        self.share.calls()
+        self.calls
     }
 }

@@ -11,7 +11,6 @@ use market_lock::{Joined, Office, Pass, Placed, Stayed};
 use market_types::{Cmd, Reply};
 use std::alloc::Global;
 use std::sync::Wait;
-use std::sync::ledger::Ledger;
 
 /// A caller after a command: `P` is a pass, `Q` a placed worker.
 pub struct Asked<P, Q> {
@@ -23,13 +22,13 @@ pub struct Asked<P, Q> {
 
 /// Makes a caller give a command. A placed worker asks for no arena, and who is not placed neither stays nor leaves: that is
 /// not asked, and nothing changes.
-pub fn ask<C: Ledger, W: Ledger, R: Wait>(
+pub fn ask<R: Wait>(
     rt: &R,
     alloc: Global,
-    office: &Office<C, W>,
-    caller: Caller<Pass<C, W>, Placed<C, W>>,
+    office: &Office,
+    caller: Caller<Pass, Placed>,
     cmd: Cmd,
-) -> Asked<Pass<C, W>, Placed<C, W>>
+) -> Asked<Pass, Placed>
     requires office { (who_is caller).table ≡ office.now.table }
     ensures same { IsSamePass (who_is caller) (who_is result.caller) }
     ensures answered { (reply : Reply) → result.answer ≡ Some (Ok reply) → Called (who_is caller) cmd reply (who_is result.caller) }
@@ -44,13 +43,13 @@ pub fn ask<C: Ledger, W: Ledger, R: Wait>(
 }
 
 /// The same of a pass.
-fn ask_free<C: Ledger, W: Ledger, R: Wait>(
+fn ask_free<R: Wait>(
     rt: &R,
     alloc: Global,
-    office: &Office<C, W>,
-    pass: Pass<C, W>,
+    office: &Office,
+    pass: Pass,
     cmd: Cmd,
-) -> Asked<Pass<C, W>, Placed<C, W>>
+) -> Asked<Pass, Placed>
     requires office { pass.table ≡ office.now.table }
     ensures same { IsSamePass pass (who_is result.caller) }
     ensures answered { (reply : Reply) → result.answer ≡ Some (Ok reply) → Called pass cmd reply (who_is result.caller) }
@@ -76,12 +75,7 @@ fn ask_free<C: Ledger, W: Ledger, R: Wait>(
 }
 
 /// A pass asks for an arena.
-fn ask_join<C: Ledger, W: Ledger, R: Wait>(
-    rt: &R,
-    alloc: Global,
-    office: &Office<C, W>,
-    pass: Pass<C, W>,
-) -> Asked<Pass<C, W>, Placed<C, W>>
+fn ask_join<R: Wait>(rt: &R, alloc: Global, office: &Office, pass: Pass) -> Asked<Pass, Placed>
     requires office { pass.table ≡ office.now.table }
     ensures same { IsSamePass pass (who_is result.caller) }
     ensures answered { (reply : Reply) → result.answer ≡ Some (Ok reply) → Called pass Cmd.Join reply (who_is result.caller) }
@@ -105,13 +99,13 @@ fn ask_join<C: Ledger, W: Ledger, R: Wait>(
 }
 
 /// The same of a placed worker.
-fn ask_working<C: Ledger, W: Ledger, R: Wait>(
+fn ask_working<R: Wait>(
     rt: &R,
     alloc: Global,
-    office: &Office<C, W>,
-    worker: Placed<C, W>,
+    office: &Office,
+    worker: Placed,
     cmd: Cmd,
-) -> Asked<Pass<C, W>, Placed<C, W>>
+) -> Asked<Pass, Placed>
     requires office { worker.who.table ≡ office.now.table }
     ensures same { IsSamePass worker.who (who_is result.caller) }
     ensures answered { (reply : Reply) → result.answer ≡ Some (Ok reply) → Called worker.who cmd reply (who_is result.caller) }
@@ -139,12 +133,7 @@ fn ask_working<C: Ledger, W: Ledger, R: Wait>(
 }
 
 /// A placed worker asks whether its arena still wants it.
-fn ask_stay<C: Ledger, W: Ledger, R: Wait>(
-    rt: &R,
-    alloc: Global,
-    office: &Office<C, W>,
-    worker: Placed<C, W>,
-) -> Asked<Pass<C, W>, Placed<C, W>>
+fn ask_stay<R: Wait>(rt: &R, alloc: Global, office: &Office, worker: Placed) -> Asked<Pass, Placed>
     requires office { worker.who.table ≡ office.now.table }
     ensures same { IsSamePass worker.who (who_is result.caller) }
     ensures answered { (reply : Reply) → result.answer ≡ Some (Ok reply) → Called worker.who Cmd.Stay reply (who_is result.caller) }
@@ -169,11 +158,7 @@ fn ask_stay<C: Ledger, W: Ledger, R: Wait>(
 }
 
 /// A placed worker leaves.
-fn ask_leave<C: Ledger, W: Ledger, R: Wait>(
-    rt: &R,
-    office: &Office<C, W>,
-    worker: Placed<C, W>,
-) -> Asked<Pass<C, W>, Placed<C, W>>
+fn ask_leave<R: Wait>(rt: &R, office: &Office, worker: Placed) -> Asked<Pass, Placed>
     requires office { worker.who.table ≡ office.now.table }
     ensures same { IsSamePass worker.who (who_is result.caller) }
     ensures answered { (reply : Reply) → result.answer ≡ Some (Ok reply) → Called worker.who Cmd.Leave reply (who_is result.caller) }

@@ -6,7 +6,6 @@ ghost use Rattle.office_crew.specs.Callers.{who_is};
 use market_lock::{Office, Pass, Placed};
 use std::alloc::Global;
 use std::sync::Wait;
-use std::sync::ledger::Ledger;
 
 /// A pass `P`, or the worker `Q` that it became.
 pub enum Caller<P, Q> {
@@ -25,13 +24,13 @@ pub trait Task {
     ghost lets: { Self → Bool → Type 0 } = { λ _ _. Unit {0} };
 
     /// Works until it is done. The caller that comes back is the one that was given, a pass or placed.
-    fn work<C: Ledger, W: Ledger, R: Wait>(
+    fn work<R: Wait>(
         &mut self,
         rt: &R,
         alloc: Global,
-        office: &Office<C, W>,
-        caller: Caller<Pass<C, W>, Placed<C, W>>,
-    ) -> Caller<Pass<C, W>, Placed<C, W>>
+        office: &Office,
+        caller: Caller<Pass, Placed>,
+    ) -> Caller<Pass, Placed>
         requires office { (who_is caller).table ≡ office.now.table }
         ensures same { IsSamePass (who_is caller) (who_is result) }
         ensures worked { worked self.old (who_is caller) self.new (who_is result) };

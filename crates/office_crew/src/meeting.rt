@@ -19,7 +19,6 @@ use market_types::{LastNumber, OpenFault};
 use std::alloc::{AllocError, Global};
 use std::marker::Brand;
 use std::sync::Wait;
-use std::sync::ledger::{Blank, Ledger};
 use std::thread::Threads;
 
 /// What an office is opened with, as `Office::on_terms` takes it. It has a seat for each task.
@@ -58,10 +57,10 @@ pub struct Unmet<O, T> {
 }
 
 /// Memory ran out before anybody worked: all passes go back.
-fn sent_home<C: Ledger, W: Ledger, O, T>(
+fn sent_home<O, T>(
     alloc: Global,
-    office: Office<C, W>,
-    passes: Vec<Pass<C, W>>,
+    office: Office,
+    passes: Vec<Pass>,
     openers: Vec<O>,
     tasks: Vec<T>,
 ) -> Unmet<O, T>
@@ -79,10 +78,10 @@ fn sent_home<C: Ledger, W: Ledger, O, T>(
 }
 
 /// A pass with each task, the last ones. The last seat's comes first.
-fn seated<C: Ledger, W: Ledger, B: Room, T: Task>(
-    passes: &mut Vec<Pass<C, W>>,
+fn seated<B: Room, T: Task>(
+    passes: &mut Vec<Pass>,
     tasks: &mut Vec<T>,
-    members: &mut Vec<Member<C, W, B, T>>,
+    members: &mut Vec<Member<B, T>>,
 )
     requires own { All (λ (p : OfPass). p.table ≡ B.table) passes.old.items }
     requires enough { vec_len tasks.old ≤ vec_len passes.old }
@@ -104,10 +103,10 @@ fn seated<C: Ledger, W: Ledger, B: Room, T: Task>(
 }
 
 /// Each member's caller and task, the last first. Those that are placed stand apart.
-fn gathered<C: Ledger, W: Ledger, B: Room, T: Task>(
-    members: Vec<Member<C, W, B, T>>,
-    passes: &mut Vec<Pass<C, W>>,
-    placed: &mut Vec<Placed<C, W>>,
+fn gathered<B: Room, T: Task>(
+    members: Vec<Member<B, T>>,
+    passes: &mut Vec<Pass>,
+    placed: &mut Vec<Placed>,
     tasks: &mut Vec<T>,
 )
     requires own { All (λ (p : OfPass). p.table ≡ B.table) passes.old.items }
@@ -170,20 +169,13 @@ fn make_rooms<X, Y, Z>(
 }
 
 /// The openers work one after the other, and where they let them the tasks after them.
-fn work_in_order<
-    C: Ledger + Send + Sync,
-    W: Ledger + Send + Sync,
-    B: Room + Send,
-    O: Task + Send,
-    T: Task + Send,
-    R: Threads + Wait + Sync,
->(
+fn work_in_order<B: Room + Send, O: Task + Send, T: Task + Send, R: Threads + Wait + Sync>(
     rt: &R,
     alloc: Global,
-    office: &Office<C, W>,
-    first: Vec<Member<C, W, B, O>>,
-    others: Vec<Member<C, W, B, T>>,
-) -> (Vec<Member<C, W, B, O>>, Vec<Member<C, W, B, T>>)
+    office: &Office,
+    first: Vec<Member<B, O>>,
+    others: Vec<Member<B, T>>,
+) -> (Vec<Member<B, O>>, Vec<Member<B, T>>)
     requires { office.now.table ≡ B.table }
     ensures all { (vec_len result.0 ≡ vec_len first) × (vec_len result.1 ≡ vec_len others) }
     ensures first { AllZip (HasDone O.worked) first.items result.0.items }
@@ -197,18 +189,11 @@ fn work_in_order<
 }
 
 /// The callers of an open office work, and it is closed.
-pub(crate) fn met<
-    C: Ledger + Send + Sync,
-    W: Ledger + Send + Sync,
-    B: Room + Send,
-    O: Task + Send,
-    T: Task + Send,
-    R: Threads + Wait + Sync,
->(
+pub(crate) fn met<B: Room + Send, O: Task + Send, T: Task + Send, R: Threads + Wait + Sync>(
     rt: &R,
     alloc: Global,
-    office: Office<C, W>,
-    passes: Vec<Pass<C, W>>,
+    office: Office,
+    passes: Vec<Pass>,
     openers: Vec<O>,
     tasks: Vec<T>,
 ) -> Result<Meeting<O, T>, Unmet<O, T>>
@@ -227,11 +212,7 @@ pub(crate) fn met<
     ensures memory { IfErr result (λ unmet. unmet.fault ≡ OpenFault.Memory) }
     ensures unmet { IfErr result (λ unmet. (unmet.openers ≡ openers) × (unmet.tasks ≡ tasks)) }
 {
-    let rooms = make_rooms::<Member<C, W, B, O>, Member<C, W, B, T>, Placed<C, W>>(
-        alloc,
-        openers.len(),
-        tasks.len(),
-    );
+    let rooms = make_rooms::<Member<B, O>, Member<B, T>, Placed>(alloc, openers.len(), tasks.len());
     let Ok(
         Rooms {
             mut first,
@@ -259,56 +240,6 @@ pub(crate) fn met<
     })
 }
 
-/// An office of its own for the openers and the tasks.
-fn opened<
-    C: Ledger + Send + Sync,
-    W: Ledger + Send + Sync,
-    O: Task + Send,
-    T: Task + Send,
-    R: Threads + Wait + Sync,
->(
-    rt: &R,
-    alloc: Global,
-    terms: MeetingTerms,
-    openers: Vec<O>,
-    tasks: Vec<T>,
-    calls: Blank,
-    workers: Blank,
-) -> Result<Meeting<O, T>, Unmet<O, T>>
-    requires calls { (calls.name ≡ C.name) × (calls.parts ≡ C.parts) × (C.parts ≡ vec_len openers + vec_len tasks) }
-    requires workers { (workers.name ≡ W.name) × (workers.parts ≡ W.parts) × (W.parts ≡ vec_len openers + vec_len tasks) }
-    requires few { vec_len openers + vec_len tasks ≤ 64 }
-    ensures headline { IfOk result (λ meeting. IsGivenBy (opening_to terms.base terms.hard (vec_len openers + vec_len tasks) terms.levels terms.last) meeting.closed.chronicle) }
-    ensures whole { IfOk result (λ meeting. meeting.closed.chronicle ≡ chronicle_cut (terms_of terms (vec_len openers + vec_len tasks)) meeting.closed.chronicle.log meeting.closed.chronicle.from) }
-    ensures calls { IfOk result (λ meeting. meeting.closed.calls ≡ length meeting.closed.chronicle.log) }
-    ensures workers { IfOk result (λ meeting. meeting.closed.workers ≡ seats_placed (market_of meeting.closed.chronicle)) }
-    ensures tasks { IfOk result (λ meeting. (vec_len meeting.openers ≡ vec_len openers) × (vec_len meeting.tasks ≡ vec_len tasks)) }
-    ensures opened { IfOk result (λ meeting. HaveWorked O.worked (terms_of terms (vec_len openers + vec_len tasks)) meeting.closed.chronicle.log 0 openers.items meeting.openers.items) }
-    ensures worked { IfOk result (λ meeting. HasFollowed O.lets meeting.openers.items (HaveWorked T.worked (terms_of terms (vec_len openers + vec_len tasks)) meeting.closed.chronicle.log (vec_len openers) tasks.items meeting.tasks.items) (meeting.tasks.items ≡ tasks.items)) }
-    ensures refused { IfErr result (λ unmet. (unmet.fault ≡ OpenFault.Memory) ⊎ (opened_by (terms_of terms (vec_len openers + vec_len tasks)) ≡ Err unmet.fault)) }
-    ensures unmet { IfErr result (λ unmet. (unmet.openers ≡ openers) × (unmet.tasks ≡ tasks)) }
-{
-    let terms = Terms {
-        base: terms.base,
-        hard: terms.hard,
-        seats: (openers.len() + tasks.len()) as u8,
-        places: terms.places,
-        levels: terms.levels,
-        last: terms.last,
-        keeping: terms.keeping,
-    };
-    match Office::<C, W>::on_terms(alloc, terms, calls, workers) {
-        Err(fault) => Err(Unmet {
-            fault,
-            openers,
-            tasks,
-        }),
-        Ok((office, passes)) => {
-            met::<C, W, Brand, O, T, R>(rt, alloc, office, passes, openers, tasks)
-        }
-    }
-}
-
 /// Opens an office with a seat for each opener and then each task, and lets each work once with its seat's pass: the openers one
 /// after the other, in the calling thread; when all have ended, and let others work, the tasks at the same time, each in a thread
 /// of its own, of which the calling thread is one. Where no thread can be made they work in the calling thread. It waits for all
@@ -334,14 +265,21 @@ pub fn meet<O: Task + Send, T: Task + Send, R: Threads + Wait + Sync>(
     ensures refused { IfErr result (λ unmet. (unmet.fault ≡ OpenFault.Memory) ⊎ (opened_by (terms_of terms (vec_len openers + vec_len tasks)) ≡ Err unmet.fault)) }
     ensures unmet { IfErr result (λ unmet. (unmet.openers ≡ openers) × (unmet.tasks ≡ tasks)) }
 {
-    let seats = (openers.len() + tasks.len()) as u64;
-    opened::<Brand, Brand, O, T, R>(
-        rt,
-        alloc,
-        terms,
-        openers,
-        tasks,
-        Blank::new(seats),
-        Blank::new(seats),
-    )
+    let terms = Terms {
+        base: terms.base,
+        hard: terms.hard,
+        seats: (openers.len() + tasks.len()) as u8,
+        places: terms.places,
+        levels: terms.levels,
+        last: terms.last,
+        keeping: terms.keeping,
+    };
+    match Office::on_terms(alloc, terms) {
+        Err(fault) => Err(Unmet {
+            fault,
+            openers,
+            tasks,
+        }),
+        Ok((office, passes)) => { met::<Brand, O, T, R>(rt, alloc, office, passes, openers, tasks) }
+    }
 }

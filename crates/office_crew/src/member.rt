@@ -10,7 +10,6 @@ use market_lock::{Office, Pass, Placed};
 use std::alloc::Global;
 use std::marker::{Brand, Model, PhantomData};
 use std::sync::Wait;
-use std::sync::ledger::Ledger;
 use std::thread::Threads;
 use std::{mem, thread};
 
@@ -28,13 +27,13 @@ impl Room for Brand {
 }
 
 /// A caller of the room's office and its task. The caller is away only while its task has it.
-pub(crate) struct Member<C: Ledger, W: Ledger, B: Room, T> {
-    caller: Option<Caller<Pass<C, W>, Placed<C, W>>>,
+pub(crate) struct Member<B: Room, T> {
+    caller: Option<Caller<Pass, Placed>>,
     task: T,
     room: PhantomData<B>,
 }
 
-impl<C: Ledger, W: Ledger, B: Room, T> Model for Member<C, W, B, T> {
+impl<B: Room, T> Model for Member<B, T> {
     ghost use Rattle.std.specs.Prelude.{◌≡◌, IsSomeAnd};
     ghost use Rattle.office_crew.specs.Callers.{who_is};
     ghost use Rattle.office_crew.specs.Members.{OfMember};
@@ -46,9 +45,9 @@ impl<C: Ledger, W: Ledger, B: Room, T> Model for Member<C, W, B, T> {
     ghost invariant = { λ m. IsSomeAnd m.caller (λ c. (who_is c).table ≡ B.table) };
 }
 
-impl<C: Ledger, W: Ledger, B: Room, T: Task> Member<C, W, B, T> {
+impl<B: Room, T: Task> Member<B, T> {
     /// A pass with its task.
-    pub(crate) fn new(pass: Pass<C, W>, task: T) -> Self
+    pub(crate) fn new(pass: Pass, task: T) -> Self
         requires { pass.table ≡ B.table }
         ensures caller { result.caller ≡ Some (Free pass) }
         ensures task { result.task ≡ task }
@@ -61,7 +60,7 @@ impl<C: Ledger, W: Ledger, B: Room, T: Task> Member<C, W, B, T> {
     }
 
     /// The task works.
-    fn work<R: Wait>(&mut self, rt: &R, alloc: Global, office: &Office<C, W>)
+    fn work<R: Wait>(&mut self, rt: &R, alloc: Global, office: &Office)
         requires { office.now.table ≡ B.table }
         ensures { HasDone T.worked self.old self.new }
     {
@@ -80,7 +79,7 @@ impl<C: Ledger, W: Ledger, B: Room, T: Task> Member<C, W, B, T> {
     }
 
     /// The caller, and the task.
-    pub(crate) fn into_parts(self) -> (Caller<Pass<C, W>, Placed<C, W>>, T)
+    pub(crate) fn into_parts(self) -> (Caller<Pass, Placed>, T)
         ensures own { (who_is result.0).table ≡ B.table }
         ensures caller { self.caller ≡ Some result.0 }
         ensures task { self.task ≡ result.1 }
@@ -96,11 +95,11 @@ impl<C: Ledger, W: Ledger, B: Room, T: Task> Member<C, W, B, T> {
 }
 
 /// A member's task works.
-fn work_one<C: Ledger, W: Ledger, B: Room, T: Task, R: Wait>(
+fn work_one<B: Room, T: Task, R: Wait>(
     rt: &R,
     alloc: Global,
-    office: &Office<C, W>,
-    member: &mut Member<C, W, B, T>,
+    office: &Office,
+    member: &mut Member<B, T>,
 )
     requires { office.now.table ≡ B.table }
     ensures { HasDone T.worked member.old member.new }
@@ -109,9 +108,7 @@ fn work_one<C: Ledger, W: Ledger, B: Room, T: Task, R: Wait>(
 }
 
 /// Whether all of them let others work.
-pub(crate) fn let_others_work<C: Ledger, W: Ledger, B: Room, T: Task>(
-    members: &[Member<C, W, B, T>],
-) -> bool
+pub(crate) fn let_others_work<B: Room, T: Task>(members: &[Member<B, T>]) -> bool
     ensures all { result ≡ true → All (λ (m : OfMember T). T.lets m.task true) members.now }
     ensures one { result ≡ false → (m : OfMember T) × Contains members.now m × T.lets m.task false }
 {
@@ -124,11 +121,11 @@ pub(crate) fn let_others_work<C: Ledger, W: Ledger, B: Room, T: Task>(
 }
 
 /// Each works, when the one before has ended its work.
-fn work_slice_in_turn<C: Ledger, W: Ledger, B: Room, T: Task, R: Wait>(
+fn work_slice_in_turn<B: Room, T: Task, R: Wait>(
     rt: &R,
     alloc: Global,
-    office: &Office<C, W>,
-    members: &mut [Member<C, W, B, T>],
+    office: &Office,
+    members: &mut [Member<B, T>],
 )
     requires { office.now.table ≡ B.table }
     ensures { AllZip (HasDone T.worked) members.old members.new }
@@ -139,12 +136,12 @@ fn work_slice_in_turn<C: Ledger, W: Ledger, B: Room, T: Task, R: Wait>(
 }
 
 /// The same of a vector of them.
-pub(crate) fn work_in_turn<C: Ledger, W: Ledger, B: Room, T: Task, R: Wait>(
+pub(crate) fn work_in_turn<B: Room, T: Task, R: Wait>(
     rt: &R,
     alloc: Global,
-    office: &Office<C, W>,
-    members: Vec<Member<C, W, B, T>>,
-) -> Vec<Member<C, W, B, T>>
+    office: &Office,
+    members: Vec<Member<B, T>>,
+) -> Vec<Member<B, T>>
     requires { office.now.table ≡ B.table }
     ensures all { vec_len result ≡ vec_len members }
     ensures done { AllZip (HasDone T.worked) members.items result.items }
@@ -155,18 +152,17 @@ pub(crate) fn work_in_turn<C: Ledger, W: Ledger, B: Room, T: Task, R: Wait>(
 }
 
 /// All work at the same time, each in a thread of its own, of which this one is one; where none can be made, one after the other.
-fn work_slice_at_once<
-    C: Ledger + Send + Sync,
-    W: Ledger + Send + Sync,
-    B: Room + Send,
-    T: Task + Send,
-    R: Threads + Wait + Sync,
->(rt: &R, alloc: Global, office: &Office<C, W>, members: &mut [Member<C, W, B, T>])
+fn work_slice_at_once<B: Room + Send, T: Task + Send, R: Threads + Wait + Sync>(
+    rt: &R,
+    alloc: Global,
+    office: &Office,
+    members: &mut [Member<B, T>],
+)
     requires { office.now.table ≡ B.table }
     ensures { AllZip (HasDone T.worked) members.old members.new }
 {
     let threads = members.len().max(1);
-    let work = |_: usize, member: &mut Member<C, W, B, T>|
+    let work = |_: usize, member: &mut Member<B, T>|
         requires { office.now.table ≡ B.table }
         ensures { HasDone T.worked member.entry.now member.exit.now }
     { work_one(rt, alloc, office, member) };
@@ -174,18 +170,12 @@ fn work_slice_at_once<
 }
 
 /// The same of a vector of them.
-fn work_vec_at_once<
-    C: Ledger + Send + Sync,
-    W: Ledger + Send + Sync,
-    B: Room + Send,
-    T: Task + Send,
-    R: Threads + Wait + Sync,
->(
+fn work_vec_at_once<B: Room + Send, T: Task + Send, R: Threads + Wait + Sync>(
     rt: &R,
     alloc: Global,
-    office: &Office<C, W>,
-    members: Vec<Member<C, W, B, T>>,
-) -> Vec<Member<C, W, B, T>>
+    office: &Office,
+    members: Vec<Member<B, T>>,
+) -> Vec<Member<B, T>>
     requires { office.now.table ≡ B.table }
     ensures all { vec_len result ≡ vec_len members }
     ensures done { AllZip (HasDone T.worked) members.items result.items }
@@ -197,18 +187,12 @@ fn work_vec_at_once<
 
 /// The same. Where no thread can be made, std's call goes from the last place to the first: so they stand the other way round
 /// meanwhile, and work in the order of their seats.
-pub(crate) fn work_at_once<
-    C: Ledger + Send + Sync,
-    W: Ledger + Send + Sync,
-    B: Room + Send,
-    T: Task + Send,
-    R: Threads + Wait + Sync,
->(
+pub(crate) fn work_at_once<B: Room + Send, T: Task + Send, R: Threads + Wait + Sync>(
     rt: &R,
     alloc: Global,
-    office: &Office<C, W>,
-    members: Vec<Member<C, W, B, T>>,
-) -> Vec<Member<C, W, B, T>>
+    office: &Office,
+    members: Vec<Member<B, T>>,
+) -> Vec<Member<B, T>>
     requires { office.now.table ≡ B.table }
     ensures all { vec_len result ≡ vec_len members }
     ensures done { AllZip (HasDone T.worked) members.items result.items }

@@ -18,16 +18,15 @@ use market_types::{Cmd, Entry, Reply};
 use std::alloc::Global;
 use std::marker::Model;
 use std::sync::Wait;
-use std::sync::ledger::Ledger;
 
 /// A caller that writes an office's history down. It can't be dropped, as its pass can't. Contracts see the pass, and all that the
 /// scribe was handed: its parts one after the other, which begin the history that the pass has seen. It stores none of it.
-pub struct Scribe<C: Ledger, W: Ledger> {
-    pass: Pass<C, W>,
+pub struct Scribe {
+    pass: Pass,
     next: u64,
 }
 
-impl<C: Ledger, W: Ledger> Model for Scribe<C, W> {
+impl Model for Scribe {
     ghost use Rattle.std.specs.Prelude.{◌≤◌, length, take};
     ghost use Rattle.office_crew.specs.Written.{OfScribe};
 
@@ -38,9 +37,9 @@ impl<C: Ledger, W: Ledger> Model for Scribe<C, W> {
     ghost invariant = { λ s. s.next ≤ length s.pass.seen };
 }
 
-impl<C: Ledger, W: Ledger> Scribe<C, W> {
+impl Scribe {
     /// A scribe that has written nothing: its first part is to begin with the first entry of the history.
-    pub fn new(pass: Pass<C, W>) -> Self
+    pub fn new(pass: Pass) -> Self
         ensures pass { result.pass ≡ pass }
         ensures nothing { result.written ≡ [] }
     {
@@ -53,7 +52,7 @@ impl<C: Ledger, W: Ledger> Scribe<C, W> {
     pub fn cut<R: Wait>(
         &mut self,
         rt: &R,
-        office: &Office<C, W>,
+        office: &Office,
         spare: Vec<Entry>,
     ) -> Result<Part, Missed>
         requires office { self.old.pass.table ≡ office.now.table }
@@ -85,7 +84,7 @@ impl<C: Ledger, W: Ledger> Scribe<C, W> {
         &mut self,
         rt: &R,
         alloc: Global,
-        office: &Office<C, W>,
+        office: &Office,
         cmd: Cmd,
     ) -> Result<Reply, CallFault>
         requires office { self.old.pass.table ≡ office.now.table }
@@ -108,7 +107,7 @@ impl<C: Ledger, W: Ledger> Scribe<C, W> {
     }
 
     /// The pass, with which an office can be closed. What was written is a beginning of what it has seen.
-    pub fn into_pass(self) -> Pass<C, W>
+    pub fn into_pass(self) -> Pass
         ensures exact { result ≡ self.pass }
         ensures front { IsPrefix self.written result.seen }
     {

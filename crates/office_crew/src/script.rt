@@ -11,7 +11,6 @@ use market_types::{Cmd, Reply, push_reply};
 use std::alloc::{AllocError, Global};
 use std::marker::Model;
 use std::sync::Wait;
-use std::sync::ledger::Ledger;
 
 /// Room for the answers of some dozen commands.
 const USUAL_LENGTH: usize = 1_024;
@@ -67,14 +66,14 @@ impl<'a> Script<'a> {
     }
 
     /// Gives a command, and says whether memory ran out.
-    fn give<C: Ledger, W: Ledger, R: Wait>(
+    fn give<R: Wait>(
         &mut self,
         rt: &R,
         alloc: Global,
-        office: &Office<C, W>,
-        caller: Caller<Pass<C, W>, Placed<C, W>>,
+        office: &Office,
+        caller: Caller<Pass, Placed>,
         cmd: Cmd,
-    ) -> (Caller<Pass<C, W>, Placed<C, W>>, bool)
+    ) -> (Caller<Pass, Placed>, bool)
         requires office { (who_is caller).table ≡ office.now.table }
         ensures same { IsSamePass (who_is caller) (who_is result.0) }
     {
@@ -86,13 +85,13 @@ impl<'a> Script<'a> {
 }
 
 impl Task for Script<'_> {
-    fn work<C: Ledger, W: Ledger, R: Wait>(
+    fn work<R: Wait>(
         &mut self,
         rt: &R,
         alloc: Global,
-        office: &Office<C, W>,
-        caller: Caller<Pass<C, W>, Placed<C, W>>,
-    ) -> Caller<Pass<C, W>, Placed<C, W>> {
+        office: &Office,
+        caller: Caller<Pass, Placed>,
+    ) -> Caller<Pass, Placed> {
         let mut caller = caller;
         for cmd in self.cmds {
             let (next, is_missed) = self.give(rt, alloc, office, caller, *cmd);

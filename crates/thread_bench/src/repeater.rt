@@ -10,7 +10,6 @@ use market_types::{ArenaId, Cmd, Entry, Level};
 use office_crew::{Asked, Caller, Task, ask};
 use std::alloc::Global;
 use std::sync::Wait;
-use std::sync::ledger::Ledger;
 
 /// How many seats an office has at most: a vector that entries are cut into has room for each.
 const MOST_SEATS: usize = 64;
@@ -110,13 +109,13 @@ impl Repeater {
     }
 
     /// Opens the arenas, each of which asks for three workers.
-    fn open<C: Ledger, W: Ledger, R: Wait>(
+    fn open<R: Wait>(
         &self,
         rt: &R,
         alloc: Global,
-        office: &Office<C, W>,
-        caller: Caller<Pass<C, W>, Placed<C, W>>,
-    ) -> Caller<Pass<C, W>, Placed<C, W>>
+        office: &Office,
+        caller: Caller<Pass, Placed>,
+    ) -> Caller<Pass, Placed>
         requires office { (who_is caller).table ≡ office.now.table }
         ensures same { IsSamePass (who_is caller) (who_is result) }
     {
@@ -132,13 +131,13 @@ impl Repeater {
 }
 
 /// Gives a command.
-fn give<C: Ledger, W: Ledger, R: Wait>(
+fn give<R: Wait>(
     rt: &R,
     alloc: Global,
-    office: &Office<C, W>,
-    caller: Caller<Pass<C, W>, Placed<C, W>>,
+    office: &Office,
+    caller: Caller<Pass, Placed>,
     cmd: Cmd,
-) -> Caller<Pass<C, W>, Placed<C, W>>
+) -> Caller<Pass, Placed>
     requires office { (who_is caller).table ≡ office.now.table }
     ensures same { IsSamePass (who_is caller) (who_is result) }
 {
@@ -147,12 +146,7 @@ fn give<C: Ledger, W: Ledger, R: Wait>(
 }
 
 /// Joins, stays and leaves.
-fn visit<C: Ledger, W: Ledger, R: Wait>(
-    rt: &R,
-    alloc: Global,
-    office: &Office<C, W>,
-    pass: Pass<C, W>,
-) -> Pass<C, W>
+fn visit<R: Wait>(rt: &R, alloc: Global, office: &Office, pass: Pass) -> Pass
     requires office { pass.table ≡ office.now.table }
     ensures same { IsSamePass pass result }
 {
@@ -168,11 +162,11 @@ fn visit<C: Ledger, W: Ledger, R: Wait>(
 }
 
 /// Cuts the entries out. What comes back is room for the next ones.
-fn cut_out<C: Ledger, W: Ledger, R: Wait>(
+fn cut_out<R: Wait>(
     rt: &R,
     alloc: Global,
-    office: &Office<C, W>,
-    pass: &mut Pass<C, W>,
+    office: &Office,
+    pass: &mut Pass,
     spare: Vec<Entry>,
 ) -> Vec<Entry>
     requires office { pass.old.table ≡ office.now.table }
@@ -194,13 +188,7 @@ impl Repeater {
     }
 
     /// Takes all turns that move no seat.
-    fn call_all<C: Ledger, W: Ledger, R: Wait>(
-        &self,
-        rt: &R,
-        alloc: Global,
-        office: &Office<C, W>,
-        pass: Pass<C, W>,
-    ) -> Pass<C, W>
+    fn call_all<R: Wait>(&self, rt: &R, alloc: Global, office: &Office, pass: Pass) -> Pass
         requires office { pass.table ≡ office.now.table }
         ensures same { IsSamePass pass result }
     {
@@ -216,13 +204,7 @@ impl Repeater {
     }
 
     /// Takes all turns of the lock alone.
-    fn lock_all<C: Ledger, W: Ledger, R: Wait>(
-        &self,
-        rt: &R,
-        alloc: Global,
-        office: &Office<C, W>,
-        pass: Pass<C, W>,
-    ) -> Pass<C, W>
+    fn lock_all<R: Wait>(&self, rt: &R, alloc: Global, office: &Office, pass: Pass) -> Pass
         requires office { pass.table ≡ office.now.table }
         ensures same { IsSamePass pass result }
     {
@@ -235,13 +217,7 @@ impl Repeater {
     }
 
     /// Takes all turns that move a seat.
-    fn visit_all<C: Ledger, W: Ledger, R: Wait>(
-        &self,
-        rt: &R,
-        alloc: Global,
-        office: &Office<C, W>,
-        pass: Pass<C, W>,
-    ) -> Pass<C, W>
+    fn visit_all<R: Wait>(&self, rt: &R, alloc: Global, office: &Office, pass: Pass) -> Pass
         requires office { pass.table ≡ office.now.table }
         ensures same { IsSamePass pass result }
     {
@@ -255,13 +231,7 @@ impl Repeater {
 
 impl Repeater {
     /// Takes all turns.
-    fn take_all<C: Ledger, W: Ledger, R: Wait>(
-        &self,
-        rt: &R,
-        alloc: Global,
-        office: &Office<C, W>,
-        pass: Pass<C, W>,
-    ) -> Pass<C, W>
+    fn take_all<R: Wait>(&self, rt: &R, alloc: Global, office: &Office, pass: Pass) -> Pass
         requires office { pass.table ≡ office.now.table }
         ensures same { IsSamePass pass result }
     {
@@ -274,13 +244,13 @@ impl Repeater {
 }
 
 impl Task for Repeater {
-    fn work<C: Ledger, W: Ledger, R: Wait>(
+    fn work<R: Wait>(
         &mut self,
         rt: &R,
         alloc: Global,
-        office: &Office<C, W>,
-        caller: Caller<Pass<C, W>, Placed<C, W>>,
-    ) -> Caller<Pass<C, W>, Placed<C, W>> {
+        office: &Office,
+        caller: Caller<Pass, Placed>,
+    ) -> Caller<Pass, Placed> {
         let mut caller = caller;
         if self.opens {
             caller = self.open(rt, alloc, office, caller);

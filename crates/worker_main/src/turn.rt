@@ -13,7 +13,6 @@ use market_lock::{Office, Pass, Placed, Stayed};
 use market_types::Cmd;
 use std::alloc::Global;
 use std::sync::Wait;
-use std::sync::ledger::Ledger;
 
 /// What came of looking for a job.
 pub(crate) enum Looked {
@@ -64,13 +63,13 @@ fn less_by(number: u16) -> i32
 
 /// Gives the station's request back, whatever the market says to that, and leaves its arena. `Some` tells that the office did
 /// not answer.
-fn give_back<C: Ledger, W: Ledger, R: Wait>(
+fn give_back<R: Wait>(
     rt: &R,
     alloc: Global,
-    office: &Office<C, W>,
-    placed: Placed<C, W>,
+    office: &Office,
+    placed: Placed,
     station: &Station,
-) -> (Pass<C, W>, Option<Ended>)
+) -> (Pass, Option<Ended>)
     requires office { placed.who.table ≡ office.now.table }
     requires arena { placed.arena ≡ station.now.arena }
     ensures same { HasGoneOn placed.who result.0 }
@@ -92,17 +91,17 @@ fn give_back<C: Ledger, W: Ledger, R: Wait>(
 
 /// Takes the station's jobs and runs them, until the worker is recalled or there is none left: then its request is given back.
 /// `Some` tells why the turn was broken off. The worker has left in every case.
-pub(crate) fn take_turn<C: Ledger, W: Ledger, G: Gate, R: Wait>(
+pub(crate) fn take_turn<G: Gate, R: Wait>(
     rt: &R,
     alloc: Global,
-    office: &Office<C, W>,
-    placed: Placed<C, W>,
+    office: &Office,
+    placed: Placed,
     station: &Station,
     taker: &mut Taker<Job>,
     gate: &G,
     turns: u64,
     done: &mut Vec<Done>,
-) -> (Pass<C, W>, Option<Ended>)
+) -> (Pass, Option<Ended>)
     requires office { placed.who.table ≡ office.now.table }
     requires arena { placed.arena ≡ station.now.arena }
     requires queue { taker.old.queue ≡ station.now.queue.id }

@@ -19,21 +19,20 @@ use job_queue::Taker;
 use market_lock::{Joined, Office, Pass};
 use std::alloc::Global;
 use std::sync::Wait;
-use std::sync::ledger::Ledger;
 
 /// One visit of the market: the worker joins, and where it is placed it takes a turn at that arena's station. `Some` tells why
 /// there is to be no other.
-fn visit<C: Ledger, W: Ledger, G: Gate, R: Wait>(
+fn visit<G: Gate, R: Wait>(
     rt: &R,
     alloc: Global,
-    office: &Office<C, W>,
-    pass: Pass<C, W>,
+    office: &Office,
+    pass: Pass,
     stations: &[Station],
     takers: &mut Vec<Taker<Job>>,
     gate: &G,
     turns: u64,
     done: &mut Vec<Done>,
-) -> (Pass<C, W>, Option<Ended>)
+) -> (Pass, Option<Ended>)
     requires office { pass.table ≡ office.now.table }
     requires takers { AllZip IsTakerOf stations.now takers.old.items }
     requires arenas { AllPairs HaveOwnArenas stations.now }
@@ -80,16 +79,16 @@ fn visit<C: Ledger, W: Ledger, G: Gate, R: Wait>(
 ///
 /// Jobs run, and the gate is asked, while no lock is held. What the market says to a request that is given back makes no
 /// difference. Finding an arena's station takes a step for each station.
-pub fn work<C: Ledger, W: Ledger, G: Gate, R: Wait>(
+pub fn work<G: Gate, R: Wait>(
     rt: &R,
     alloc: Global,
-    office: &Office<C, W>,
-    pass: Pass<C, W>,
+    office: &Office,
+    pass: Pass,
     stations: &[Station],
     takers: Vec<Taker<Job>>,
     gate: &G,
     turns: u64,
-) -> Report<Pass<C, W>>
+) -> Report<Pass>
     requires office { pass.table ≡ office.now.table }
     requires takers { AllZip IsTakerOf stations.now takers.items }
     requires arenas { AllPairs HaveOwnArenas stations.now }

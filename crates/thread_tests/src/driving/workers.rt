@@ -11,12 +11,10 @@ use job_queue::{Feeder, JobQueue, Taker};
 use market_lock::{Closed, Office, Pass, Placed};
 use market_types::{ArenaId, Cmd, Level, OpenFault};
 use std::alloc::Global;
-use std::marker::Brand;
 use std::process::Abort;
 use std::rt::HostRuntime;
 use std::sync::Wait;
 use std::sync::atomic::{AtomicU64, Ordering};
-use std::sync::ledger::{Blank, Ledger};
 use worker_main::{Ended, Gate, OpenGate, Report, Station, work};
 
 const FIRST: Job = Job {
@@ -259,13 +257,7 @@ fn unpair<T>(both: Vec<T>) -> (T, T)
 }
 
 /// Gives a command, once more where a growth was refused.
-fn tell<C: Ledger, W: Ledger, R: Wait + Abort>(
-    rt: &R,
-    alloc: Global,
-    office: &Office<C, W>,
-    pass: &mut Pass<C, W>,
-    cmd: &Cmd,
-)
+fn tell<R: Wait + Abort>(rt: &R, alloc: Global, office: &Office, pass: &mut Pass, cmd: &Cmd)
     requires own { pass.old.table ≡ office.now.table }
     requires still { moves_seat cmd.now ≡ false }
     ensures own { pass.new.table ≡ office.now.table }
@@ -278,12 +270,7 @@ fn tell<C: Ledger, W: Ledger, R: Wait + Abort>(
 }
 
 /// The arenas are opened, and ask for their workers.
-fn set_up<C: Ledger, W: Ledger, R: Wait + Abort>(
-    rt: &R,
-    alloc: Global,
-    office: &Office<C, W>,
-    pass: &mut Pass<C, W>,
-)
+fn set_up<R: Wait + Abort>(rt: &R, alloc: Global, office: &Office, pass: &mut Pass)
     requires { pass.old.table ≡ office.now.table }
     ensures { pass.new.table ≡ office.now.table }
 {
@@ -298,21 +285,15 @@ fn set_up<C: Ledger, W: Ledger, R: Wait + Abort>(
 }
 
 /// The pass works at two stations, and all that it works with is taken back.
-fn worked<C: Ledger, W: Ledger, G: Gate, R: Wait + Abort>(
+fn worked<G: Gate, R: Wait + Abort>(
     rt: &R,
     alloc: Global,
-    office: &Office<C, W>,
-    pass: Pass<C, W>,
+    office: &Office,
+    pass: Pass,
     first: Stocked,
     second: Stocked,
     gate: &G,
-) -> (
-    Pass<C, W>,
-    Vec<Done>,
-    Ended,
-    Result<(), Job>,
-    Result<(), Job>,
-)
+) -> (Pass, Vec<Done>, Ended, Result<(), Job>, Result<(), Job>)
     requires own { pass.table ≡ office.now.table }
     requires first { AreAllOf first.station.queue.id first.feeders.items (first.taker ∷ []) }
     requires second { AreAllOf second.station.queue.id second.feeders.items (second.taker ∷ []) }
@@ -354,20 +335,13 @@ fn worked<C: Ledger, W: Ledger, G: Gate, R: Wait + Abort>(
 }
 
 /// An office of one seat with a history of so many places, whose one worker works; none where there was no memory to open it.
-fn opened<C: Ledger, W: Ledger, G: Gate, R: Wait + Abort>(
+fn left_if_opened<G: Gate, R: Wait + Abort>(
     rt: &R,
     alloc: Global,
-    calls: Blank,
-    workers: Blank,
     places: u32,
     gate: &G,
-) -> Option<Left>
-    requires calls { (calls.name ≡ C.name) × (calls.parts ≡ C.parts) × (calls.parts ≡ 1) }
-    requires workers { (workers.name ≡ W.name) × (workers.parts ≡ W.parts) × (workers.parts ≡ 1) }
-{
-    let (office, mut passes) = match Office::<C, W>::open(
-        alloc, 8, 64, 1, places, 3, calls, workers,
-    ) {
+) -> Option<Left> {
+    let (office, mut passes) = match Office::open(alloc, 8, 64, 1, places, 3) {
         Ok(opened) => opened,
         Err(fault) => {
             same(rt, fault, OpenFault::Memory);
@@ -383,22 +357,12 @@ fn opened<C: Ledger, W: Ledger, G: Gate, R: Wait + Abort>(
     let (pass, done, ended, first, second) = worked(rt, alloc, &office, pass, first, second, gate);
     passes.push_reserved(pass);
     Some(Left {
-        closed: office.close(passes, Vec::<Placed<C, W>>::new(alloc)),
+        closed: office.close(passes, Vec::<Placed>::new(alloc)),
         done,
         ended,
         first,
         second,
     })
-}
-
-/// The same, if the office was opened.
-fn left_if_opened<G: Gate, R: Wait + Abort>(
-    rt: &R,
-    alloc: Global,
-    places: u32,
-    gate: &G,
-) -> Option<Left> {
-    opened::<Brand, Brand, G, R>(rt, alloc, Blank::new(1), Blank::new(1), places, gate)
 }
 
 fn left_by<G: Gate, R: Wait + Abort>(rt: &R, alloc: Global, places: u32, gate: &G) -> Left {
@@ -553,17 +517,8 @@ fn a_full_history_ends_the_worker(rt: HostRuntime) {
 }
 
 /// The same without stations.
-fn left_without_stations<C: Ledger, W: Ledger, R: Wait + Abort>(
-    rt: &R,
-    alloc: Global,
-    calls: Blank,
-    workers: Blank,
-) -> (Closed, Ended)
-    requires calls { (calls.name ≡ C.name) × (calls.parts ≡ C.parts) × (calls.parts ≡ 1) }
-    requires workers { (workers.name ≡ W.name) × (workers.parts ≡ W.parts) × (workers.parts ≡ 1) }
-{
-    let Ok((office, mut passes)) = Office::<C, W>::open(alloc, 8, 64, 1, 100, 3, calls, workers)
-    else {
+fn left_without_stations<R: Wait + Abort>(rt: &R, alloc: Global) -> (Closed, Ended) {
+    let Ok((office, mut passes)) = Office::open(alloc, 8, 64, 1, 100, 3) else {
         panic!(rt; "no office");
     };
     let Some(mut pass) = passes.pop() else {
@@ -579,18 +534,13 @@ fn left_without_stations<C: Ledger, W: Ledger, R: Wait + Abort>(
     takers.destroy_empty();
     holds(rt, done.is_empty());
     passes.push_reserved(pass);
-    let closed = office.close(passes, Vec::<Placed<C, W>>::new(alloc));
+    let closed = office.close(passes, Vec::<Placed>::new(alloc));
     (closed, ended)
 }
 
 #[test]
 fn an_arena_without_a_station_ends_the_worker(rt: HostRuntime) {
-    let (closed, ended) = left_without_stations::<Brand, Brand, _>(
-        &rt,
-        rt.alloc(),
-        Blank::new(1),
-        Blank::new(1),
-    );
+    let (closed, ended) = left_without_stations(&rt, rt.alloc());
     same(&rt, ended, Ended::NoStation(ArenaId::new(1)));
     same(&rt, (closed.calls, closed.workers), (6, 0));
     holds(&rt, are_empty(&closed));

@@ -11,11 +11,9 @@ use market_lock::{Attempt, Closed, Joined, Office, Pass, Placed, Stayed};
 use market_types::{ArenaId, Cmd, Entry, LastNumber, Level, OpenFault, Reply};
 use office_crew::{Caller, MeetingTerms, Task, meet};
 use std::alloc::Global;
-use std::marker::Brand;
 use std::process::Abort;
 use std::rt::HostRuntime;
 use std::sync::Wait;
-use std::sync::ledger::{Blank, Ledger};
 use std::thread;
 use std::thread::Threads;
 
@@ -30,7 +28,7 @@ const TERMS: MeetingTerms = MeetingTerms {
 };
 
 /// A pass comes back.
-fn put<C: Ledger, W: Ledger>(office: &Office<C, W>, passes: &mut Vec<Pass<C, W>>, pass: Pass<C, W>)
+fn put(office: &Office, passes: &mut Vec<Pass>, pass: Pass)
     requires room { vec_len passes.old < vec_capacity passes.old }
     requires own { pass.table ≡ office.now.table }
     requires all { All (λ (p : OfPass). p.table ≡ office.now.table) passes.old.items }
@@ -42,13 +40,7 @@ fn put<C: Ledger, W: Ledger>(office: &Office<C, W>, passes: &mut Vec<Pass<C, W>>
 }
 
 /// A call of the pass is made by one attempt.
-fn call_at_once<C: Ledger, W: Ledger>(
-    rt: &impl Abort,
-    alloc: Global,
-    office: &Office<C, W>,
-    pass: &mut Pass<C, W>,
-    cmd: Cmd,
-)
+fn call_at_once(rt: &impl Abort, alloc: Global, office: &Office, pass: &mut Pass, cmd: Cmd)
     requires own { pass.old.table ≡ office.now.table }
     requires still { moves_seat cmd ≡ false }
     ensures own { pass.new.table ≡ office.now.table }
@@ -58,12 +50,7 @@ fn call_at_once<C: Ledger, W: Ledger>(
 }
 
 /// What was called so far, two entries, is cut out by one attempt.
-fn cut_at_once<C: Ledger, W: Ledger>(
-    rt: &impl Abort,
-    office: &Office<C, W>,
-    pass: &mut Pass<C, W>,
-    spare: Vec<Entry>,
-)
+fn cut_at_once(rt: &impl Abort, office: &Office, pass: &mut Pass, spare: Vec<Entry>)
     requires own { pass.old.table ≡ office.now.table }
     ensures own { pass.new.table ≡ office.now.table }
 {
@@ -75,11 +62,7 @@ fn cut_at_once<C: Ledger, W: Ledger>(
 }
 
 /// The worker leaves by one attempt.
-fn leave_at_once<C: Ledger, W: Ledger, R: Wait + Abort>(
-    rt: &R,
-    office: &Office<C, W>,
-    worker: Placed<C, W>,
-) -> Pass<C, W>
+fn leave_at_once<R: Wait + Abort>(rt: &R, office: &Office, worker: Placed) -> Pass
     requires own { worker.who.table ≡ office.now.table }
     ensures own { result.table ≡ office.now.table }
 {
@@ -93,12 +76,7 @@ fn leave_at_once<C: Ledger, W: Ledger, R: Wait + Abort>(
 }
 
 /// The worker asks for the limit, stays and leaves, each by one attempt.
-fn stay_at_once<C: Ledger, W: Ledger, R: Wait + Abort>(
-    rt: &R,
-    alloc: Global,
-    office: &Office<C, W>,
-    worker: Placed<C, W>,
-) -> Pass<C, W>
+fn stay_at_once<R: Wait + Abort>(rt: &R, alloc: Global, office: &Office, worker: Placed) -> Pass
     requires own { worker.who.table ≡ office.now.table }
     ensures own { result.table ≡ office.now.table }
 {
@@ -117,12 +95,7 @@ fn stay_at_once<C: Ledger, W: Ledger, R: Wait + Abort>(
 }
 
 /// The pass joins by one attempt, and the worker that it becomes stays and leaves.
-fn join_at_once<C: Ledger, W: Ledger, R: Wait + Abort>(
-    rt: &R,
-    alloc: Global,
-    office: &Office<C, W>,
-    pass: Pass<C, W>,
-) -> Pass<C, W>
+fn join_at_once<R: Wait + Abort>(rt: &R, alloc: Global, office: &Office, pass: Pass) -> Pass
     requires own { pass.table ≡ office.now.table }
     ensures own { result.table ≡ office.now.table }
 {
@@ -138,12 +111,7 @@ fn join_at_once<C: Ledger, W: Ledger, R: Wait + Abort>(
 }
 
 /// One seat opens an arena that asks for a worker, and cuts these two entries out; the other visits it.
-fn each_at_once<C: Ledger, W: Ledger, R: Wait + Abort>(
-    rt: &R,
-    alloc: Global,
-    office: Office<C, W>,
-    passes: Vec<Pass<C, W>>,
-) -> Closed
+fn each_at_once<R: Wait + Abort>(rt: &R, alloc: Global, office: Office, passes: Vec<Pass>) -> Closed
     requires own { All (λ (p : OfPass). p.table ≡ office.table) passes.items }
     requires two { (vec_len passes ≡ 2) × (office.terms.seats ≡ 2) }
 {
@@ -162,26 +130,18 @@ fn each_at_once<C: Ledger, W: Ledger, R: Wait + Abort>(
     let second = join_at_once(rt, alloc, &office, second);
     put(&office, &mut passes, first);
     put(&office, &mut passes, second);
-    office.close(passes, Vec::<Placed<C, W>>::new(alloc))
+    office.close(passes, Vec::<Placed>::new(alloc))
 }
 
-fn opened_for_two<C: Ledger, W: Ledger, R: Wait + Abort>(
-    rt: &R,
-    alloc: Global,
-    calls: Blank,
-    workers: Blank,
-) -> Result<Closed, OpenFault>
-    requires calls { (calls.name ≡ C.name) × (calls.parts ≡ C.parts) × (calls.parts ≡ 2) }
-    requires workers { (workers.name ≡ W.name) × (workers.parts ≡ W.parts) × (workers.parts ≡ 2) }
-{
-    let (office, passes) = Office::<C, W>::open_in_parts(alloc, 8, 64, 2, 100, 3, calls, workers)?;
+fn opened_for_two<R: Wait + Abort>(rt: &R, alloc: Global) -> Result<Closed, OpenFault> {
+    let (office, passes) = Office::open_in_parts(alloc, 8, 64, 2, 100, 3)?;
     Ok(each_at_once(rt, alloc, office, passes))
 }
 
 /// This refuses attempts that tell of a busy desk where nobody has it.
 #[test]
 fn an_attempt_at_a_desk_that_is_at_home_is_made(rt: HostRuntime) {
-    let answer = opened_for_two::<Brand, Brand, _>(&rt, rt.alloc(), Blank::new(2), Blank::new(2));
+    let answer = opened_for_two(&rt, rt.alloc());
     let Ok(closed) = answer else {
         panic!(&rt; "no office");
     };
@@ -195,11 +155,11 @@ fn an_attempt_at_a_desk_that_is_at_home_is_made(rt: HostRuntime) {
 }
 
 /// A call by attempts, until one is made.
-fn insist<C: Ledger, W: Ledger, R: Wait>(
+fn insist<R: Wait>(
     rt: &R,
     alloc: Global,
-    office: &Office<C, W>,
-    pass: &mut Pass<C, W>,
+    office: &Office,
+    pass: &mut Pass,
     cmd: &Cmd,
 ) -> Result<Reply, CallFault>
     requires own { pass.old.table ≡ office.now.table }
@@ -216,12 +176,12 @@ fn insist<C: Ledger, W: Ledger, R: Wait>(
 }
 
 /// Joins by attempts, until one is made.
-fn insist_on_joining<C: Ledger, W: Ledger, R: Wait>(
+fn insist_on_joining<R: Wait>(
     rt: &R,
     alloc: Global,
-    office: &Office<C, W>,
-    pass: Pass<C, W>,
-) -> Joined<Pass<C, W>, Placed<C, W>>
+    office: &Office,
+    pass: Pass,
+) -> Joined<Pass, Placed>
     requires own { pass.table ≡ office.now.table }
     ensures exact { HasJoined pass result }
 {
@@ -237,12 +197,12 @@ fn insist_on_joining<C: Ledger, W: Ledger, R: Wait>(
 }
 
 /// Asks by attempts whether the worker stays, until one is made.
-fn insist_on_staying<C: Ledger, W: Ledger, R: Wait>(
+fn insist_on_staying<R: Wait>(
     rt: &R,
     alloc: Global,
-    office: &Office<C, W>,
-    worker: Placed<C, W>,
-) -> Stayed<Pass<C, W>, Placed<C, W>>
+    office: &Office,
+    worker: Placed,
+) -> Stayed<Pass, Placed>
     requires own { worker.who.table ≡ office.now.table }
     ensures exact { HasStayed worker result }
 {
@@ -258,11 +218,7 @@ fn insist_on_staying<C: Ledger, W: Ledger, R: Wait>(
 }
 
 /// Leaves by attempts, until one is made.
-fn insist_on_leaving<C: Ledger, W: Ledger, R: Wait>(
-    rt: &R,
-    office: &Office<C, W>,
-    worker: Placed<C, W>,
-) -> Pass<C, W>
+fn insist_on_leaving<R: Wait>(rt: &R, office: &Office, worker: Placed) -> Pass
     requires own { worker.who.table ≡ office.now.table }
     ensures same { IsSamePass worker.who result }
 {
@@ -291,13 +247,7 @@ impl Insistent {
     }
 
     /// Joins, stays and leaves.
-    fn visit<C: Ledger, W: Ledger, R: Wait>(
-        &mut self,
-        rt: &R,
-        alloc: Global,
-        office: &Office<C, W>,
-        pass: Pass<C, W>,
-    ) -> Pass<C, W>
+    fn visit<R: Wait>(&mut self, rt: &R, alloc: Global, office: &Office, pass: Pass) -> Pass
         requires own { pass.table ≡ office.now.table }
         ensures same { IsSamePass pass result }
     {
@@ -328,13 +278,7 @@ impl Insistent {
     }
 
     /// Opens an arena of two slots that asks for a worker, and visits.
-    fn visit_often<C: Ledger, W: Ledger, R: Wait>(
-        &mut self,
-        rt: &R,
-        alloc: Global,
-        office: &Office<C, W>,
-        pass: Pass<C, W>,
-    ) -> Pass<C, W>
+    fn visit_often<R: Wait>(&mut self, rt: &R, alloc: Global, office: &Office, pass: Pass) -> Pass
         requires own { pass.table ≡ office.now.table }
         ensures same { IsSamePass pass result }
     {
@@ -356,13 +300,13 @@ impl Insistent {
 }
 
 impl Task for Insistent {
-    fn work<C: Ledger, W: Ledger, R: Wait>(
+    fn work<R: Wait>(
         &mut self,
         rt: &R,
         alloc: Global,
-        office: &Office<C, W>,
-        caller: Caller<Pass<C, W>, Placed<C, W>>,
-    ) -> Caller<Pass<C, W>, Placed<C, W>> {
+        office: &Office,
+        caller: Caller<Pass, Placed>,
+    ) -> Caller<Pass, Placed> {
         match caller {
             Caller::Free(pass) => Caller::Free(self.visit_often(rt, alloc, office, pass)),
             Caller::Working(worker) => Caller::Working(worker),
@@ -418,13 +362,7 @@ struct Player {
 
 impl Player {
     /// Attempts until one finds the desk away.
-    fn find_it_away<C: Ledger, W: Ledger, R: Wait>(
-        &mut self,
-        rt: &R,
-        alloc: Global,
-        office: &Office<C, W>,
-        pass: &mut Pass<C, W>,
-    )
+    fn find_it_away<R: Wait>(&mut self, rt: &R, alloc: Global, office: &Office, pass: &mut Pass)
         requires own { pass.old.table ≡ office.now.table }
         ensures same { IsSamePass pass.old pass.new }
     {
@@ -441,13 +379,7 @@ impl Player {
     }
 
     /// Asks for the arena until it is there.
-    fn look_for_it<C: Ledger, W: Ledger, R: Wait>(
-        &mut self,
-        rt: &R,
-        alloc: Global,
-        office: &Office<C, W>,
-        pass: &mut Pass<C, W>,
-    )
+    fn look_for_it<R: Wait>(&mut self, rt: &R, alloc: Global, office: &Office, pass: &mut Pass)
         requires own { pass.old.table ≡ office.now.table }
         ensures same { IsSamePass pass.old pass.new }
     {
@@ -463,13 +395,7 @@ impl Player {
     }
 
     /// Plays its part.
-    fn play<C: Ledger, W: Ledger, R: Wait>(
-        &mut self,
-        rt: &R,
-        alloc: Global,
-        office: &Office<C, W>,
-        pass: &mut Pass<C, W>,
-    )
+    fn play<R: Wait>(&mut self, rt: &R, alloc: Global, office: &Office, pass: &mut Pass)
         requires own { pass.old.table ≡ office.now.table }
         ensures same { IsSamePass pass.old pass.new }
     {
@@ -486,13 +412,13 @@ impl Player {
 }
 
 impl Task for Player {
-    fn work<C: Ledger, W: Ledger, R: Wait>(
+    fn work<R: Wait>(
         &mut self,
         rt: &R,
         alloc: Global,
-        office: &Office<C, W>,
-        caller: Caller<Pass<C, W>, Placed<C, W>>,
-    ) -> Caller<Pass<C, W>, Placed<C, W>> {
+        office: &Office,
+        caller: Caller<Pass, Placed>,
+    ) -> Caller<Pass, Placed> {
         match caller {
             Caller::Free(pass) => {
                 let mut pass = pass;

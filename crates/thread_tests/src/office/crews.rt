@@ -10,7 +10,6 @@ use std::alloc::Global;
 use std::process::Abort;
 use std::rt::HostRuntime;
 use std::sync::Wait;
-use std::sync::ledger::Ledger;
 use std::thread;
 use std::thread::Threads;
 
@@ -321,13 +320,13 @@ fn a_worker_visits_while_another_comes(rt: HostRuntime) {
 struct Strict;
 
 impl Task for Strict {
-    fn work<C: Ledger, W: Ledger, R: Wait>(
+    fn work<R: Wait>(
         &mut self,
         rt: &R,
         alloc: Global,
-        office: &Office<C, W>,
-        caller: Caller<Pass<C, W>, Placed<C, W>>,
-    ) -> Caller<Pass<C, W>, Placed<C, W>> {
+        office: &Office,
+        caller: Caller<Pass, Placed>,
+    ) -> Caller<Pass, Placed> {
         let _ = rt;
         let _ = alloc;
         let _ = office;
@@ -420,13 +419,13 @@ struct Late {
 }
 
 impl Task for Late {
-    fn work<C: Ledger, W: Ledger, R: Wait>(
+    fn work<R: Wait>(
         &mut self,
         rt: &R,
         alloc: Global,
-        office: &Office<C, W>,
-        caller: Caller<Pass<C, W>, Placed<C, W>>,
-    ) -> Caller<Pass<C, W>, Placed<C, W>> {
+        office: &Office,
+        caller: Caller<Pass, Placed>,
+    ) -> Caller<Pass, Placed> {
         for _ in 0..self.yields {
             thread::yield_now();
         }

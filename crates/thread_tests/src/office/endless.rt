@@ -12,7 +12,6 @@ use std::alloc::Global;
 use std::process::Abort;
 use std::rt::HostRuntime;
 use std::sync::Wait;
-use std::sync::ledger::Ledger;
 use std::thread::Threads;
 
 /// No entry is kept.
@@ -26,13 +25,13 @@ const UNRECORDED: MeetingTerms = MeetingTerms {
 };
 
 /// Asks for the limit until it was answered so many times.
-fn ask_often<C: Ledger, W: Ledger, R: Wait>(
+fn ask_often<R: Wait>(
     rt: &R,
     alloc: Global,
-    office: &Office<C, W>,
-    caller: Caller<Pass<C, W>, Placed<C, W>>,
+    office: &Office,
+    caller: Caller<Pass, Placed>,
     times: u64,
-) -> Caller<Pass<C, W>, Placed<C, W>>
+) -> Caller<Pass, Placed>
     requires office { (who_is caller).table ≡ office.now.table }
     ensures same { IsSamePass (who_is caller) (who_is result) }
 {
@@ -59,13 +58,13 @@ fn ask_often<C: Ledger, W: Ledger, R: Wait>(
 struct Asker(u64);
 
 impl Task for Asker {
-    fn work<C: Ledger, W: Ledger, R: Wait>(
+    fn work<R: Wait>(
         &mut self,
         rt: &R,
         alloc: Global,
-        office: &Office<C, W>,
-        caller: Caller<Pass<C, W>, Placed<C, W>>,
-    ) -> Caller<Pass<C, W>, Placed<C, W>> {
+        office: &Office,
+        caller: Caller<Pass, Placed>,
+    ) -> Caller<Pass, Placed> {
         ask_often(rt, alloc, office, caller, self.0)
     }
 

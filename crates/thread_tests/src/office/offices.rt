@@ -8,19 +8,12 @@ use crate::asserts::{holds, same};
 use market_lock::{Closed, Joined, Office, Pass, Placed, Stayed};
 use market_types::{ArenaId, Cmd, Level, OpenFault};
 use std::alloc::Global;
-use std::marker::Brand;
 use std::process::Abort;
 use std::rt::HostRuntime;
 use std::sync::Wait;
-use std::sync::ledger::{Blank, Ledger};
 
 /// The worker stays where it may, and leaves then.
-fn stay_and_leave<C: Ledger, W: Ledger, R: Wait>(
-    rt: &R,
-    alloc: Global,
-    office: &Office<C, W>,
-    placed: Placed<C, W>,
-) -> Pass<C, W>
+fn stay_and_leave<R: Wait>(rt: &R, alloc: Global, office: &Office, placed: Placed) -> Pass
     requires { placed.who.table ≡ office.now.table }
     ensures { result.table ≡ office.now.table }
 {
@@ -32,7 +25,7 @@ fn stay_and_leave<C: Ledger, W: Ledger, R: Wait>(
 }
 
 /// A pass comes back.
-fn put<C: Ledger, W: Ledger>(office: &Office<C, W>, passes: &mut Vec<Pass<C, W>>, pass: Pass<C, W>)
+fn put(office: &Office, passes: &mut Vec<Pass>, pass: Pass)
     requires room { vec_len passes.old < vec_capacity passes.old }
     requires own { pass.table ≡ office.now.table }
     requires all { All (λ (p : OfPass). p.table ≡ office.now.table) passes.old.items }
@@ -44,11 +37,7 @@ fn put<C: Ledger, W: Ledger>(office: &Office<C, W>, passes: &mut Vec<Pass<C, W>>
 }
 
 /// The one worker is the only one.
-fn put_placed<C: Ledger, W: Ledger>(
-    office: &Office<C, W>,
-    placed: &mut Vec<Placed<C, W>>,
-    worker: Placed<C, W>,
-)
+fn put_placed(office: &Office, placed: &mut Vec<Placed>, worker: Placed)
     requires room { (vec_len placed.old ≡ 0) × (0 < vec_capacity placed.old) }
     requires own { worker.who.table ≡ office.now.table }
     ensures all { All (λ (p : OfPlaced). p.who.table ≡ office.now.table) placed.new.items }
@@ -58,12 +47,12 @@ fn put_placed<C: Ledger, W: Ledger>(
 }
 
 /// Seat 0 opens an arena that asks for two workers; seat 1 joins, stays and leaves; seat 2 joins.
-fn worked<C: Ledger, W: Ledger, R: Wait>(
+fn worked<R: Wait>(
     rt: &R,
     alloc: Global,
-    office: Office<C, W>,
-    passes: Vec<Pass<C, W>>,
-    placed: Vec<Placed<C, W>>,
+    office: Office,
+    passes: Vec<Pass>,
+    placed: Vec<Placed>,
 ) -> Closed
     requires own { All (λ (p : OfPass). p.table ≡ office.table) passes.items }
     requires three { (vec_len passes ≡ 3) × (office.terms.seats ≡ 3) }
@@ -106,19 +95,11 @@ fn worked<C: Ledger, W: Ledger, R: Wait>(
     }
 }
 
-fn opened<C: Ledger, W: Ledger, R: Wait>(
-    rt: &R,
-    alloc: Global,
-    calls: Blank,
-    workers: Blank,
-) -> Result<Closed, OpenFault>
-    requires calls { (calls.name ≡ C.name) × (calls.parts ≡ C.parts) × (calls.parts ≡ 3) }
-    requires workers { (workers.name ≡ W.name) × (workers.parts ≡ W.parts) × (workers.parts ≡ 3) }
-{
-    let Ok(placed) = Vec::<Placed<C, W>>::with_capacity(alloc, 1) else {
+fn opened<R: Wait>(rt: &R, alloc: Global) -> Result<Closed, OpenFault> {
+    let Ok(placed) = Vec::<Placed>::with_capacity(alloc, 1) else {
         return Err(OpenFault::Memory);
     };
-    match Office::<C, W>::open(alloc, 8, 64, 3, 100, 3, calls, workers) {
+    match Office::open(alloc, 8, 64, 3, 100, 3) {
         Ok((office, passes)) => Ok(worked(rt, alloc, office, passes, placed)),
         Err(fault) => {
             placed.destroy_empty();
@@ -130,7 +111,7 @@ fn opened<C: Ledger, W: Ledger, R: Wait>(
 #[test]
 fn three_callers_meet(rt: HostRuntime) {
     let alloc = rt.alloc();
-    let answer = opened::<Brand, Brand, _>(&rt, alloc, Blank::new(3), Blank::new(3));
+    let answer = opened(&rt, alloc);
     let Ok(closed) = answer else {
         panic!(&rt; "no office");
     };
@@ -146,13 +127,7 @@ fn three_callers_meet(rt: HostRuntime) {
 }
 
 /// The caller joins, stays and leaves so many times.
-fn visit_often<C: Ledger, W: Ledger, R: Wait>(
-    rt: &R,
-    alloc: Global,
-    office: &Office<C, W>,
-    pass: Pass<C, W>,
-    times: u32,
-) -> Pass<C, W>
+fn visit_often<R: Wait>(rt: &R, alloc: Global, office: &Office, pass: Pass, times: u32) -> Pass
     requires { pass.table ≡ office.now.table }
     ensures { result.table ≡ office.now.table }
 {
@@ -168,12 +143,12 @@ fn visit_often<C: Ledger, W: Ledger, R: Wait>(
 }
 
 /// Seat 0 opens an arena that asks for one worker, and seat 1 visits it a million times.
-fn visited<C: Ledger, W: Ledger, R: Wait>(
+fn visited<R: Wait>(
     rt: &R,
     alloc: Global,
-    office: Office<C, W>,
-    passes: Vec<Pass<C, W>>,
-    placed: Vec<Placed<C, W>>,
+    office: Office,
+    passes: Vec<Pass>,
+    placed: Vec<Placed>,
 ) -> Closed
     requires own { All (λ (p : OfPass). p.table ≡ office.table) passes.items }
     requires two { (vec_len passes ≡ 2) × (office.terms.seats ≡ 2) }
@@ -195,19 +170,11 @@ fn visited<C: Ledger, W: Ledger, R: Wait>(
     office.close(passes, placed)
 }
 
-fn unrecorded<C: Ledger, W: Ledger, R: Wait>(
-    rt: &R,
-    alloc: Global,
-    calls: Blank,
-    workers: Blank,
-) -> Result<Closed, OpenFault>
-    requires calls { (calls.name ≡ C.name) × (calls.parts ≡ C.parts) × (calls.parts ≡ 2) }
-    requires workers { (workers.name ≡ W.name) × (workers.parts ≡ W.parts) × (workers.parts ≡ 2) }
-{
-    let Ok(placed) = Vec::<Placed<C, W>>::with_capacity(alloc, 1) else {
+fn unrecorded<R: Wait>(rt: &R, alloc: Global) -> Result<Closed, OpenFault> {
+    let Ok(placed) = Vec::<Placed>::with_capacity(alloc, 1) else {
         return Err(OpenFault::Memory);
     };
-    match Office::<C, W>::open_unrecorded(alloc, 8, 64, 2, 3, calls, workers) {
+    match Office::open_unrecorded(alloc, 8, 64, 2, 3) {
         Ok((office, passes)) => Ok(visited(rt, alloc, office, passes, placed)),
         Err(fault) => {
             placed.destroy_empty();
@@ -219,7 +186,7 @@ fn unrecorded<C: Ledger, W: Ledger, R: Wait>(
 #[test]
 fn an_unrecorded_office_answers_more_calls_than_a_history_has_places(rt: HostRuntime) {
     let alloc = rt.alloc();
-    let answer = unrecorded::<Brand, Brand, _>(&rt, alloc, Blank::new(2), Blank::new(2));
+    let answer = unrecorded(&rt, alloc);
     let Ok(closed) = answer else {
         panic!(&rt; "no office");
     };
@@ -236,13 +203,7 @@ fn an_unrecorded_office_answers_more_calls_than_a_history_has_places(rt: HostRun
 }
 
 /// Gives a command, once more where a growth was refused.
-fn tell<C: Ledger, W: Ledger, R: Wait>(
-    rt: &R,
-    alloc: Global,
-    office: &Office<C, W>,
-    pass: &mut Pass<C, W>,
-    cmd: &Cmd,
-)
+fn tell<R: Wait>(rt: &R, alloc: Global, office: &Office, pass: &mut Pass, cmd: &Cmd)
     requires own { pass.old.table ≡ office.now.table }
     requires still { moves_seat cmd.now ≡ false }
     ensures own { pass.new.table ≡ office.now.table }
@@ -253,12 +214,7 @@ fn tell<C: Ledger, W: Ledger, R: Wait>(
 }
 
 /// The pass joins, once more where a growth was refused. An office whose arena wants no worker gives it back.
-fn placed_of<C: Ledger, W: Ledger, R: Wait>(
-    rt: &R,
-    alloc: Global,
-    office: &Office<C, W>,
-    pass: Pass<C, W>,
-) -> Result<Placed<C, W>, Pass<C, W>>
+fn placed_of<R: Wait>(rt: &R, alloc: Global, office: &Office, pass: Pass) -> Result<Placed, Pass>
     requires own { pass.table ≡ office.now.table }
     ensures placed { IfOk result (λ placed. placed.who.table ≡ office.now.table) }
     ensures back { IfErr result (λ pass. pass.table ≡ office.now.table) }
@@ -276,11 +232,7 @@ fn placed_of<C: Ledger, W: Ledger, R: Wait>(
 }
 
 /// Whoever is placed leaves.
-fn freed<C: Ledger, W: Ledger, R: Wait>(
-    rt: &R,
-    office: &Office<C, W>,
-    caller: Result<Placed<C, W>, Pass<C, W>>,
-) -> Pass<C, W>
+fn freed<R: Wait>(rt: &R, office: &Office, caller: Result<Placed, Pass>) -> Pass
     requires placed { IfOk caller (λ placed. placed.who.table ≡ office.now.table) }
     requires free { IfErr caller (λ pass. pass.table ≡ office.now.table) }
     ensures own { result.table ≡ office.now.table }
@@ -292,12 +244,7 @@ fn freed<C: Ledger, W: Ledger, R: Wait>(
 }
 
 /// Two workers come to an arena, the entries are cut out, and both leave.
-fn cut_between<C: Ledger, W: Ledger, R: Wait>(
-    rt: &R,
-    alloc: Global,
-    office: Office<C, W>,
-    passes: Vec<Pass<C, W>>,
-) -> Closed
+fn cut_between<R: Wait>(rt: &R, alloc: Global, office: Office, passes: Vec<Pass>) -> Closed
     requires own { All (λ (p : OfPass). p.table ≡ office.table) passes.items }
     requires three { (vec_len passes ≡ 3) × (office.terms.seats ≡ 3) }
 {
@@ -324,20 +271,12 @@ fn cut_between<C: Ledger, W: Ledger, R: Wait>(
     put(&office, &mut passes, clerk);
     put(&office, &mut passes, second);
     put(&office, &mut passes, third);
-    office.close(passes, Vec::<Placed<C, W>>::new(alloc))
+    office.close(passes, Vec::<Placed>::new(alloc))
 }
 
 /// What such an office leaves, if there was memory to open it.
-fn cut_once<C: Ledger, W: Ledger, R: Wait>(
-    rt: &R,
-    alloc: Global,
-    calls: Blank,
-    workers: Blank,
-) -> Result<Closed, OpenFault>
-    requires calls { (calls.name ≡ C.name) × (calls.parts ≡ C.parts) × (calls.parts ≡ 3) }
-    requires workers { (workers.name ≡ W.name) × (workers.parts ≡ W.parts) × (workers.parts ≡ 3) }
-{
-    let (office, passes) = Office::<C, W>::open_in_parts(alloc, 8, 64, 3, 100, 3, calls, workers)?;
+fn cut_once<R: Wait>(rt: &R, alloc: Global) -> Result<Closed, OpenFault> {
+    let (office, passes) = Office::open_in_parts(alloc, 8, 64, 3, 100, 3)?;
     Ok(cut_between(rt, alloc, office, passes))
 }
 
@@ -345,7 +284,7 @@ fn cut_once<C: Ledger, W: Ledger, R: Wait>(
 #[test]
 fn a_refused_growth_spares_the_leaves_after_a_cut(rt: HostRuntime) {
     let alloc = rt.alloc();
-    let answer = cut_once::<Brand, Brand, _>(&rt, alloc, Blank::new(3), Blank::new(3));
+    let answer = cut_once(&rt, alloc);
     let closed = match answer {
         Ok(closed) => closed,
         Err(fault) => {

@@ -7,14 +7,12 @@ use market_lock::{Closed, Office, Pass};
 use market_types::{Cmd, Entry, OpenFault};
 use office_crew::{Missed, Scribe};
 use std::alloc::Global;
-use std::marker::Brand;
 use std::process::Abort;
 use std::rt::HostRuntime;
 use std::sync::Wait;
-use std::sync::ledger::{Blank, Ledger};
 
 /// A pass comes back.
-fn put<C: Ledger, W: Ledger>(office: &Office<C, W>, passes: &mut Vec<Pass<C, W>>, pass: Pass<C, W>)
+fn put(office: &Office, passes: &mut Vec<Pass>, pass: Pass)
     requires room { vec_len passes.old < vec_capacity passes.old }
     requires own { pass.table ≡ office.now.table }
     requires all { All (λ (p : OfPass). p.table ≡ office.now.table) passes.old.items }
@@ -26,10 +24,10 @@ fn put<C: Ledger, W: Ledger>(office: &Office<C, W>, passes: &mut Vec<Pass<C, W>>
 }
 
 /// The scribe is told of a part that begins behind so many entries.
-fn misses<C: Ledger, W: Ledger, R: Wait + Abort>(
+fn misses<R: Wait + Abort>(
     rt: &R,
-    office: &Office<C, W>,
-    scribe: &mut Scribe<C, W>,
+    office: &Office,
+    scribe: &mut Scribe,
     spare: Vec<Entry>,
     from: u64,
 )
@@ -44,12 +42,7 @@ fn misses<C: Ledger, W: Ledger, R: Wait + Abort>(
 }
 
 /// Two scribes on one office: the second is told that its part begins behind the first one's.
-fn two_scribes<C: Ledger, W: Ledger, R: Wait + Abort>(
-    rt: &R,
-    alloc: Global,
-    office: Office<C, W>,
-    passes: Vec<Pass<C, W>>,
-) -> Closed
+fn two_scribes<R: Wait + Abort>(rt: &R, alloc: Global, office: Office, passes: Vec<Pass>) -> Closed
     requires own { All (λ (p : OfPass). p.table ≡ office.table) passes.items }
     requires two { (vec_len passes ≡ 2) × (office.terms.seats ≡ 2) }
 {
@@ -77,22 +70,14 @@ fn two_scribes<C: Ledger, W: Ledger, R: Wait + Abort>(
     office.close(passes, Vec::new(alloc))
 }
 
-fn opened_for_two<C: Ledger, W: Ledger, R: Wait + Abort>(
-    rt: &R,
-    alloc: Global,
-    calls: Blank,
-    workers: Blank,
-) -> Result<Closed, OpenFault>
-    requires calls { (calls.name ≡ C.name) × (calls.parts ≡ C.parts) × (calls.parts ≡ 2) }
-    requires workers { (workers.name ≡ W.name) × (workers.parts ≡ W.parts) × (workers.parts ≡ 2) }
-{
-    let (office, passes) = Office::<C, W>::open_in_parts(alloc, 8, 64, 2, 1000, 3, calls, workers)?;
+fn opened_for_two<R: Wait + Abort>(rt: &R, alloc: Global) -> Result<Closed, OpenFault> {
+    let (office, passes) = Office::open_in_parts(alloc, 8, 64, 2, 1000, 3)?;
     Ok(two_scribes(rt, alloc, office, passes))
 }
 
 #[test]
 fn a_second_scribe_is_told_what_it_missed(rt: HostRuntime) {
-    let answer = opened_for_two::<Brand, Brand, _>(&rt, rt.alloc(), Blank::new(2), Blank::new(2));
+    let answer = opened_for_two(&rt, rt.alloc());
     let Ok(closed) = answer else {
         panic!(&rt; "no office");
     };

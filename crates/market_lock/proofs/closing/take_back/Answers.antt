@@ -11,7 +11,7 @@ use Rattle.market_lock.proofs.Steps.{joins_it}
 use Rattle.market_lock.proofs.closing.take_back.Goals as goal
 
 pub join_seat-requires : goal.join_seat-requires
-join_seat-requires g c =
+join_seat-requires c =
     let key = c.args.table.now.shared.key in
     let id = c.args.seat.now.id in
     let other = c.ticket.inside.seat.id in

@@ -1,7 +1,5 @@
-use Rattle.std.proofs.Common.{rules, ◌≡◌, ◌++◌, ◌∷◌, [], arith, ap, sym, ◌∙◌, subst, length, All, None, Some}
+use Rattle.std.proofs.Common.{◌≡◌, ◌++◌, ◌∷◌, [], ap, sym, ◌∙◌, subst, All, None, Some}
 use Rattle.std.proofs.lemmas.List.Elements.{All-push, All-pop}
-use Rattle.std.proofs.lemmas.List.Sums.{sum_by_push}
-use Rattle.std.specs.List.{sum_by}
 use Rattle.market_desk.specs.Workers.{own_place}
 use Rattle.market_lock.specs.Seen.{OfPass}
 use Rattle.market_lock.specs.Held.{kept_of, taken_in}
@@ -9,7 +7,7 @@ use Rattle.market_lock.proofs.Meeting.{takes_in}
 use Rattle.market_lock.proofs.closing.take_back_passes.Goals as goal
 
 pub loop-pass-preserved : goal.loop-pass-preserved
-loop-pass-preserved g c =
+loop-pass-preserved c =
     let i = c.loop-pass.invariant in
     let x : OfPass = c.pass.inside.ticket in
     let items : c.loop-pass.left.items ≡ c.pop.new.self.items ++ x ∷ [] = c.in-Some.ensures.items ∙ ap (λ p. c.pop.new.self.items ++ p ∷ []) (sym c.pass.view_is) in
@@ -20,8 +18,5 @@ loop-pass-preserved g c =
       s.closing,
       s.kept,
       (All-pop (λ (p : OfPass). p.table ≡ c.args.table.now.shared.table_id) c.loop-pass.left.items c.pop.new.self.items (Some x) items i.3).0,
-      omega (arith, i.4, c.take_back.ensures.shares, c.in-Some.ensures.len),
-      omega (arith, i.5, c.take_back.ensures.calls, ap (sum_by (λ (p : OfPass). length p.mine)) items, sum_by_push (λ (p : OfPass). length p.mine) c.pop.new.self.items x),
-      search rules,
-      λ all. i.7 (subst (All (λ (p : OfPass). own_place p.mine ≡ None)) (sym items) (All-push (λ (p : OfPass). own_place p.mine ≡ None) c.pop.new.self.items x all none)),
+      λ all. i.4 (subst (All (λ (p : OfPass). own_place p.mine ≡ None)) (sym items) (All-push (λ (p : OfPass). own_place p.mine ≡ None) c.pop.new.self.items x all none)),
     )

@@ -7,8 +7,8 @@ use Rattle.market_lock.specs.Views.{chronicle_from}
 use Rattle.market_lock.proofs.Steps.{begins}
 use Rattle.market_lock.proofs.opening.furnish.Goals as goal
 
-pub new-requires-3 : goal.new-requires-3
-new-requires-3 g c =
+pub new-requires-2 : goal.new-requires-2
+new-requires-2 c =
     let key = c.args.terms.now in
-    let items : c.push_reserved.new.self.items ≡ c.new-2.result ∷ [] = search rules in
-    subst (λ (xs : List Chronicled). Kept key (opening (0 ∷ []) xs (Opener key 0))) (sym items) (let is = c.new-2.ensures.exact ∙ c.requires.chronicle in let from = ap (λ (d : Chronicled). d.from) is in begins key c.new-2.result (is ∙ ap (chronicle_from key []) (sym from)) from)
+    let items : c.push_reserved.new.self.items ≡ c.new.result ∷ [] = search rules in
+    subst (λ (xs : List Chronicled). Kept key (opening (0 ∷ []) xs (Opener key 0))) (sym items) (let is = c.new.ensures.exact ∙ c.requires.chronicle in let from = ap (λ (d : Chronicled). d.from) is in begins key c.new.result (is ∙ ap (chronicle_from key []) (sym from)) from)

@@ -5,11 +5,11 @@ use Rattle.market_lock.proofs.Steps.{gives_it}
 use Rattle.market_lock.proofs.ticket.give.Goals as goal
 
 pub store-requires : goal.store-requires
-store-requires g c =
+store-requires c =
     let h = c.requires.desk in
     (search rules, search rules, gives_it _ same_cuts _ _ _ (known_of c.args.seat.now.me.0) h.0 h.1 c.requires.table.2 h.2 h.3)
 
 pub returns-clause-seat : goal.returns-clause-seat
-returns-clause-seat g c =
+returns-clause-seat c =
     let h = c.requires.desk in
     (h.0, h.1, h.2, c.store.ensures.2 (known_of c.args.seat.now.me.0) h.0 h.1 h.2)

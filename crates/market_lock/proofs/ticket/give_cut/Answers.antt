@@ -9,14 +9,14 @@ use Rattle.market_lock.proofs.Steps.{gives_it}
 use Rattle.market_lock.proofs.ticket.give_cut.Goals as goal
 
 pub store-requires : goal.store-requires
-store-requires g c =
+store-requires c =
     let h = c.requires.desk in
     let k : Known = known_of c.args.seat.now.me.0 in
     let follows = subst (λ (r : Option Part). Follows k h.0 h.1 (next_cuts r k h.0)) c.in-Some.is h.3 in
     (search rules, search rules, gives_it _ more_cuts _ _ _ k h.0 h.1 c.requires.table.2 h.2 follows)
 
 pub returns-in-Some-clause-seat : goal.returns-in-Some-clause-seat
-returns-in-Some-clause-seat g c =
+returns-in-Some-clause-seat c =
     let h = c.requires.desk in
     let k : Known = known_of c.args.seat.now.me.0 in
     (h.0, h.1, h.2, subst (λ (r : Option Part). c.store.new.seat.me ≡ (Idle (shown k h.0 h.1 (next_cuts r k h.0)), [])) (sym c.in-Some.is) (c.store.ensures.2 k h.0 h.1 h.2))

@@ -5,10 +5,10 @@ use Rattle.market_lock.proofs.Steps.{takes_it}
 use Rattle.market_lock.proofs.ticket.take.Goals as goal
 
 pub compare_exchange-requires : goal.compare_exchange-requires
-compare_exchange-requires g c = (search rules, search rules, takes_it _ _ _ _ (known_of c.args.seat.now.me.0) c.requires.seat)
+compare_exchange-requires c = (search rules, search rules, takes_it _ _ _ _ (known_of c.args.seat.now.me.0) c.requires.seat)
 
 pub returns-clause-taken : goal.returns-clause-taken
-returns-clause-taken g c is = (c.compare_exchange.ensures.2 (known_of c.args.seat.now.me.0) c.requires.seat).0 (grind (arith, nat_tests))
+returns-clause-taken c is = (c.compare_exchange.ensures.2 (known_of c.args.seat.now.me.0) c.requires.seat).0 (grind (arith, nat_tests))
 
 pub returns-clause-away : goal.returns-clause-away
-returns-clause-away g c is = (c.compare_exchange.ensures.2 (known_of c.args.seat.now.me.0) c.requires.seat).1 (grind (arith, nat_tests))
+returns-clause-away c is = (c.compare_exchange.ensures.2 (known_of c.args.seat.now.me.0) c.requires.seat).1 (grind (arith, nat_tests))

@@ -1,7 +1,4 @@
 use Rattle.office_crew.proofs.meeting.meet.Given as goal
 
-abbrev pub ghosts-opened-C-Ledger : goal.ghosts-opened-C-Ledger
-ghosts-opened-C-Ledger g a = record { name = a.calls.name; parts = a.calls.parts }
-
-abbrev pub ghosts-opened-W-Ledger : goal.ghosts-opened-W-Ledger
-ghosts-opened-W-Ledger g a = record { name = a.workers.name; parts = a.workers.parts }
+abbrev pub ghosts-met : goal.ghosts-met
+ghosts-met g a = record { table = a.office.table }

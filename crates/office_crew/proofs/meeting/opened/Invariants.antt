@@ -1,4 +1,0 @@
-use Rattle.office_crew.proofs.meeting.opened.Given as goal
-
-abbrev pub ghosts-met : goal.ghosts-met
-ghosts-met g a = record { table = a.office.table }
