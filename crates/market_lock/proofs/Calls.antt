@@ -30,7 +30,7 @@ use Rattle.market_lock.specs.declared.view.Known.{Known}
 use Rattle.market_lock.specs.declared.view.View.{View}
 use Rattle.market_lock.specs.declared.view.View.TheVariants.{Idle, Holder}
 use Rattle.market_lock.specs.Cutting.{cut_by, IsCutUp}
-use Rattle.market_lock.specs.Views.{opening_of, chronicle_from, chronicle_cut, shown, cut, same_cuts, next_cuts}
+use Rattle.market_lock.specs.Views.{opening_of, chronicle_from, chronicle_cut, seats_placed_after, shown, cut, same_cuts, next_cuts}
 use Rattle.market_lock.specs.Rule.{Follows}
 use Rattle.market_lock.specs.Serving.{Done, Serves, MayServe, Cuts}
 use Rattle.market_lock.specs.Held.{HasTaken, HasDesk, HoldsDesk, HasGiven, HasPart, IsSeenCut}
@@ -298,10 +298,14 @@ module _ (k : Known) (number room : ℕ) (log : List Entry) (from : ℕ) (cuts :
     ap (λ (c : Chronicled). c.from) o.did.out.2 ∙ ap length (sym (cut_log (Some part) o)),
     o.did.out.3,
     omega (arith, o.did.out.4, ap length (cut_log (Some part) o)),
+    omega (arith, o.did.out.5, ap (seats_placed_after k.terms) (cut_log (Some part) o)),
   )
-  cut_told None o = λ keeps roomy few.
+  cut_told None o = λ keeps roomy few. o.did.out.1 keeps (omega (arith, ap (seats_placed_after k.terms) (cut_log None o), roomy)) (omega (arith, few, ap length (cut_log None o)))
+
+  cut_few : (r : Option Part) → CutOff k number room r log from cuts e s → seats_placed_after k.terms e.log ≤ k.terms.seats
+  cut_few r o =
       let seats : length (opening_of k.terms).seats ≡ k.terms.seats = length-replicate k.terms.seats None in
-      o.did.out.1 keeps (omega (arith, o.did.few, seats, roomy)) (omega (arith, few, ap length (cut_log None o)))
+      omega (arith, o.did.few, seats, ap (seats_placed_after k.terms) (cut_log r o))
 
 -- ---- the three steps of a call
 abbrev M : Type 0
@@ -457,6 +461,7 @@ module _ (k : Known) (number room : ℕ) (r : Option Part) (s : ℕ) (m : M) (o 
       seat = refl;
       legal = cut_legal k number room o.log o.from o.cuts o.e s r o.off;
       later = omega (arith, o.off.later, cut_later k number room o.log o.from o.cuts o.e s r o.off);
+      few = cut_few k number room o.log o.from o.cuts o.e s r o.off;
       told = cut_told k number room o.log o.from o.cuts o.e s r o.off;
     },
     cut_looks k number room o.log o.from o.cuts o.e s t u r o.off,
@@ -465,13 +470,13 @@ module _ (k : Known) (number room : ℕ) (r : Option Part) (s : ℕ) (m : M) (o 
 -- what is known of a part, and of none, apart
 pub told_part : (k l : Known) (room : ℕ) (r : Option Part) → HasPart k l room r
     → IfSome r (λ part. EndsWith l.seen part.from part.entries.items) × IfSome r (λ part. k.from ≤ part.from) × OnSome r (l.from ≡ length l.seen) × OnSome r (k.terms.keeping ≡ InParts)
-    × OnSome r (length l.seen ≤ most_forgotten)
+    × OnSome r (length l.seen ≤ most_forgotten) × OnSome r (seats_placed_after k.terms l.seen ≤ room)
 told_part k l room (Some part) h = h
-told_part k l room None h = (tt, tt, tt, tt, tt)
+told_part k l room None h = (tt, tt, tt, tt, tt, tt)
 
-pub told_served : (k l : Known) (room : ℕ) (r : Option Part) → HasPart k l room r → k.terms.keeping ≡ InParts → k.terms.seats ≤ room → length l.seen ≤ most_forgotten → IsSome r
-told_served k l room (Some part) h keeps roomy few = refl
-told_served k l room None h keeps roomy few = absurd (h keeps roomy few)
+pub told_enough : (k l : Known) (room : ℕ) (r : Option Part) → HasPart k l room r → k.terms.keeping ≡ InParts → seats_placed_after k.terms l.seen ≤ room → length l.seen ≤ most_forgotten → IsSome r
+told_enough k l room (Some part) h keeps roomy few = refl
+told_enough k l room None h keeps roomy few = absurd (h keeps roomy few)
 
 -- one more entry of the caller's can be counted, where all can
 pub one_more_own : (seat most : ℕ) (cmd : Cmd) (r : Result Reply CallFault) (xs ys : List Entry) → IfOk r (λ x. ys ≡ xs ++ entry seat cmd x ∷ []) → length ys ≤ most → is_ok r ≡ true

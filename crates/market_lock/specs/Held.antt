@@ -14,7 +14,7 @@ use Rattle.market_lock.specs.declared.view.Known.{Known}
 use Rattle.market_lock.specs.declared.view.View.{View}
 use Rattle.market_lock.specs.declared.view.View.TheVariants.{Idle, Holder, Closer}
 use Rattle.market_lock.specs.Cutting.{cut_by, IsCutUp}
-use Rattle.market_lock.specs.Views.{opening_of, shown, known, chronicle_from}
+use Rattle.market_lock.specs.Views.{opening_of, shown, known, chronicle_from, seats_placed_after}
 use Rattle.market_lock.specs.Seen.{known_of, OfPass, OfPlaced}
 
 abbrev pub IsIdle : Me Chronicled View → Type 0
@@ -42,8 +42,8 @@ HasGiven next m n = let k = known_of m.0 in
 -- who knows l, and knew k before, has a part that ends its history, of which no entry is kept then; or it has none, and could not have one by a spare with so much room
 abbrev pub HasPart : Known → Known → ℕ → Option Part → Type 0
 HasPart k l room (Some part) = EndsWith l.seen part.from part.entries.items × (k.from ≤ part.from) × (l.from ≡ length l.seen) × (k.terms.keeping ≡ InParts)
-    × (length l.seen ≤ most_forgotten)
-HasPart k l room None = k.terms.keeping ≡ InParts → k.terms.seats ≤ room → length l.seen ≤ most_forgotten → ⊥
+    × (length l.seen ≤ most_forgotten) × (seats_placed_after k.terms l.seen ≤ room)
+HasPart k l room None = k.terms.keeping ≡ InParts → seats_placed_after k.terms l.seen ≤ room → length l.seen ≤ most_forgotten → ⊥
 
 -- what is known after a cut
 pub record IsSeenCut (k l : Known) (room : ℕ) (r : Option Part) : Type 0 where
@@ -51,6 +51,7 @@ pub record IsSeenCut (k l : Known) (room : ℕ) (r : Option Part) : Type 0 where
   pub seat : l.seat ≡ k.seat
   pub legal : IsLegal (opening_of k.terms) l.seen
   pub later : k.from ≤ l.from
+  pub few : seats_placed_after k.terms l.seen ≤ k.terms.seats
   pub told : HasPart k l room r
 
 abbrev pub kept_of : View → List Known

@@ -40,7 +40,7 @@ pub record Serves (seat : ℕ) (cmd : Cmd) (r : Result Reply CallFault) (d e : C
 abbrev pub Out : ℕ → Option Part → Chronicled → Chronicled → Type 0
 Out room (Some part) d e =
     EndsWith d.log part.from part.entries.items × (part.from ≡ d.from) × (e ≡ record d { from = length d.log }) × (d.keeping ≡ InParts)
-    × (length d.log ≤ most_forgotten)
+    × (length d.log ≤ most_forgotten) × (placed (market_of d) ≤ room)
 Out room None d e = (e ≡ d) × (d.keeping ≡ InParts → placed (market_of d) ≤ room → length d.log ≤ most_forgotten → ⊥)
 
 -- from the desk d to e, by a spare with so much room

@@ -1,11 +1,11 @@
--- What each kind of step does to the views of the seats. No public clause has these words but the first five.
+-- What each kind of step does to the views of the seats. No public clause has these words but the first six.
 use Rattle.std.specs.Prelude.{ℕ, ◌+◌, ◌≤◌, List, [], ◌∷◌, ◌++◌, length, drop, Option, Some, None}
 use Rattle.market_types.specs.declared.command.Cmd.{Cmd}
 use Rattle.market_types.specs.declared.reply.Entry.{Entry}
 use Rattle.market_types.specs.State.{State, opening_to}
 use Rattle.market_types.specs.History.{of_seat, calls_of, state_after}
 use Rattle.edit_history.specs.Chronicled.{Chronicled, most_forgotten}
-use Rattle.edit_history.specs.Places.{LacksPlaces}
+use Rattle.edit_history.specs.Places.{placed, LacksPlaces}
 use Rattle.edit_history.specs.declared.keeping.Keeping.TheVariants.{Everything}
 use Rattle.edit_history.specs.declared.part.Part.{Part}
 use Rattle.market_desk.specs.Forgetting.{forgotten}
@@ -34,6 +34,10 @@ chronicle_of t log = chronicle_cut t log 0
 -- it has places for each call, whatever was called before, up to `most_forgotten` calls: it isn't full before
 abbrev pub IsEndless : Terms → Type 0
 IsEndless t = (log : List Entry) (seat : ℕ) (cmd : Cmd) → length log ≤ most_forgotten → LacksPlaces (chronicle_of t log) seat cmd → ⊥
+
+-- how many seats are placed after this history
+abbrev pub seats_placed_after : Terms → List Entry → ℕ
+seats_placed_after t log = placed (state_after (opening_of t) (calls_of log))
 
 abbrev pub no_terms : Terms
 no_terms = record { base = 0; hard = 0; seats = 0; places = 0; levels = 0; last = 0; keeping = Everything }

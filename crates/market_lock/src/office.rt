@@ -14,7 +14,7 @@ ghost use Rattle.market_types.specs.History.{IsLegal, place_after};
 ghost use Rattle.market_core.specs.Moves.{Answers};
 ghost use Rattle.market_desk.specs.Workers.{own_place};
 ghost use Rattle.market_lock.specs.Attempts.{IfMade, IfBusy};
-ghost use Rattle.market_lock.specs.Views.{opening_of, chronicle_of, chronicle_cut, IsEndless};
+ghost use Rattle.market_lock.specs.Views.{opening_of, chronicle_of, chronicle_cut, seats_placed_after, IsEndless};
 ghost use Rattle.market_lock.specs.Seen.{OfPass, OfPlaced, IsSamePass, Looks, HasCut, fresh, kept_by, Met, AllParts};
 ghost use Rattle.market_lock.specs.Moves.{Called, Fails, HasJoined, HasStayed};
 ghost use Rattle.market_lock.specs.Headline.{IsGivenBy};
@@ -403,6 +403,8 @@ impl Office {
         ensures cuts { HasCut pass.old result pass.new }
         ensures countable { OnSome result (length pass.new.seen ≤ most_forgotten) }
         ensures in_parts { OnSome result (pass.old.terms.keeping ≡ InParts) }
+        ensures room { OnSome result (seats_placed_after pass.old.terms pass.new.seen ≤ vec_capacity spare) }
+        ensures enough { pass.old.terms.keeping ≡ InParts → seats_placed_after pass.old.terms pass.new.seen ≤ vec_capacity spare → length pass.new.seen ≤ most_forgotten → IsSome result }
         ensures served { pass.old.terms.keeping ≡ InParts → pass.old.terms.seats ≤ vec_capacity spare → length pass.new.seen ≤ most_forgotten → IsSome result }
     {
         let mut emptied = spare;
@@ -423,6 +425,8 @@ impl Office {
         ensures cuts { IfMade result (λ answer. HasCut pass.old answer pass.new) }
         ensures countable { IfMade result (λ answer. OnSome answer (length pass.new.seen ≤ most_forgotten)) }
         ensures in_parts { IfMade result (λ answer. OnSome answer (pass.old.terms.keeping ≡ InParts)) }
+        ensures room { IfMade result (λ answer. OnSome answer (seats_placed_after pass.old.terms pass.new.seen ≤ vec_capacity spare)) }
+        ensures enough { IfMade result (λ answer. pass.old.terms.keeping ≡ InParts → seats_placed_after pass.old.terms pass.new.seen ≤ vec_capacity spare → length pass.new.seen ≤ most_forgotten → IsSome answer) }
         ensures served { IfMade result (λ answer. pass.old.terms.keeping ≡ InParts → pass.old.terms.seats ≤ vec_capacity spare → length pass.new.seen ≤ most_forgotten → IsSome answer) }
         ensures busy { IfBusy result (λ _. pass.new ≡ pass.old) }
         ensures spare { IfBusy result (λ back. (back.items ≡ []) × (vec_capacity back ≡ vec_capacity spare)) }

@@ -10,7 +10,7 @@ ghost use Rattle.edit_history.specs.declared.keeping.Keeping.TheVariants.{InPart
 ghost use Rattle.market_desk.specs.Workers.{own_place};
 ghost use Rattle.market_lock.specs.Attempts.{IfMade, IfBusy};
 ghost use Rattle.market_lock.specs.Cutting.{IsCutUp};
-ghost use Rattle.market_lock.specs.Views.{opening_of, same_cuts, next_cuts};
+ghost use Rattle.market_lock.specs.Views.{opening_of, seats_placed_after, same_cuts, next_cuts};
 ghost use Rattle.market_lock.specs.Rule.{Follows};
 ghost use Rattle.market_lock.specs.Seen.{Extends, IsSamePass, Looks, OthersCut, HasCut};
 ghost use Rattle.market_lock.specs.Moves.{Fails};
@@ -217,6 +217,8 @@ impl Ticket {
         ensures cuts { IfMade result (λ answer. HasCut self.old answer self.new) }
         ensures countable { IfMade result (λ answer. OnSome answer (length self.new.seen ≤ most_forgotten)) }
         ensures in_parts { IfMade result (λ answer. OnSome answer (self.old.terms.keeping ≡ InParts)) }
+        ensures room { IfMade result (λ answer. OnSome answer (seats_placed_after self.old.terms self.new.seen ≤ vec_capacity spare)) }
+        ensures enough { IfMade result (λ answer. self.old.terms.keeping ≡ InParts → seats_placed_after self.old.terms self.new.seen ≤ vec_capacity spare → length self.new.seen ≤ most_forgotten → IsSome answer) }
         ensures served { IfMade result (λ answer. self.old.terms.keeping ≡ InParts → self.old.terms.seats ≤ vec_capacity spare → length self.new.seen ≤ most_forgotten → IsSome answer) }
         ensures busy { IfBusy result (λ _. self.new ≡ self.old) }
         ensures spare { IfBusy result (λ back. back ≡ spare) }
@@ -242,6 +244,8 @@ impl Ticket {
         ensures cuts { HasCut self.old result self.new }
         ensures countable { OnSome result (length self.new.seen ≤ most_forgotten) }
         ensures in_parts { OnSome result (self.old.terms.keeping ≡ InParts) }
+        ensures room { OnSome result (seats_placed_after self.old.terms self.new.seen ≤ vec_capacity spare) }
+        ensures enough { self.old.terms.keeping ≡ InParts → seats_placed_after self.old.terms self.new.seen ≤ vec_capacity spare → length self.new.seen ≤ most_forgotten → IsSome result }
         ensures served { self.old.terms.keeping ≡ InParts → self.old.terms.seats ≤ vec_capacity spare → length self.new.seen ≤ most_forgotten → IsSome result }
     {
         let mut spare = spare;
