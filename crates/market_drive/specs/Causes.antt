@@ -15,6 +15,7 @@ use Rattle.edit_history.specs.declared.terms.Terms.{Terms}
 use Rattle.market_lock.specs.Seen.{OfPass, IsSamePass, Met}
 use Rattle.office_crew.specs.Works.{IsUnused}
 use Rattle.drive_plan.specs.Plans.{Planned}
+use Rattle.drive_plan.specs.declared.task.Done.{Done}
 use Rattle.worker_main.specs.declared.station.Station.{Station}
 use Rattle.worker_main.specs.declared.report.Ended.{Ended}
 use Rattle.worker_main.specs.declared.report.Ended.TheVariants.{Call}
@@ -38,6 +39,10 @@ CanEndAt stations refused ended = IfShut ended (λ job. HasRefused refused job.n
 abbrev pub CanEndIn : Planned → (ℕ → ℕ → Type 0) → Ended → Type 0
 CanEndIn p refused ended =
     IfShut ended (λ job. HasRefused refused job.number 1000000) × IfNoStation ended (λ arena. (k : ℕ) → k < length p.arenas → arena ≢ k + 1)
+
+-- the gate let the job of this answer through, and was told that it is done
+abbrev pub WasLetThrough : (ℕ → Type 0) → (ℕ → Type 0) → Done → Type 0
+WasLetThrough passed told d = passed d.number × told d.number
 
 -- the terms of the plan's office, with a seat for who gives the plan's commands and one for each of so many workers
 abbrev pub terms_of_plan : Planned → ℕ → Terms

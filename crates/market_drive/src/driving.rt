@@ -1,8 +1,8 @@
 //! A plan is driven.
-ghost use Rattle.std.specs.Prelude.{◌≡◌, ◌<◌, ◌≤◌, Ok, IfOk, IfErr};
+ghost use Rattle.std.specs.Prelude.{◌≡◌, ◌<◌, ◌≤◌, Ok, All, IfOk, IfErr};
 ghost use Rattle.drive_plan.specs.Format.{plan_of};
 ghost use Rattle.drive_plan.specs.Outcome.{IsOutcome};
-ghost use Rattle.market_drive.specs.Causes.{IsOpenedBy};
+ghost use Rattle.market_drive.specs.Causes.{IsOpenedBy, WasLetThrough};
 ghost use Rattle.market_drive.specs.Making.{commands_of};
 ghost use Rattle.market_drive.specs.Driving.{HasCause, HasCauseIn, IsDriven, IsDue, IsEnding, IsLate, IsOfText, IsOfficeOf, IsOfficeOfText};
 
@@ -44,6 +44,7 @@ fn drive_plan_of<G: Gate + Sync, R: Threads + Wait + Sync>(
     ensures outcome { IfOk result (λ driven. IsOutcome plan.now.jobs driven.done.items) }
     ensures office { IfOk result (λ driven. IsOfficeOf plan.now workers driven.closed) }
     ensures opened { IfOk result (λ driven. IsOpenedBy (commands_of plan.now) driven.closed.chronicle.log) }
+    ensures gate { IfOk result (λ driven. All (WasLetThrough (G.passed gate.now) (G.told gate.now)) driven.done.items) }
     ensures late { IfErr result IsLate }
     ensures ending { IfErr result (IsEnding plan.now) }
     ensures cause { IfErr result (HasCause (G.refused gate.now) plan.now workers) }
@@ -93,6 +94,7 @@ pub fn drive_to_close<G: Gate + Sync, R: Threads + Wait + Sync>(
     requires workers { (0 < workers) × (workers ≤ 16) }
     ensures outcome { IfOk result (λ driven. IsDriven text.now driven.done.items) }
     ensures office { IfOk result (λ driven. IsOfficeOfText text.now workers driven.closed) }
+    ensures gate { IfOk result (λ driven. All (WasLetThrough (G.passed gate.now) (G.told gate.now)) driven.done.items) }
     ensures fault { IfErr result (IsDue text.now) }
     ensures cause { IfErr result (HasCauseIn (G.refused gate.now) text.now workers) }
 {
@@ -117,6 +119,7 @@ pub fn drive<G: Gate + Sync, R: Threads + Wait + Sync>(
 ) -> Result<Vec<Done>, DriveFault>
     requires workers { (0 < workers) × (workers ≤ 16) }
     ensures outcome { IfOk result (λ done. IsDriven text.now done.items) }
+    ensures gate { IfOk result (λ done. All (WasLetThrough (G.passed gate.now) (G.told gate.now)) done.items) }
     ensures fault { IfErr result (IsDue text.now) }
     ensures cause { IfErr result (HasCauseIn (G.refused gate.now) text.now workers) }
 {

@@ -1,5 +1,5 @@
 //! What the ends of the workers and their answers come to.
-ghost use Rattle.std.specs.Prelude.{◌≡◌, Some, None, IfOk, IfErr, IfSome};
+ghost use Rattle.std.specs.Prelude.{◌≡◌, Some, None, IfOk, IfErr, IfSome, IsPermutation};
 ghost use Rattle.std.specs.List.{list_any};
 ghost use Rattle.drive_plan.specs.Outcome.{IsOutcome};
 ghost use Rattle.market_drive.specs.Driving.{IsLate};
@@ -57,6 +57,7 @@ fn end_fault(ended: &[Ended]) -> Option<DriveFault>
 /// a full history; then `Doubled` and `Missing`, as of `drive_plan`.
 pub fn gather_done(plan: &Plan, done: Vec<Done>, ended: &[Ended]) -> Result<Vec<Done>, DriveFault>
     ensures outcome { IfOk result (λ gathered. IsOutcome plan.now.jobs gathered.items) }
+    ensures same { IfOk result (λ gathered. IsPermutation done.items gathered.items) }
     ensures ended { IfOk result (λ _. end_fault ended.now ≡ None) }
     ensures fault { IfErr result (IsDueTo plan.now.jobs done.items ended.now) }
     ensures late { IfErr result IsLate }

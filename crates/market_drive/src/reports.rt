@@ -1,5 +1,5 @@
 //! What the workers of a plan tell in the end.
-ghost use Rattle.std.specs.Prelude.{◌≡◌, [], false, true, None, Err, IfErr, IfOk, OnOk};
+ghost use Rattle.std.specs.Prelude.{◌≡◌, [], false, true, None, Err, IfErr, IfOk, OnOk, IsPermutation};
 ghost use Rattle.drive_plan.specs.Outcome.{IsOutcome};
 ghost use Rattle.market_drive.specs.Driving.{IsLate};
 ghost use Rattle.market_drive.specs.Ending.{IsDueTo, end_fault};
@@ -79,6 +79,7 @@ impl Reports {
     /// What all of it comes to: `Memory` where something is missing, and else what the answers and the ends come to.
     pub(crate) fn gather(self, plan: &Plan) -> Result<Vec<Done>, DriveFault>
         ensures outcome { IfOk result (λ done. IsOutcome plan.now.jobs done.items) }
+        ensures same { IfOk result (λ done. IsPermutation self.done done.items) }
         ensures ended { IfOk result (λ _. end_fault self.ended ≡ None) }
         ensures torn { self.torn ≡ true → result ≡ Err Memory }
         ensures fault { self.torn ≡ false → IfErr result (IsDueTo plan.now.jobs self.done self.ended) }

@@ -6,11 +6,12 @@ ghost use Rattle.market_types.specs.State.{opening_to};
 ghost use Rattle.edit_history.specs.declared.keeping.Keeping.TheVariants.{Everything};
 ghost use Rattle.market_lock.specs.Headline.{IsGivenBy};
 ghost use Rattle.drive_plan.specs.declared.task.Job.{Job};
+ghost use Rattle.drive_plan.specs.declared.task.Done.{Done};
 ghost use Rattle.market_drive.specs.declared.opener.Opener.{Opener};
 ghost use Rattle.market_drive.specs.Driving.{IsOfficeOf};
 ghost use Rattle.market_drive.specs.Jobs.{taken_by, taken_weight};
 ghost use Rattle.market_drive.specs.Racks.{IsFor, OfRack};
-ghost use Rattle.market_drive.specs.Causes.{AreEnds, CanEndAt, still, terms_of_plan};
+ghost use Rattle.market_drive.specs.Causes.{AreEnds, CanEndAt, WasLetThrough, still, terms_of_plan};
 ghost use Rattle.market_drive.specs.Reports.{end_for, ends_of, shown, untold};
 ghost use Rattle.office_crew.specs.Callers.{terms_of};
 ghost use Rattle.market_drive.specs.Lines.{queues_at};
@@ -46,6 +47,7 @@ fn man<'a, Y: Yard, G: Gate>(
     requires room { (vec_len workers.old ≡ 0) × (length racks.old ≤ vec_capacity workers.old) }
     requires empty { workers.old.items ≡ [] }
     requires ends { (e : Ended) → CanEndAt stations.now (G.refused gate.now) e → Y.ends e }
+    requires answers { (d : Done) → WasLetThrough (G.passed gate.now) (G.told gate.now) d → Y.answers d }
     ensures none { racks.new ≡ [] }
     ensures each { vec_len workers.new ≡ length racks.old }
     ensures fresh { All (λ (w : Option Ended). w ≡ None) workers.new.items }
@@ -68,6 +70,7 @@ fn relieve<Y: Yard, G: Gate>(
     ensures each { length result ≡ vec_len workers.entry }
     ensures whole { reports.new.torn ≡ false → reports.old.torn ≡ false }
     ensures ends { reports.new.torn ≡ false → reports.new.ended ≡ reports.old.ended ++ ends_of workers.entry.items }
+    ensures answers { reports.new.torn ≡ false → All Y.answers reports.old.done → All Y.answers reports.new.done }
     ensures shown { reports.new.torn ≡ false → (weigh : Job → ℕ) → sum_by weigh (shown reports.new) ≡ sum_by weigh (shown reports.old) + taken_weight weigh result }
 {
     let mut left = workers;
@@ -88,6 +91,7 @@ fn relieve<Y: Yard, G: Gate>(
 fn hear(openers: Vec<Opener<'_>>, reports: &mut Reports)
     ensures whole { reports.new.torn ≡ false → reports.old.torn ≡ false }
     ensures ends { reports.new.torn ≡ false → reports.new.ended ≡ reports.old.ended ++ ends_of (map (λ (o : Opener). end_for o.fault) (reverse openers.entry.items)) }
+    ensures answers { reports.new.torn ≡ false → reports.new.done ≡ reports.old.done }
     ensures shown { reports.new.torn ≡ false → (weigh : Job → ℕ) → sum_by weigh (shown reports.new) ≡ sum_by weigh (shown reports.old) }
 {
     let mut left = openers;
@@ -131,6 +135,7 @@ fn work_together<Y: Yard + Send + Sync, G: Gate + Sync, R: Threads + Wait + Sync
     ensures whole { terms.keeping ≡ Everything → IfSome result.1 (λ closed. closed.chronicle.from ≡ 0) }
     ensures places { IfSome result.1 (λ closed. closed.chronicle.places ≡ terms.places) }
     ensures ends { (cmds : List OfCmd) → All (λ (o : Opener). o.cmds.now ≡ cmds) openers.entry.items → reports.new.torn ≡ false → IfSome result.1 (λ closed. AreEnds Y.ends (terms_of terms (1 + vec_len workers.entry)) (still cmds) closed.chronicle.log (vec_len workers.entry) reports.new.ended) }
+    ensures answers { reports.new.torn ≡ false → All Y.answers reports.new.done }
     ensures shown { reports.new.torn ≡ false → (weigh : Job → ℕ) → sum_by weigh (shown reports.new) ≡ sum_by weigh (shown reports.old) + taken_weight weigh result.0 }
 {
     match meet(rt, alloc, terms, openers, workers) {
@@ -181,10 +186,12 @@ pub(crate) fn work_shifts<Y: Yard + Send + Sync, G: Gate + Sync, R: Threads + Wa
     requires racks { All (IsFor Y.queues) racks }
     requires unused { (weigh : Job → ℕ) → taken_weight weigh racks ≡ 0 }
     requires ends { (e : Ended) → CanEndAt stations.now (G.refused gate.now) e → Y.ends e }
+    requires answers { (d : Done) → WasLetThrough (G.passed gate.now) (G.told gate.now) d → Y.answers d }
     ensures racks { All (IsFor Y.queues) result.racks }
     ensures each { length result.racks ≡ length racks }
     ensures office { IfSome result.closed (IsOfficeOf plan.now (length racks)) }
     ensures ends { result.reports.torn ≡ false → IfSome result.closed (λ closed. AreEnds Y.ends (terms_of_plan plan.now (length racks)) (still cmds.now) closed.chronicle.log (length racks) result.reports.ended) }
+    ensures answers { result.reports.torn ≡ false → All Y.answers result.reports.done }
     ensures shown { result.reports.torn ≡ false → (weigh : Job → ℕ) → sum_by weigh (shown result.reports) ≡ taken_weight weigh result.racks }
 {
     let mut reports = Reports::new(alloc);

@@ -1,11 +1,12 @@
 //! A worker of a plan, in a place that a thread can borrow.
-ghost use Rattle.std.specs.Prelude.{◌≡◌, ◌<◌, [], None, IsSomeAnd, AllPairs};
+ghost use Rattle.std.specs.Prelude.{◌≡◌, ◌<◌, [], None, IsSomeAnd, All, AllPairs};
 ghost use Rattle.market_lock.specs.Seen.{IsSamePass};
 ghost use Rattle.office_crew.specs.Callers.{who_is};
 ghost use Rattle.market_drive.specs.Racks.{IsFor};
 ghost use Rattle.market_drive.specs.Lines.{queues_at};
 ghost use Rattle.market_drive.specs.Jobs.{HasShown, taken_by};
-ghost use Rattle.market_drive.specs.Causes.{CanEndAt, HasEndedSo};
+ghost use Rattle.market_drive.specs.Causes.{CanEndAt, HasEndedSo, WasLetThrough};
+ghost use Rattle.drive_plan.specs.declared.task.Done.{Done as AnAnswer};
 ghost use Rattle.worker_main.specs.Stations.{HaveOwnArenas};
 ghost use Rattle.worker_main.specs.declared.report.Ended.{Ended as AnEnd};
 
@@ -22,15 +23,18 @@ use worker_main::{Ended, Gate, Report, Station, work};
 /// How often a worker asks a gate at most, before it gives up.
 const TURNS: u64 = 1_000_000;
 
-/// Names the queues of one plan, and how its workers can end.
+/// Names the queues of one plan, how its workers can end, and what is so of each of their answers.
 pub(crate) trait Yard {
     ghost use Rattle.std.specs.Prelude.{List};
     ghost use Rattle.job_queue.specs.Seen.{QueueId};
     ghost use Rattle.worker_main.specs.declared.report.Ended.{Ended};
+    ghost use Rattle.drive_plan.specs.declared.task.Done.{Done};
 
     ghost queues: { List QueueId };
 
     ghost ends: { Ended → Type 0 };
+
+    ghost answers: { Done → Type 0 };
 }
 
 impl Yard for Brand {
@@ -39,6 +43,8 @@ impl Yard for Brand {
     ghost queues = { [] };
 
     ghost ends = { λ _. Unit {0} };
+
+    ghost answers = { λ _. Unit {0} };
 }
 
 /// A worker of the yard's queues. Its rack is away only while it works.
@@ -53,19 +59,20 @@ pub(crate) struct Worker<'a, G: Gate, Y: Yard> {
 }
 
 impl<'a, G: Gate, Y: Yard> Model for Worker<'a, G, Y> {
-    ghost use Rattle.std.specs.Prelude.{◌≡◌, Option, IsSomeAnd, AllPairs};
+    ghost use Rattle.std.specs.Prelude.{◌≡◌, Option, IsSomeAnd, All, AllPairs};
+    ghost use Rattle.drive_plan.specs.declared.task.Done.{Done};
     ghost use Rattle.worker_main.specs.Stations.{HaveOwnArenas};
     ghost use Rattle.worker_main.specs.declared.report.Ended.{Ended};
     ghost use Rattle.market_drive.specs.Racks.{OfRack, IsFor};
     ghost use Rattle.market_drive.specs.Lines.{queues_at};
     ghost use Rattle.market_drive.specs.Jobs.{HasShown};
-    ghost use Rattle.market_drive.specs.Causes.{CanEndAt};
+    ghost use Rattle.market_drive.specs.Causes.{CanEndAt, WasLetThrough};
 
     ghost Value = { Option Ended };
 
     ghost view = { λ w. w.ended };
 
-    ghost invariant = { λ w. IsSomeAnd w.rack (λ (r : OfRack). IsFor Y.queues r × HasShown r.takers w.done.items w.ended) × (queues_at w.stations.now ≡ Y.queues) × AllPairs HaveOwnArenas w.stations.now × ((e : Ended) → CanEndAt w.stations.now (G.refused w.gate.now) e → Y.ends e) };
+    ghost invariant = { λ w. IsSomeAnd w.rack (λ (r : OfRack). IsFor Y.queues r × HasShown r.takers w.done.items w.ended) × (queues_at w.stations.now ≡ Y.queues) × AllPairs HaveOwnArenas w.stations.now × ((e : Ended) → CanEndAt w.stations.now (G.refused w.gate.now) e → Y.ends e) × All Y.answers w.done.items × ((d : Done) → WasLetThrough (G.passed w.gate.now) (G.told w.gate.now) d → Y.answers d) };
 }
 
 /// What a worker leaves.
@@ -84,6 +91,7 @@ impl<'a, G: Gate, Y: Yard> Worker<'a, G, Y> {
         requires stations { queues_at stations.now ≡ Y.queues }
         requires apart { AllPairs HaveOwnArenas stations.now }
         requires ends { (e : AnEnd) → CanEndAt stations.now (G.refused gate.now) e → Y.ends e }
+        requires answers { (d : AnAnswer) → WasLetThrough (G.passed gate.now) (G.told gate.now) d → Y.answers d }
         ensures { result ≡ None }
     {
         Worker {
@@ -131,6 +139,7 @@ impl<'a, G: Gate, Y: Yard> Worker<'a, G, Y> {
     pub(crate) fn into_shift(self) -> Shift
         ensures rack { IsFor Y.queues result.rack }
         ensures shown { HasShown result.rack.takers result.done.items result.ended }
+        ensures answers { All Y.answers result.done.items }
         ensures ended { result.ended ≡ self.entry }
     {
         let Worker {

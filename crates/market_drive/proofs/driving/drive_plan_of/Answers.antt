@@ -1,7 +1,8 @@
 use Rattle.std.proofs.Common.{◌≡◌, ◌∙◌, ℕ, IfSome, List, ap, arith, length, sym, subst}
+use Rattle.std.proofs.lemmas.List.Sorted.{All-permutation}
 use Rattle.market_types.specs.declared.command.Cmd.{Cmd}
 use Rattle.market_lock.specs.declared.office.Closed.{Closed}
-use Rattle.market_drive.specs.Causes.{AreEnds, CanEndIn, IsOpenedBy, still, terms_of_plan}
+use Rattle.market_drive.specs.Causes.{AreEnds, CanEndIn, IsOpenedBy, WasLetThrough, still, terms_of_plan}
 use Rattle.market_drive.specs.Driving.{IsOfficeOf}
 use Rattle.market_drive.specs.Jobs.{HaveRequestsOf}
 use Rattle.market_drive.specs.Making.{commands_of}
@@ -56,3 +57,9 @@ returns-in-Ok-gather-clause-opened g c =
     subst (λ (l : List Cmd). IsOpenedBy l closed.chronicle.log) given
     (idle_opened (CanEndIn plan refused) (terms_of_plan plan many) (still c.deref.result.now) closed.chronicle.log many shifts.result.reports.ended c.in-Ok-gather.ensures.ended
     (subst (λ o. IfSome o (λ (x : Closed). AreEnds (CanEndIn plan refused) (terms_of_plan plan many) (still c.deref.result.now) x.chronicle.log many shifts.result.reports.ended)) c.in-Some.is (shifts.ensures.ends whole)))
+
+pub returns-in-Ok-gather-clause-gate : goal.returns-in-Ok-gather-clause-gate
+returns-in-Ok-gather-clause-gate g c =
+    let shifts = c.work_shifts-racks in
+    let whole = not_torn shifts.result.reports.torn (λ torn. let is = c.in-Ok-gather.ensures.torn torn in (let e : ⊥ = cc in e)) in
+    All-permutation (WasLetThrough (g.G.Gate.passed c.args.gate.now) (g.G.Gate.told c.args.gate.now)) shifts.result.reports.done c.in-Ok-gather.done.items c.in-Ok-gather.ensures.same (shifts.ensures.answers whole)

@@ -13,6 +13,7 @@ invariant-loop-worker g l =
     × All (IsFor g.Y.Yard.queues) l.racks
     × (l.reports.torn ≡ false → l.fn.reports.torn ≡ false)
     × (l.reports.torn ≡ false → l.reports.ended ++ ends_of (reverse l.left.items) ≡ l.fn.reports.ended ++ ends_of l.fn.workers.items)
+    × (l.reports.torn ≡ false → All g.Y.Yard.answers l.fn.reports.done → All g.Y.Yard.answers l.reports.done)
     × (l.reports.torn ≡ false → (weigh : Job → ℕ) → sum_by weigh (shown l.reports) ≡ sum_by weigh (shown l.fn.reports) + taken_weight weigh l.racks)
 
 abbrev pub decreases-loop-worker : goal.decreases-loop-worker
