@@ -32,7 +32,7 @@ fn main(rt: HostRuntime) -> Result<()> {
         Script::new(alloc, &join)?,
         Script::new(alloc, &join)?,
     ]?;
-    // Each works in a thread of its own, with the pass of a seat of its own.
+    // Each has the pass of a seat of its own. The opener works in this thread, and so does one of the four, beside the others.
     match meet(&rt, alloc, TERMS, openers, workers) {
         Ok(meeting) => show(&rt, &meeting),
         Err(unmet) => bail!("no office: {}", unmet.fault),
