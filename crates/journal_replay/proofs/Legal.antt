@@ -41,7 +41,7 @@ room-left : (extent : Extent) (k : ℕ) → is_full extent k ≡ false → exten
 room-left Limited k left limited = grind (arith, nat_tests)
 room-left Endless k left limited = absurd (cc)
 
-not-full : (extent : Extent) (k : ℕ) → (extent ≡ Limited → k < most_entries) → is_full extent k ≡ false
+pub not-full : (extent : Extent) (k : ℕ) → (extent ≡ Limited → k < most_entries) → is_full extent k ≡ false
 not-full Limited k few = let small = few refl in grind (arith, nat_tests)
 not-full Endless k few = refl
 
@@ -139,7 +139,7 @@ module _ (keeps : KeepsNumbers) (extent : Extent) where
       let same : bytes_eq (reply_text o.0) (reply_text e.reply) ≡ true = (bytes_eq-Decides (reply_text o.0) (reply_text e.reply)).1 (ap reply_text (sym due)) in
       rw same refl
 
-  legal-line : (j : Option Data) (s : State) (k : ℕ) (e : Entry) → (extent ≡ Limited → k < most_entries)
+  pub legal-line : (j : Option Data) (s : State) (k : ℕ) (e : Entry) → (extent ≡ Limited → k < most_entries)
       → option_and_then (entry_in (length s.seats) s.levels) j ≡ Some (record { seat = e.call.seat; cmd = e.call.cmd; reply = reply_text e.reply })
       → e.reply ≡ (step s e.call.seat e.call.cmd).0 → after_json s k extent j ≡ Replaying (step s e.call.seat e.call.cmd).1 (k + 1) extent
   legal-line None s k e small reads due = absurd (cc)

@@ -12,3 +12,4 @@ mod PushedEntries
 mod ReadMembers
 mod Inside
 mod CutLines
+mod Watching

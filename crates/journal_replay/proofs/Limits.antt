@@ -13,6 +13,7 @@ use Rattle.journal_replay.specs.declared.checker.Progress.TheVariants.{Unopened,
 use Rattle.journal_replay.specs.Growth.{json-keeps}
 use Rattle.journal_replay.specs.Reading.{header_of}
 use Rattle.journal_replay.specs.Verdicts.{StopsReading, after_header, after_line, journal_rule, json_by, limit_of, longest_line, most_bytes}
+use Rattle.journal_replay.specs.Watched.{Seen, seen_by_line, watched_rule}
 
 abbrev json_of_line : Line → Type 0
 json_of_line line = json_by line.form line.bytes ≡ None
@@ -50,13 +51,24 @@ weaker P limit Write text failed c = c
 weaker P limit Memory text failed c = c
 weaker P limit (Taker fault) text failed c = (c.0, c.1, c.2, tt)
 
-pub stops-reading : {F : Type 0} (stops : Progress → Line → F → Type 0) (start : Progress) (left left' taken taken' : Option (List ℕ)) (failed : Bool) (fault : InputFault F)
-    → start ≡ Unopened → Stops journal_rule longest_line most_bytes stops start left left' taken taken' failed false fault → StopsReading left left' failed fault
-stops-reading stops start left left' taken taken' failed fault begun h =
-    let t = subst (λ (s : Progress). Stops journal_rule longest_line most_bytes stops s left left' taken taken' failed false fault) begun h in
+-- a watched journal's progress is that of the journal
+pub watched-progress : {W : Type 0} (seen : Seen W) (now : Progress × W) (lines : List Line) → (after (watched_rule seen) now lines).0 ≡ after journal_rule now.0 lines
+watched-progress seen now [] = refl
+watched-progress seen now (line ∷ lines) = watched-progress seen (after_line now.0 line, seen_by_line seen now.0 line now.1) lines
+
+limit-watched : {W : Type 0} (seen : Seen W) (start : Progress × W) (text : List ℕ) → start.0 ≡ Unopened
+    → limit_by (watched_rule seen) longest_line (λ now. most_bytes now.0) start text ≡ limit_of text
+limit-watched seen start text begun =
+    ap most_bytes (watched-progress seen start (whole_lines longest_line text))
+    ∙ ap (λ s. most_bytes (after journal_rule s (whole_lines longest_line text))) begun
+    ∙ limit-same text
+
+pub stops-reading : {W F : Type 0} (seen : Seen W) (stops : Progress × W → Line → F → Type 0) (start : Progress × W) (left left' taken taken' : Option (List ℕ)) (failed : Bool) (fault : InputFault F)
+    → start.0 ≡ Unopened → Stops (watched_rule seen) longest_line (λ now. most_bytes now.0) stops start left left' taken taken' failed false fault → StopsReading left left' failed fault
+stops-reading seen stops start left left' taken taken' failed fault begun h =
     record {
-      text = t.input;
-      read = t.read;
-      cause = subst (λ (limit : List ℕ → ℕ). CauseOf (λ _. ⊤) limit fault t.input failed false) (λ i text. limit-same text i)
-          (weaker (StopsAt journal_rule stops Unopened (lines_of longest_line t.input)) (limit_by journal_rule longest_line most_bytes Unopened) fault t.input failed t.cause);
+      text = h.input;
+      read = h.read;
+      cause = subst (λ (limit : List ℕ → ℕ). CauseOf (λ _. ⊤) limit fault h.input failed false) (λ i text. limit-watched seen start text begun i)
+          (weaker (StopsAt (watched_rule seen) stops start (lines_of longest_line h.input)) (limit_by (watched_rule seen) longest_line (λ now. most_bytes now.0) start) fault h.input failed h.cause);
     }

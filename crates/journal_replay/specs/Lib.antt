@@ -10,3 +10,4 @@ pub mod Cuts
 pub mod Members
 pub mod EntryFields
 pub mod EntryLines
+pub mod Watched

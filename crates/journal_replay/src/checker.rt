@@ -7,12 +7,14 @@ ghost use Rattle.market_types.specs.Step.{step};
 ghost use Rattle.market_types.specs.Texts.{reply_text};
 ghost use Rattle.journal_replay.specs.EntryLines.{IsSeated, reading_of};
 ghost use Rattle.journal_replay.specs.Verdicts.{Finds, StopsReading, after_header, after_line, json_by, lines_taken, most_bytes, verdict, verdict_of};
+ghost use Rattle.journal_replay.specs.Watched.{Watches, seen_by_line};
 ghost use Rattle.journal_replay.specs.Reading.{entry_in, header_of};
 
 use crate::entry::{Reading, Room, read};
 use crate::header::Extent;
 use crate::reading::{Opened, Recorded, open_market, read_json};
 use crate::verdict::{DueReply, Verdict};
+use crate::watcher::{Unwatched, Watcher};
 use byte_devices::Source;
 use line_engine::{InputFault, LONGEST_INPUT, LineForm, LineTaker, Nowhere, take_lines, take_text};
 use market_core::Market;
@@ -60,11 +62,13 @@ fn read_whole<'a>(
     }
 }
 
-/// Gives an entry's call to the market, and writes the text of the due reply in the room of another: whether it is the entry's.
-fn replay(
+/// Gives an entry's call to the market, shows it to the watcher, and writes the text of the due reply in the room of another: whether
+/// it is the entry's.
+fn replay<W: Watcher>(
     alloc: Global,
     market: &mut Market,
     due: &mut Vec<u8>,
+    watcher: &mut W,
     entry: &Recorded<'_>,
 ) -> Result<bool, AllocError>
     requires seat { entry.now.seat < length market.old.seats }
@@ -72,12 +76,14 @@ fn replay(
     ensures due { OnOk result (due.new.items ≡ reply_text (step market.old entry.now.seat entry.now.cmd).0) }
     ensures utf8 { OnOk result (IsUtf8 due.new.items) }
     ensures same { IfOk result (λ same. same ≡ bytes_eq (reply_text (step market.old entry.now.seat entry.now.cmd).0) entry.now.reply.now) }
+    ensures seen { OnOk result (W.made watcher.new ≡ W.seen (W.made watcher.old) (step market.old entry.now.seat entry.now.cmd).1 entry.now.cmd (step market.old entry.now.seat entry.now.cmd).0) }
 {
     let Ok(reply) = market.apply(alloc, entry.seat, entry.cmd) else {
         return Err(AllocError);
     };
     due.clear();
     let pushed = push_reply(due, &reply);
+    watcher.see(market, &entry.cmd, &reply);
     drop(reply);
     pushed?;
     Ok(due.as_slice() == entry.reply)
@@ -151,16 +157,18 @@ impl Progress {
     /// Takes one line more: the header, or an entry, which is replayed and counted, or what ends the journal. The market stays where it
     /// is, and memory that is kept serves for each line, for what it is read as and for the text of the reply that is due.
     #[inline(always)]
-    fn take_line<'a>(
+    fn take_line<'a, W: Watcher>(
         &mut self,
         alloc: Global,
         line: &'a [u8],
         form: LineForm,
         room: &'a mut Room,
         due: &mut Vec<u8>,
+        watcher: &mut W,
     ) -> Result<(), AllocError>
         requires few { lines_taken self.old + 1 < 2 ^ 64 }
-        ensures { OnOk result (self.new ≡ after_line self.old (record { bytes = line.entry.now; form = form })) }
+        ensures progress { OnOk result (self.new ≡ after_line self.old (record { bytes = line.entry.now; form = form })) }
+        ensures seen { OnOk result (W.made watcher.new ≡ seen_by_line W.seen self.old (record { bytes = line.entry.now; form = form }) (W.made watcher.old)) }
     {
         match self {
             Progress::Unopened => self.open(alloc, line, form),
@@ -173,7 +181,7 @@ impl Progress {
                             self.end(Verdict::BadRecord(number), extent);
                             return Ok(());
                         }
-                        if replay(alloc, market, due, &entry)? {
+                        if replay(alloc, market, due, watcher, &entry)? {
                             *entries += 1;
                             return Ok(());
                         }
@@ -216,35 +224,53 @@ impl Progress {
     }
 }
 
-/// Takes the lines of a journal, and answers none of them.
+/// Takes the lines of a journal, and answers none of them. A watcher looks on.
 #[derive(Drop)]
-pub(crate) struct Checker {
+pub(crate) struct Checker<W: Watcher> {
     alloc: Global,
     progress: Progress,
     room: Room,
     /// The text of the reply that was due last.
     due: Vec<u8>,
+    watcher: W,
 }
 
-impl Checker {
+impl<W: Watcher> Checker<W> {
     /// Before the first line.
-    fn new(alloc: Global) -> Self
-        ensures { result.progress ≡ Progress.Unopened }
+    fn new(alloc: Global, watcher: W) -> Self
+        ensures progress { result.progress ≡ Progress.Unopened }
+        ensures watcher { result.watcher ≡ watcher }
     {
         Checker {
             alloc,
             progress: Progress::Unopened,
             room: Room::new(alloc),
             due: Vec::new(alloc),
+            watcher,
         }
+    }
+
+    /// What is found, if no line follows, and the watcher.
+    fn end(self) -> (Verdict, W)
+        ensures { result ≡ (verdict_of self.progress, self.watcher) }
+    {
+        let Checker {
+            alloc: _,
+            progress,
+            room: _,
+            due: _,
+            watcher,
+        } = self;
+        (progress.into_verdict(), watcher)
     }
 }
 
-impl LineTaker for Checker {
+impl<W: Watcher> LineTaker for Checker<W> {
     ghost use Rattle.std.specs.Prelude.{⊤};
     ghost use Rattle.journal_replay.specs.Growth.{limit-grows};
     ghost use Rattle.journal_replay.specs.declared.checker.Progress.{Progress};
-    ghost use Rattle.journal_replay.specs.Verdicts.{journal_rule, lines_taken, longest_line, most_bytes};
+    ghost use Rattle.journal_replay.specs.Verdicts.{lines_taken, longest_line, most_bytes};
+    ghost use Rattle.journal_replay.specs.Watched.{watched_rule};
 
     type Fault = AllocError;
 
@@ -252,19 +278,19 @@ impl LineTaker for Checker {
 
     ghost LONGEST = { longest_line };
 
-    ghost State = { Progress };
+    ghost State = { Progress × W.Made };
 
-    ghost state = { λ c. c.progress };
+    ghost state = { λ c. (c.progress, W.made c.watcher) };
 
-    ghost rule = { journal_rule };
+    ghost rule = { watched_rule W.seen };
 
     ghost stops = { λ _ _ _. ⊤ };
 
     ghost count = { λ c. lines_taken c.progress };
 
-    ghost most_bytes = { most_bytes };
+    ghost most_bytes = { λ now. most_bytes now.0 };
 
-    ghost grows = { limit-grows };
+    ghost grows = { λ now line. limit-grows now.0 line };
 
     fn most_bytes(&self) -> u64 {
         self.progress.most_bytes()
@@ -276,9 +302,15 @@ impl LineTaker for Checker {
         form: LineForm,
         _replies: &mut Vec<u8>,
     ) -> Result<(), AllocError> {
-        self.progress
-            .take_line(self.alloc, line, form, &mut self.room, &mut self.due)?;
-        self.room.let_go();
+        let Checker {
+            alloc,
+            progress,
+            room,
+            due,
+            watcher,
+        } = self;
+        progress.take_line(*alloc, line, form, room, due, watcher)?;
+        room.let_go();
         Ok(())
     }
 }
@@ -292,7 +324,7 @@ impl LineTaker for Checker {
 pub fn check(alloc: Global, text: &[u8]) -> Result<Verdict, AllocError>
     ensures verdict { IfOk result (λ found. found ≡ verdict text.now) }
 {
-    let Ok(checker) = take_text(alloc, Checker::new(alloc), text) else {
+    let Ok(checker) = take_text(alloc, Checker::new(alloc, Unwatched), text) else {
         return Err(AllocError);
     };
     Ok(checker.progress.into_verdict())
@@ -313,7 +345,26 @@ pub fn check_source<R: Source>(
     ensures working { OnOk result (R.failed source.new ≡ false) }
     ensures stops { IfErr result (λ fault. StopsReading (R.left source.old) (R.left source.new) (R.failed source.new) fault) }
 {
+    let (found, _watcher) = watch_source(alloc, Unwatched, source)?;
+    Ok(found)
+}
+
+/// What is found of the journal that a source has left, as `check_source` finds it, and a watcher that has seen its entries, in order: all
+/// of them where the journal is legal.
+pub fn watch_source<W: Watcher, R: Source>(
+    alloc: Global,
+    watcher: W,
+    source: &mut R,
+) -> Result<(Verdict, W), InputFault<AllocError>>
+    requires source_working { R.failed source.old ≡ false }
+    requires source_begins { R.ended source.old ≡ false }
+    ensures watches { IfOk result (λ end. Watches W.seen (W.made watcher) (W.made end.1) (R.left source.old) (R.left source.new) end.0) }
+    ensures end { OnOk result (R.ended source.new ≡ true) }
+    ensures whole { OnOk result (IsAtEnd (R.left source.new)) }
+    ensures working { OnOk result (R.failed source.new ≡ false) }
+    ensures stops { IfErr result (λ fault. StopsReading (R.left source.old) (R.left source.new) (R.failed source.new) fault) }
+{
     let mut nowhere = Nowhere;
-    let checker = take_lines(alloc, Checker::new(alloc), source, &mut nowhere)?;
-    Ok(checker.progress.into_verdict())
+    let checker = take_lines(alloc, Checker::new(alloc, watcher), source, &mut nowhere)?;
+    Ok(checker.end())
 }
