@@ -17,7 +17,7 @@ use Rattle.journal_chart.specs.declared.row.Row.{Row}
 use Rattle.journal_chart.specs.Columns.{columns, width_of}
 use Rattle.journal_chart.specs.Lines.{added, halved}
 use Rattle.journal_chart.specs.Numbers.{level_at, shown, line_of, row_of, Drawn, drawn_of, Charted, chart_of}
-use Rattle.journal_chart.specs.Steps.{stands_after, halved_row, taken_row, halved_lines, taken_lines, empty_row, empty_lines}
+use Rattle.journal_chart.specs.Steps.{stands_after, halved_row, passed_row, taken_row, halved_lines, taken_lines, empty_row, empty_lines, roomed_lines, taken_chart, passed_chart}
 use Rattle.journal_chart.proofs.Thinned.{added-columns, halved-columns}
 use Rattle.journal_chart.proofs.Standing.{stands}
 
@@ -169,6 +169,11 @@ lines-if false most arenas moments s t cmd reply some full stood =
 abbrev pub charted : ℕ → ℕ → Drawn → Charted
 charted most moments lines = record { most = most; moments = moments; lines = lines }
 
+-- where an arena stands after an answered command
+stood-after : (s t : State) (seat : ℕ) (cmd : Cmd) (reply : Reply) → step s seat cmd ≡ (reply, t) → (a : ℕ) → stands_after a (level_at a s) cmd reply ≡ level_at a t
+stood-after s t seat cmd reply answered a =
+    sym (ap (λ (o : Outcome). stands_after a (level_at a s) cmd o.0) answered) ∙ sym (stands s seat cmd a) ∙ ap (λ (o : Outcome). level_at a o.1) answered
+
 pub chart-more : (most n width width' place : ℕ) (old mid new : Drawn) (arenas : List ℕ) (moments : List State) (s t : State) (seat : ℕ) (cmd : Cmd) (reply : Reply)
     → 0 < most → width ≡ width_of most n
     → width' ≡ (if nat_le (most * width) n then width + width else width)
@@ -183,8 +188,7 @@ chart-more most n width width' place old mid new arenas moments s t seat cmd rep
     let next : width' ≡ width_of most (suc (length moments)) = wider ∙ (λ i. if nat_le (most * so_wide i) (count i) then so_wide i + so_wide i else so_wide i) in
     let readied : mid ≡ cond (nat_le (most * width_of most (length moments)) (length moments)) (halved_lines (drawn_of most arenas moments s)) (drawn_of most arenas moments s) =
     room ∙ (λ i. if nat_le (most * so_wide i) (count i) then halved_lines (were i) else were i) in
-    let stood : (a : ℕ) → stands_after a (level_at a s) cmd reply ≡ level_at a t =
-    λ a. sym (ap (λ (o : Outcome). stands_after a (level_at a s) cmd o.0) answered) ∙ sym (stands s seat cmd a) ∙ ap (λ (o : Outcome). level_at a o.1) answered in
+    let stood : (a : ℕ) → stands_after a (level_at a s) cmd reply ≡ level_at a t = stood-after s t seat cmd reply answered in
     let lines : new ≡ drawn_of most arenas (moments ++ t ∷ []) t =
     taken
     ∙ (λ i. taken_lines (where_ i) t cmd reply (readied i))
@@ -192,6 +196,41 @@ chart-more most n width width' place old mid new arenas moments s t seat cmd rep
     ∙ lines-if (nat_le (most * width_of most (length moments)) (length moments)) most arenas moments s t cmd reply some refl stood in
     let more : n + 1 ≡ length (moments ++ t ∷ []) = omega (arith, count, length_push moments t) in
     λ i. charted most (more i) (lines i)
+
+-- what the code does to a chart at a moment
+pub chart-step : (most n width width' place : ℕ) (old mid new : Drawn) (s : State) (cmd : Cmd) (reply : Reply) → width ≡ width_of most n
+    → width' ≡ (if nat_le (most * width) n then width + width else width)
+    → mid ≡ (if nat_le (most * width) n then halved_lines old else old)
+    → place ≡ n / width' → new ≡ taken_lines place s cmd reply mid → charted most (n + 1) new ≡ taken_chart s cmd reply (charted most n old)
+chart-step most n width width' place old mid new s cmd reply wide wider room where_ taken =
+    let here : place ≡ n / width_of most (n + 1) = where_ ∙ ap (λ w. n / w) (width-more most n width width' wide wider) in
+    let roomed_ : mid ≡ roomed_lines (charted most n old) = room ∙ ap (λ w. if nat_le (most * w) n then halved_lines old else old) wide in
+    let lines : new ≡ taken_lines (n / width_of most (n + 1)) s cmd reply (roomed_lines (charted most n old)) = taken ∙ (λ i. taken_lines (here i) s cmd reply (roomed_ i)) in
+    λ i. charted most (n + 1) (lines i)
+
+-- a chart that takes the moment after a call
+pub chart-taken : (most : ℕ) (arenas : List ℕ) (moments : List State) (s t : State) (seat : ℕ) (cmd : Cmd) (reply : Reply) → 0 < most → step s seat cmd ≡ (reply, t)
+    → taken_chart t cmd reply (chart_of most arenas moments s) ≡ chart_of most arenas (moments ++ t ∷ []) t
+chart-taken most arenas moments s t seat cmd reply some answered =
+    let n : ℕ = length moments in
+    let next : n + 1 ≡ suc n = omega arith in
+    let c : Charted = chart_of most arenas moments s in
+    chart-more most n (width_of most n) (width_of most (n + 1)) (n / width_of most (n + 1)) (drawn_of most arenas moments s) (roomed_lines c)
+    (taken_lines (n / width_of most (n + 1)) t cmd reply (roomed_lines c)) arenas moments s t seat cmd reply some refl (ap (width_of most) next) refl refl refl answered refl
+
+passed-rows : (most : ℕ) (moments : List State) (s t : State) (cmd : Cmd) (reply : Reply) → ((a : ℕ) → stands_after a (level_at a s) cmd reply ≡ level_at a t)
+    → (arenas : List ℕ) → map (passed_row cmd reply) (map (row_of most moments s) arenas) ≡ map (row_of most moments t) arenas
+passed-rows most moments s t cmd reply stood [] = refl
+passed-rows most moments s t cmd reply stood (a ∷ arenas) =
+    let more = passed-rows most moments s t cmd reply stood arenas in
+    λ i. record (row_of most moments s a) { stands = stood a i } ∷ more i
+
+-- a chart that lets the moment after a call pass
+pub chart-passed : (most : ℕ) (arenas : List ℕ) (moments : List State) (s t : State) (seat : ℕ) (cmd : Cmd) (reply : Reply) → step s seat cmd ≡ (reply, t)
+    → passed_chart cmd reply (chart_of most arenas moments s) ≡ chart_of most arenas moments t
+chart-passed most arenas moments s t seat cmd reply answered =
+    let rows = passed-rows most moments s t cmd reply (stood-after s t seat cmd reply answered) arenas in
+    λ i. record (chart_of most arenas moments s) { lines = record (drawn_of most arenas moments s) { rows = rows i } }
 
 -- ---- before the first moment
 

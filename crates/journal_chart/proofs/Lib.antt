@@ -3,5 +3,6 @@ pub mod Thinned
 pub mod Standing
 pub mod Mapped
 pub mod Charts
+pub mod Making
 pub mod Histories
 mod Examples

@@ -63,9 +63,9 @@ levels_text-more sheet rows n y o a b e f g =
 
 -- a row that is put
 pub row-put : (sheet : Sheet) (level y : ℕ) (rows : List Row) (i : ℕ) (r : Row) (a b whole : List ℕ) → i < length rows → r ≡ get_or rows i r → is_at level r ≡ true
-    → a ++ rows_text sheet level y (drop i rows) ≡ whole → b ≡ a ++ row_text sheet level y r → b ++ rows_text sheet level (y + 48) (drop (i + 1) rows) ≡ whole
+    → a ++ rows_text sheet level y (drop i rows) ≡ whole → b ≡ a ++ row_text sheet level y r → b ++ rows_text sheet level (y + 40) (drop (i + 1) rows) ≡ whole
 row-put sheet level y rows i r a b whole inside is stands before put =
-    let rest : List ℕ = rows_text sheet level (y + 48) (drop (i + 1) rows) in
+    let rest : List ℕ = rows_text sheet level (y + 40) (drop (i + 1) rows) in
     let other : List ℕ = rows_text sheet level y (drop (i + 1) rows) in
     let taken : rows_text sheet level y (drop i rows) ≡ row_text sheet level y r ++ rest =
     at_drop_more (rows_text sheet level y) rows i r inside ∙ ap (λ q. rows_text sheet level y (q ∷ drop (i + 1) rows)) (sym is)
@@ -76,7 +76,7 @@ row-put sheet level y rows i r a b whole inside is stands before put =
 pub row-elsewhere : (sheet : Sheet) (level y : ℕ) (rows : List Row) (i : ℕ) (r : Row) (a whole : List ℕ) → i < length rows → r ≡ get_or rows i r → is_at level r ≡ false
     → a ++ rows_text sheet level y (drop i rows) ≡ whole → a ++ rows_text sheet level y (drop (i + 1) rows) ≡ whole
 row-elsewhere sheet level y rows i r a whole inside is stands before =
-    let rest : List ℕ = rows_text sheet level (y + 48) (drop (i + 1) rows) in
+    let rest : List ℕ = rows_text sheet level (y + 40) (drop (i + 1) rows) in
     let other : List ℕ = rows_text sheet level y (drop (i + 1) rows) in
     let taken : rows_text sheet level y (drop i rows) ≡ other =
     at_drop_more (rows_text sheet level y) rows i r inside ∙ ap (λ q. rows_text sheet level y (q ∷ drop (i + 1) rows)) (sym is)

@@ -1,4 +1,5 @@
 pub mod Columns
+pub mod Journals
 pub mod Lines
 pub mod Numbers
 pub mod Picture

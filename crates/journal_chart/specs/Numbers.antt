@@ -1,5 +1,5 @@
 -- The numbers of a chart: what each line says in each column (own).
-use Rattle.std.specs.Prelude.{ℕ, List, [], ◌∷◌, length, map, Option, Some}
+use Rattle.std.specs.Prelude.{ℕ, ◌-◌, List, [], ◌∷◌, length, map, take, drop, Option, Some}
 use Rattle.std.specs.Option.{option_map}
 use Rattle.market_types.specs.declared.command.Call.{Call}
 use Rattle.market_types.specs.declared.reply.ArenaView.{ArenaView}
@@ -79,3 +79,8 @@ moments_of s (c ∷ calls) = (step s c.seat c.cmd).1 ∷ moments_of (step s c.se
 -- the chart of these arenas over calls from this opening
 abbrev pub chart_after : ℕ → List ℕ → State → List Call → Charted
 chart_after most arenas start calls = chart_of most arenas (moments_of start calls) (state_after start calls)
+
+-- the chart of these arenas over the calls from one on to another, which are counted from 1
+abbrev pub chart_between : ℕ → List ℕ → ℕ → ℕ → State → List Call → Charted
+chart_between most arenas from to start calls =
+    chart_of most arenas (drop (from - 1) (moments_of start (take to calls))) (state_after start (take to calls))

@@ -21,17 +21,17 @@ range_text s = if s.least == s.most then decimal s.least else decimal s.least ++
 abbrev pub entries_text : Entries → List ℕ
 entries_text e = if e.first == e.last then codes "entry " ++ decimal e.first else codes "entries " ++ (decimal e.first ++ (codes " to " ++ decimal e.last))
 
--- how high a number stands, where the greatest of the row stands at 36
+-- how high a number stands, where the greatest of the row stands at 28
 abbrev pub rise_of : ℕ → ℕ → ℕ
-rise_of scale number = min 36 (number * 36 / scale)
+rise_of scale number = min 28 (number * 28 / scale)
 
 -- a bar from the least to the most, never thinner than 2
 abbrev pub bar_of : ℕ → Span → Bar
-bar_of scale s = record { y = 36 - rise_of scale s.most; height = rise_of scale s.most - rise_of scale s.least + 2 }
+bar_of scale s = record { y = 28 - rise_of scale s.most; height = rise_of scale s.most - rise_of scale s.least + 2 }
 
 -- a bar, after the name of its class
 abbrev pub bar_text : Bar → List ℕ
-bar_text b = codes " y=\"" ++ (decimal b.y ++ (codes "\" width=\"6\" height=\"" ++ (decimal b.height ++ codes "\"/>")))
+bar_text b = codes " d=\"M4 " ++ (decimal b.y ++ (codes "v" ++ (decimal b.height ++ codes "\"/>")))
 
 -- what a row says in a column, where its arena lived
 abbrev pub figure_of : Option Span → Option Span → Option Span → Option Span → Option Span → Option Span → Option Figure
@@ -58,22 +58,22 @@ title_text e arena f =
 -- the ground of a column, which is another where the arena moved between levels
 abbrev pub ground_text : Span → List ℕ
 ground_text level =
-    if level.least == level.most then codes "<rect class=\"h\" width=\"6\" height=\"44\"/>" else codes "<rect class=\"v\" width=\"6\" height=\"44\"/>"
+    if level.least == level.most then codes "<path class=\"h\" d=\"M4 0v36\"/>" else codes "<path class=\"v\" d=\"M4 0v36\"/>"
 
 -- the allotment as an area, pale to its most and full to its least
 abbrev pub area_text : ℕ → Span → List ℕ
 area_text scale allot =
-    codes "<rect class=\"m\"" ++ (bar_text (bar_of scale (record { least = 0; most = allot.most }))
-    ++ (codes "<rect class=\"l\"" ++ bar_text (bar_of scale (record { least = 0; most = allot.least }))))
+    codes "<path class=\"m\"" ++ (bar_text (bar_of scale (record { least = 0; most = allot.most }))
+    ++ (codes "<path class=\"l\"" ++ bar_text (bar_of scale (record { least = 0; most = allot.least }))))
 
 -- the request and the active workers
 abbrev pub bars_text : ℕ → Span → Span → List ℕ
-bars_text scale request active = codes "<rect class=\"r\"" ++ (bar_text (bar_of scale request) ++ (codes "<rect class=\"a\"" ++ bar_text (bar_of scale active)))
+bars_text scale request active = codes "<path class=\"r\"" ++ (bar_text (bar_of scale request) ++ (codes "<path class=\"a\"" ++ bar_text (bar_of scale active)))
 
 -- marks of recalls and of hires, which have no height where there are none
 abbrev pub marks_text : ℕ → ℕ → List ℕ
 marks_text recall hire =
-    codes "<rect class=\"k\"" ++ (bar_text (record { y = 39; height = min 2 recall }) ++ (codes "<rect class=\"n\"" ++ bar_text (record { y = 42; height = min 2 hire })))
+    codes "<path class=\"k\"" ++ (bar_text (record { y = 31; height = min 2 recall }) ++ (codes "<path class=\"n\"" ++ bar_text (record { y = 34; height = min 2 hire })))
 
 abbrev pub shapes_text : ℕ → Figure → List ℕ
 shapes_text scale f = ground_text f.level ++ (area_text scale f.allot ++ (bars_text scale f.request f.active ++ marks_text f.recall.most f.hire.most))
@@ -86,7 +86,7 @@ stands_at level (Some s) = (s.least == level) || (s.most == level)
 -- a column of an arena at its place
 abbrev pub placed_text : ℕ → ℕ → Entries → ℕ → Figure → List ℕ
 placed_text arena scale e place f =
-    (codes "<g transform=\"translate(" ++ (decimal (150 + 6 * place) ++ codes ")\">")) ++ (title_text e arena f ++ (shapes_text scale f ++ codes "</g>\n"))
+    (codes "<g transform=\"translate(" ++ (decimal (180 + 8 * place) ++ codes ")\">")) ++ (title_text e arena f ++ (shapes_text scale f ++ codes "</g>\n"))
 
 -- a column of an arena at a level, where it is drawn there
 abbrev pub cell_text : ℕ → ℕ → ℕ → Entries → ℕ → Option Figure → List ℕ
@@ -116,10 +116,17 @@ scale_of r = max 1 (max (greatest r.request) (max (greatest r.allot) (greatest r
 abbrev pub filled : Sheet → ℕ
 filled sheet = min sheet.columns (if sheet.moments == 0 then 0 else (sheet.moments - 1) / sheet.width + 1)
 
+-- the first entry of a column
+abbrev pub first_entry : Sheet → ℕ → ℕ
+first_entry sheet place = sheet.before + place * sheet.width + 1
+
 -- the entries of a column
 abbrev pub entries_of : Sheet → ℕ → Entries
 entries_of sheet place =
-    record { first = place * sheet.width + 1; last = place * sheet.width + min sheet.width (sheet.moments - place * sheet.width) }
+    record {
+      first = first_entry sheet place;
+      last = sheet.before + place * sheet.width + min sheet.width (sheet.moments - place * sheet.width);
+    }
 
 -- a column of a row at a level
 abbrev pub column_text : Sheet → ℕ → ℕ → Row → ℕ → List ℕ
@@ -133,7 +140,7 @@ columns_text sheet level scale r = flat_map (column_text sheet level scale r) (r
 abbrev pub name_text : ℕ → ℕ → ℕ → Row → List ℕ
 name_text level scale y r =
     (codes "<g transform=\"translate(0 " ++ (decimal y ++ (codes ")\"><text x=\"8\" y=\"24\">level " ++ decimal level)))
-    ++ (codes ", arena " ++ (decimal r.arena ++ (codes "</text><text x=\"142\" y=\"10\" class=\"e\">" ++ (decimal scale ++ codes "</text>\n"))))
+    ++ (codes ", arena " ++ (decimal r.arena ++ (codes "</text><text x=\"172\" y=\"10\" class=\"e\">" ++ (decimal scale ++ codes "</text>\n"))))
 
 -- a row at a level
 abbrev pub row_text : Sheet → ℕ → ℕ → Row → List ℕ
@@ -147,11 +154,11 @@ is_at level r = list_any (stands_at level) r.level
 abbrev pub rows_text : Sheet → ℕ → ℕ → List Row → List ℕ
 rows_text sheet level y [] = []
 rows_text sheet level y (r ∷ rows) =
-    if is_at level r then row_text sheet level y r ++ rows_text sheet level (y + 48) rows else rows_text sheet level y rows
+    if is_at level r then row_text sheet level y r ++ rows_text sheet level (y + 40) rows else rows_text sheet level y rows
 
 -- where the rows at a level end
 abbrev pub rows_end : ℕ → ℕ → List Row → ℕ
-rows_end level y rows = y + 48 * count_by (is_at level) rows
+rows_end level y rows = y + 40 * count_by (is_at level) rows
 
 -- where the rows of the first levels end
 unfoldable pub levels_end : List Row → ℕ → ℕ
@@ -168,11 +175,11 @@ levels_text sheet rows (suc n) = levels_text sheet rows n ++ rows_text sheet (n 
 -- what a pointer over a column of the limits is told, and the ground
 abbrev pub limits_title : Entries → Span → Span → List ℕ
 limits_title e limit effective =
-    (codes "<title>" ++ (entries_text e ++ (codes ": limit " ++ range_text limit))) ++ (codes ", effective limit " ++ (range_text effective ++ codes "</title><rect class=\"h\" width=\"6\" height=\"44\"/>"))
+    (codes "<title>" ++ (entries_text e ++ (codes ": limit " ++ range_text limit))) ++ (codes ", effective limit " ++ (range_text effective ++ codes "</title><path class=\"h\" d=\"M4 0v36\"/>"))
 
 -- where a column of the limits stands
 abbrev pub limits_place : ℕ → List ℕ
-limits_place place = codes "<g transform=\"translate(" ++ (decimal (150 + 6 * place) ++ codes " 60)\">")
+limits_place place = codes "<g transform=\"translate(" ++ (decimal (180 + 8 * place) ++ codes " 60)\">")
 
 -- a column of the limits at its place
 abbrev pub placed_limits : ℕ → Entries → ℕ → Span → Span → List ℕ
@@ -199,7 +206,7 @@ limits_columns sheet scale d = flat_map (limits_column sheet scale d) (range_wit
 
 -- the name of the limits, and what stands at their top
 abbrev pub limits_name : ℕ → List ℕ
-limits_name scale = codes "<text x=\"8\" y=\"84\">limit</text><text x=\"142\" y=\"70\" class=\"e\">" ++ (decimal scale ++ codes "</text>\n")
+limits_name scale = codes "<text x=\"8\" y=\"84\">limit</text><text x=\"172\" y=\"70\" class=\"e\">" ++ (decimal scale ++ codes "</text>\n")
 
 -- the limits
 abbrev pub limits_text : Sheet → Drawn → List ℕ
@@ -211,7 +218,7 @@ limits_text sheet d = limits_name (limits_scale d) ++ limits_columns sheet (limi
 abbrev pub tick_text : Sheet → ℕ → ℕ → List ℕ
 tick_text sheet y place =
     if place % 16 == 0
-    then codes "<text x=\"" ++ (decimal (150 + 6 * place) ++ (codes "\" y=\"" ++ (decimal y ++ (codes "\">" ++ (decimal (place * sheet.width + 1) ++ codes "</text>\n")))))
+    then codes "<text x=\"" ++ (decimal (180 + 8 * place) ++ (codes "\" y=\"" ++ (decimal y ++ (codes "\">" ++ (decimal (first_entry sheet place) ++ codes "</text>\n")))))
     else []
 
 -- the first entries of all columns that tell it
@@ -228,9 +235,9 @@ axis_text sheet y = axis_name y ++ ticks_text sheet y
 
 -- ---- the picture
 
--- the columns of a chart
-abbrev pub sheet_of : Charted → Sheet
-sheet_of c = record { width = width_of c.most c.moments; moments = c.moments; columns = c.most }
+-- the columns of a chart, before whose moments so many entries came
+abbrev pub sheet_of : ℕ → Charted → Sheet
+sheet_of before c = record { before = before; width = width_of c.most c.moments; moments = c.moments; columns = c.most }
 
 -- how wide and how high the picture is
 abbrev pub size_text : ℕ → ℕ → List ℕ
@@ -243,10 +250,10 @@ box_text wide high = codes " viewBox=\"0 0 " ++ (decimal wide ++ (codes " " ++ (
 -- the colours of the classes, on light pages and on dark ones
 unfoldable pub style_text : List ℕ
 style_text =
-    codes "<style>svg{background:#fff;font:12px sans-serif}text,.r{fill:#222}.e{text-anchor:end}"
-    ++ (codes ".h{fill:transparent}.v{fill:#f6d58f}.m{fill:#bfe1f5}.l{fill:#56b4e9}.a{fill:#d55e00}.k{fill:#cc79a7}"
-    ++ (codes ".n{fill:#009e73}@media(prefers-color-scheme:dark){svg{background:#111}text,.r{fill:#ddd}"
-    ++ (codes ".v{fill:#6b4e10}.m{fill:#173f57}.l{fill:#2a7fb8}.a{fill:#ff9d5c}}</style>\n")))
+    codes "<style>svg{background:#fff;font:12px sans-serif}text{fill:#222}.e{text-anchor:end}rect{fill:currentColor}"
+    ++ (codes "path{stroke:currentColor;stroke-width:8}.h{color:transparent}.r{color:#222}.v{color:#f6d58f}.m{color:#bfe1f5}"
+    ++ (codes ".l{color:#56b4e9}.a{color:#d55e00}.k{color:#cc79a7}.n{color:#009e73}@media(prefers-color-scheme:dark){"
+    ++ (codes "svg{background:#111}text{fill:#ddd}.r{color:#ddd}.v{color:#6b4e10}.m{color:#173f57}.l{color:#2a7fb8}.a{color:#ff9d5c}}</style>\n")))
 
 -- what the classes stand for
 unfoldable pub legend_text : List ℕ
@@ -272,7 +279,7 @@ head_text wide high = size_text wide high ++ (box_text wide high ++ (style_text 
 
 -- how wide the picture is: room for the names, for the columns and for the legend
 abbrev pub wide_of : Sheet → ℕ
-wide_of sheet = max 660 (160 + 6 * sheet.columns)
+wide_of sheet = max 660 (256 + 8 * sheet.columns)
 
 -- the picture of some columns and lines, one part below the other
 abbrev pub sheet_text : Sheet → Drawn → List ℕ
@@ -280,6 +287,6 @@ sheet_text sheet d =
     head_text (wide_of sheet) (levels_end d.rows 8 + 32)
     ++ (limits_text sheet d ++ (levels_text sheet d.rows 8 ++ (axis_text sheet (levels_end d.rows 8 + 20) ++ codes "</svg>\n")))
 
--- the picture of a chart
-abbrev pub picture_text : Charted → List ℕ
-picture_text c = sheet_text (sheet_of c) c.lines
+-- the picture of a chart, before whose moments so many entries came
+abbrev pub picture_text : ℕ → Charted → List ℕ
+picture_text before c = sheet_text (sheet_of before c) c.lines

@@ -1,5 +1,5 @@
--- What the code does to the lines of a chart. Private functions alone cite these words.
-use Rattle.std.specs.Prelude.{ℕ, ◌==◌, if◌then◌else◌, List, map, replicate, Option, Some, None}
+-- What the code does to the lines of a chart, moment by moment. What it comes to is in Numbers.
+use Rattle.std.specs.Prelude.{ℕ, ◌+◌, ◌*◌, ◌/◌, ◌==◌, nat_le, nat_lt, if◌then◌else◌, List, map, replicate, Option, Some, None}
 use Rattle.std.specs.Option.{option_map}
 use Rattle.market_types.specs.declared.command.Cmd.{Cmd}
 use Rattle.market_types.specs.declared.command.Cmd.TheVariants.{Open, Close, Priority}
@@ -10,7 +10,8 @@ use Rattle.market_types.specs.State.{State}
 use Rattle.market_types.specs.Allotment.{limit_of, effective_limit_of}
 use Rattle.journal_chart.specs.declared.row.Row.{Row}
 use Rattle.journal_chart.specs.Lines.{added, halved}
-use Rattle.journal_chart.specs.Numbers.{Drawn, view_at}
+use Rattle.journal_chart.specs.Columns.{width_of}
+use Rattle.journal_chart.specs.Numbers.{Charted, Drawn, view_at}
 
 -- ---- where an arena stands after a command and its reply, by where it stood before
 
@@ -79,6 +80,10 @@ abbrev pub taken_row : ℕ → State → Cmd → Reply → Row → Row
 taken_row place s cmd reply r =
     viewed_row place (view_at r.arena s) (standing_row place (record r { stands = stands_after r.arena r.stands cmd reply }))
 
+-- nothing is drawn, but where the arena stands is known
+abbrev pub passed_row : Cmd → Reply → Row → Row
+passed_row cmd reply r = record r { stands = stands_after r.arena r.stands cmd reply }
+
 -- ---- all lines
 
 abbrev pub empty_lines : ℕ → List ℕ → Drawn
@@ -94,3 +99,41 @@ taken_lines place s cmd reply d =
       effective = added place (Some (effective_limit_of s)) d.effective;
       rows = map (taken_row place s cmd reply) d.rows;
     }
+
+abbrev pub passed_lines : Cmd → Reply → Drawn → Drawn
+passed_lines cmd reply d = record d { rows = map (passed_row cmd reply) d.rows }
+
+-- ---- a chart
+
+-- its lines with room for a moment more
+abbrev pub roomed_lines : Charted → Drawn
+roomed_lines c = if nat_le (c.most * width_of c.most c.moments) c.moments then halved_lines c.lines else c.lines
+
+-- a chart with the moment after a command and its reply
+abbrev pub taken_chart : State → Cmd → Reply → Charted → Charted
+taken_chart s cmd reply c =
+    record {
+      most = c.most;
+      moments = c.moments + 1;
+      lines = taken_lines (c.moments / width_of c.most (c.moments + 1)) s cmd reply (roomed_lines c);
+    }
+
+-- a chart that lets this moment pass
+abbrev pub passed_chart : Cmd → Reply → Charted → Charted
+passed_chart cmd reply c = record c { lines = passed_lines cmd reply c.lines }
+
+-- ---- a chart of some of a journal's entries
+
+-- a chart in the making: how many entries come before the first that is drawn, the last that is drawn, and how many were seen
+pub record Making : Type 0 where
+  pub before : ℕ
+  pub to : ℕ
+  pub seen : ℕ
+  pub chart : Charted
+
+-- one entry more, which is drawn where it lies between the first and the last
+abbrev pub made_more : Making → State → Cmd → Reply → Making
+made_more m s cmd reply =
+    if nat_le m.to m.seen then m
+    else if nat_lt m.seen m.before then record m { seen = m.seen + 1; chart = passed_chart cmd reply m.chart }
+    else record m { seen = m.seen + 1; chart = taken_chart s cmd reply m.chart }

@@ -4,7 +4,7 @@ ghost use Rattle.market_types.specs.State.{State};
 ghost use Rattle.market_types.specs.Step.{step};
 ghost use Rattle.journal_chart.specs.Columns.{width_of};
 ghost use Rattle.journal_chart.specs.Numbers.{chart_of};
-ghost use Rattle.journal_chart.specs.Steps.{halved_lines};
+ghost use Rattle.journal_chart.specs.Steps.{halved_lines, passed_chart, taken_chart};
 
 use crate::lines::Lines;
 use market_core::Market;
@@ -86,12 +86,22 @@ impl Chart {
         ensures exact { (arenas : List ℕ) (moments : List State) (s : State) (seat : ℕ) → step s seat cmd.now ≡ (reply.now, market.now)
             → self.old ≡ chart_of self.old.most arenas moments s
             → self.new ≡ chart_of self.old.most arenas (moments ++ market.now ∷ []) market.now }
+        ensures step { self.new ≡ taken_chart market.now cmd.now reply.now self.old }
     {
         let width = make_room(&mut self.lines, self.columns, self.moments, self.width);
         let place = (self.moments / width) as usize;
         self.lines.take(place, market, cmd, reply);
         self.width = width;
         self.moments += 1;
+    }
+
+    /// Lets the moment after an entry pass that is not drawn, by its command and its reply. It takes no memory.
+    pub fn pass(&mut self, cmd: &Cmd, reply: &Reply)
+        ensures exact { (arenas : List ℕ) (moments : List State) (s t : State) (seat : ℕ) → step s seat cmd.now ≡ (reply.now, t)
+            → self.old ≡ chart_of self.old.most arenas moments s → self.new ≡ chart_of self.old.most arenas moments t }
+        ensures step { self.new ≡ passed_chart cmd.now reply.now self.old }
+    {
+        self.lines.pass(cmd, reply);
     }
 }
 

@@ -74,7 +74,7 @@ impl fmt::Display for Bar {
 
     fn fmt<W: fmt::Write>(&self, f: &mut fmt::Formatter<W>) -> fmt::Result {
         let (y, height) = (self.y, self.height);
-        write!(f, " y=\"{y}\" width=\"6\" height=\"{height}\"/>")
+        write!(f, " d=\"M4 {y}v{height}\"/>")
     }
 }
 
@@ -104,13 +104,13 @@ pub(crate) fn stands_at(level: u32, column: Option<Span>) -> bool
     }
 }
 
-/// How high a number stands, where the greatest of the row stands at 36.
+/// How high a number stands, where the greatest of the row stands at 28.
 fn rise(scale: u64, number: u32) -> u64
     requires { 0 < scale }
     ensures exact { result ≡ rise_of scale number }
-    ensures high { result ≤ 36 }
+    ensures high { result ≤ 28 }
 {
-    (u64::from(number) * 36 / scale).min(36)
+    (u64::from(number) * 28 / scale).min(28)
 }
 
 /// A bar from the least to the most, never thinner than 2.
@@ -120,7 +120,7 @@ fn bar_of(scale: u64, span: Span) -> Bar
 {
     let (low, high) = (rise(scale, span.least), rise(scale, span.most));
     Bar {
-        y: 36 - high,
+        y: 28 - high,
         height: high.saturating_sub(low) + 2,
     }
 }
@@ -148,9 +148,9 @@ fn write_ground(text: &mut String, level: Span) -> Result<(), AllocError>
     ensures { OnOk result (string_bytes text.new ≡ string_bytes text.old ++ ground_text level) }
 {
     if level.least == level.most {
-        return text.push_str("<rect class=\"h\" width=\"6\" height=\"44\"/>");
+        return text.push_str("<path class=\"h\" d=\"M4 0v36\"/>");
     }
-    text.push_str("<rect class=\"v\" width=\"6\" height=\"44\"/>")
+    text.push_str("<path class=\"v\" d=\"M4 0v36\"/>")
 }
 
 /// Writes the allotment as an area.
@@ -172,7 +172,7 @@ fn write_area(text: &mut String, scale: u64, allot: Span) -> Result<(), AllocErr
             most: allot.least,
         },
     );
-    write!(text, "<rect class=\"m\"{most}<rect class=\"l\"{least}")
+    write!(text, "<path class=\"m\"{most}<path class=\"l\"{least}")
 }
 
 /// Writes the request and the active workers as bars.
@@ -181,7 +181,7 @@ fn write_bars(text: &mut String, scale: u64, request: Span, active: Span) -> Res
     ensures { OnOk result (string_bytes text.new ≡ string_bytes text.old ++ bars_text scale request active) }
 {
     let (request, active) = (bar_of(scale, request), bar_of(scale, active));
-    write!(text, "<rect class=\"r\"{request}<rect class=\"a\"{active}")
+    write!(text, "<path class=\"r\"{request}<path class=\"a\"{active}")
 }
 
 /// Writes the marks of recalls and of hires.
@@ -189,14 +189,14 @@ fn write_marks(text: &mut String, recall: u32, hire: u32) -> Result<(), AllocErr
     ensures { OnOk result (string_bytes text.new ≡ string_bytes text.old ++ marks_text recall hire) }
 {
     let recall = Bar {
-        y: 39,
+        y: 31,
         height: u64::from(recall.min(2)),
     };
     let hire = Bar {
-        y: 42,
+        y: 34,
         height: u64::from(hire.min(2)),
     };
-    write!(text, "<rect class=\"k\"{recall}<rect class=\"n\"{hire}")
+    write!(text, "<path class=\"k\"{recall}<path class=\"n\"{hire}")
 }
 
 /// Writes the ground, the area of the allotment, the bars, and the marks.
@@ -244,7 +244,7 @@ fn write_placed(
     requires { 0 < scale }
     ensures { OnOk result (string_bytes text.new ≡ string_bytes text.old ++ placed_text arena scale entries place figure) }
 {
-    let x = 150 + 6 * u64::from(place);
+    let x = 180 + 8 * u64::from(place);
     write!(text, "<g transform=\"translate({x})\">")?;
     write_title(text, entries, arena, figure)?;
     write_shapes(text, scale, figure)?;
@@ -285,7 +285,7 @@ fn write_limits_title(
     write!(text, "<title>{entries}: limit {limit}")?;
     write!(
         text,
-        ", effective limit {effective}</title><rect class=\"h\" width=\"6\" height=\"44\"/>"
+        ", effective limit {effective}</title><path class=\"h\" d=\"M4 0v36\"/>"
     )
 }
 
@@ -293,7 +293,7 @@ fn write_limits_title(
 fn write_limits_place(text: &mut String, place: u32) -> Result<(), AllocError>
     ensures { OnOk result (string_bytes text.new ≡ string_bytes text.old ++ limits_place place) }
 {
-    let x = 150 + 6 * u64::from(place);
+    let x = 180 + 8 * u64::from(place);
     write!(text, "<g transform=\"translate({x} 60)\">")
 }
 

@@ -9,6 +9,7 @@
 mod asserts;
 mod chart;
 mod figure;
+mod journal;
 mod law;
 mod line;
 mod lines;
@@ -20,6 +21,7 @@ mod span;
 mod tests;
 
 pub use chart::Chart;
+pub use journal::chart_source;
 pub use law::a_call_is_a_moment;
 pub use line::Line;
 pub use lines::Lines;

@@ -1,9 +1,9 @@
 //! All lines of a chart.
 ghost use Rattle.std.specs.Prelude.{◌≡◌, IfOk, map};
-ghost use Rattle.journal_chart.specs.Steps.{empty_lines, empty_row, halved_lines, taken_lines};
+ghost use Rattle.journal_chart.specs.Steps.{empty_lines, empty_row, halved_lines, passed_lines, taken_lines};
 
 use crate::line::Line;
-use crate::row::{Row, halve_rows, take_rows};
+use crate::row::{Row, halve_rows, pass_rows, take_rows};
 use market_core::Market;
 use market_types::{ArenaId, Cmd, Reply};
 use std::alloc::{AllocError, Global};
@@ -79,6 +79,13 @@ impl Lines {
         self.limit.add(place, limits.limit);
         self.effective.add(place, limits.effective);
         take_rows(&mut self.rows, place, market, cmd, reply);
+    }
+
+    /// Lets the moment after a command and its reply pass.
+    pub(crate) fn pass(&mut self, cmd: &Cmd, reply: &Reply)
+        ensures { self.new ≡ passed_lines cmd.now reply.now self.old }
+    {
+        pass_rows(&mut self.rows, cmd, reply);
     }
 }
 

@@ -20,6 +20,7 @@ fn write_column(
     place: u32,
 ) -> Result<(), AllocError>
     requires wide { 0 < sheet.width }
+    requires countable { sheet.before + sheet.moments < 2 ^ 64 }
     requires inside { place < filled sheet }
     requires high { 0 < scale }
     ensures { OnOk result (string_bytes text.new ≡ string_bytes text.old ++ column_text sheet level scale row.now place) }
@@ -45,6 +46,7 @@ fn write_columns(
     row: &Row,
 ) -> Result<(), AllocError>
     requires wide { 0 < sheet.width }
+    requires countable { sheet.before + sheet.moments < 2 ^ 64 }
     requires high { 0 < scale }
     ensures { OnOk result (string_bytes text.new ≡ string_bytes text.old ++ columns_text sheet level scale row.now) }
 {
@@ -71,7 +73,7 @@ fn write_name(
     )?;
     write!(
         text,
-        ", arena {arena}</text><text x=\"142\" y=\"10\" class=\"e\">{scale}</text>\n"
+        ", arena {arena}</text><text x=\"172\" y=\"10\" class=\"e\">{scale}</text>\n"
     )
 }
 
@@ -83,7 +85,8 @@ fn write_row(
     y: u64,
     row: &Row,
 ) -> Result<(), AllocError>
-    requires { 0 < sheet.width }
+    requires wide { 0 < sheet.width }
+    requires countable { sheet.before + sheet.moments < 2 ^ 64 }
     ensures { OnOk result (string_bytes text.new ≡ string_bytes text.old ++ row_text sheet level y row.now) }
 {
     let scale = scale_of(row);
@@ -101,6 +104,7 @@ fn write_rows(
     rows: &[Row],
 ) -> Result<(), AllocError>
     requires wide { 0 < sheet.width }
+    requires countable { sheet.before + sheet.moments < 2 ^ 64 }
     requires few { length rows.now < 2 ^ 32 }
     requires low { y < 2 ^ 48 }
     ensures { OnOk result (string_bytes text.new ≡ string_bytes text.old ++ rows_text sheet level y rows.now) }
@@ -111,7 +115,7 @@ fn write_rows(
             continue;
         }
         write_row(text, sheet, level, below, row)?;
-        below += 48;
+        below += 40;
     }
     Ok(())
 }
@@ -129,9 +133,9 @@ fn rows_end(rows: &[Row], level: u32, y: u64) -> u64
     requires few { length rows.now < 2 ^ 32 }
     requires low { y < 2 ^ 48 }
     ensures exact { result ≡ rows_end level y rows.now }
-    ensures low { result ≤ y + 48 * 2 ^ 32 }
+    ensures low { result ≤ y + 40 * 2 ^ 32 }
 {
-    y + 48 * count_at(rows, level) as u64
+    y + 40 * count_at(rows, level) as u64
 }
 
 /// Where the rows of all levels end.
@@ -150,6 +154,7 @@ fn levels_end(rows: &[Row]) -> u64
 /// Writes the rows of all levels, one level below the other.
 fn write_levels(text: &mut String, sheet: Sheet, rows: &[Row]) -> Result<(), AllocError>
     requires wide { 0 < sheet.width }
+    requires countable { sheet.before + sheet.moments < 2 ^ 64 }
     requires few { length rows.now < 2 ^ 32 }
     ensures { OnOk result (string_bytes text.new ≡ string_bytes text.old ++ levels_text sheet rows.now 8) }
 {
@@ -170,6 +175,7 @@ fn write_limits_column(
     place: u32,
 ) -> Result<(), AllocError>
     requires wide { 0 < sheet.width }
+    requires countable { sheet.before + sheet.moments < 2 ^ 64 }
     requires inside { place < filled sheet }
     requires high { 0 < scale }
     ensures { OnOk result (string_bytes text.new ≡ string_bytes text.old ++ limits_column sheet scale lines.now place) }
@@ -187,6 +193,7 @@ fn write_limits_columns(
     lines: &Lines,
 ) -> Result<(), AllocError>
     requires wide { 0 < sheet.width }
+    requires countable { sheet.before + sheet.moments < 2 ^ 64 }
     requires high { 0 < scale }
     ensures { OnOk result (string_bytes text.new ≡ string_bytes text.old ++ limits_columns sheet scale lines.now) }
 {
@@ -212,13 +219,14 @@ fn write_limits_name(text: &mut String, scale: u64) -> Result<(), AllocError>
 {
     write!(
         text,
-        "<text x=\"8\" y=\"84\">limit</text><text x=\"142\" y=\"70\" class=\"e\">{scale}</text>\n"
+        "<text x=\"8\" y=\"84\">limit</text><text x=\"172\" y=\"70\" class=\"e\">{scale}</text>\n"
     )
 }
 
 /// Writes the limits.
 fn write_limits(text: &mut String, sheet: Sheet, lines: &Lines) -> Result<(), AllocError>
-    requires { 0 < sheet.width }
+    requires wide { 0 < sheet.width }
+    requires countable { sheet.before + sheet.moments < 2 ^ 64 }
     ensures { OnOk result (string_bytes text.new ≡ string_bytes text.old ++ limits_text sheet lines.now) }
 {
     let scale = limits_scale(lines);
@@ -229,20 +237,22 @@ fn write_limits(text: &mut String, sheet: Sheet, lines: &Lines) -> Result<(), Al
 /// Writes the first entry of every sixteenth column.
 fn write_tick(text: &mut String, sheet: Sheet, y: u64, place: u32) -> Result<(), AllocError>
     requires wide { 0 < sheet.width }
+    requires countable { sheet.before + sheet.moments < 2 ^ 64 }
     requires inside { place < filled sheet }
     ensures { OnOk result (string_bytes text.new ≡ string_bytes text.old ++ tick_text sheet y place) }
 {
     if place % 16 != 0 {
         return Ok(());
     }
-    let x = 150 + 6 * u64::from(place);
-    let first = sheet.before(place) + 1;
+    let x = 180 + 8 * u64::from(place);
+    let first = sheet.first_entry(place);
     write!(text, "<text x=\"{x}\" y=\"{y}\">{first}</text>\n")
 }
 
 /// Writes the first entries of all columns that tell it.
 fn write_ticks(text: &mut String, sheet: Sheet, y: u64) -> Result<(), AllocError>
-    requires { 0 < sheet.width }
+    requires wide { 0 < sheet.width }
+    requires countable { sheet.before + sheet.moments < 2 ^ 64 }
     ensures { OnOk result (string_bytes text.new ≡ string_bytes text.old ++ ticks_text sheet y) }
 {
     for place in 0..sheet.filled() {
@@ -260,7 +270,8 @@ fn write_axis_name(text: &mut String, y: u64) -> Result<(), AllocError>
 
 /// Writes the entries below the rows.
 fn write_axis(text: &mut String, sheet: Sheet, y: u64) -> Result<(), AllocError>
-    requires { 0 < sheet.width }
+    requires wide { 0 < sheet.width }
+    requires countable { sheet.before + sheet.moments < 2 ^ 64 }
     ensures { OnOk result (string_bytes text.new ≡ string_bytes text.old ++ axis_text sheet y) }
 {
     write_axis_name(text, y)?;
@@ -290,10 +301,10 @@ fn write_style(text: &mut String) -> Result<(), AllocError>
     ensures { OnOk result (string_bytes text.new ≡ string_bytes text.old ++ style_text) }
 {
     text.push_str(
-        "<style>svg{background:#fff;font:12px sans-serif}text,.r{fill:#222}.e{text-anchor:end}\
-         .h{fill:transparent}.v{fill:#f6d58f}.m{fill:#bfe1f5}.l{fill:#56b4e9}.a{fill:#d55e00}.k{fill:#cc79a7}\
-         .n{fill:#009e73}@media(prefers-color-scheme:dark){svg{background:#111}text,.r{fill:#ddd}\
-         .v{fill:#6b4e10}.m{fill:#173f57}.l{fill:#2a7fb8}.a{fill:#ff9d5c}}</style>\n",
+        "<style>svg{background:#fff;font:12px sans-serif}text{fill:#222}.e{text-anchor:end}rect{fill:currentColor}\
+         path{stroke:currentColor;stroke-width:8}.h{color:transparent}.r{color:#222}.v{color:#f6d58f}.m{color:#bfe1f5}\
+         .l{color:#56b4e9}.a{color:#d55e00}.k{color:#cc79a7}.n{color:#009e73}@media(prefers-color-scheme:dark){\
+         svg{background:#111}text{fill:#ddd}.r{color:#ddd}.v{color:#6b4e10}.m{color:#173f57}.l{color:#2a7fb8}.a{color:#ff9d5c}}</style>\n",
     )
 }
 
@@ -333,6 +344,7 @@ fn write_head(text: &mut String, wide: u64, high: u64) -> Result<(), AllocError>
 /// Writes the picture of some columns and lines.
 fn write_sheet(text: &mut String, sheet: Sheet, lines: &Lines) -> Result<(), AllocError>
     requires wide { 0 < sheet.width }
+    requires countable { sheet.before + sheet.moments < 2 ^ 64 }
     requires few { length lines.now.rows < 2 ^ 32 }
     ensures { OnOk result (string_bytes text.new ≡ string_bytes text.old ++ sheet_text sheet lines.now) }
 {
@@ -346,11 +358,13 @@ fn write_sheet(text: &mut String, sheet: Sheet, lines: &Lines) -> Result<(), All
 }
 
 /// Writes the picture of a chart.
-fn write_picture(text: &mut String, chart: &Chart) -> Result<(), AllocError>
+fn write_picture(text: &mut String, before: u32, chart: &Chart) -> Result<(), AllocError>
     requires few { length chart.now.lines.rows < 2 ^ 32 }
-    ensures { OnOk result (string_bytes text.new ≡ string_bytes text.old ++ picture_text chart.now) }
+    requires countable { before + chart.now.moments < 2 ^ 64 }
+    ensures { OnOk result (string_bytes text.new ≡ string_bytes text.old ++ picture_text before chart.now) }
 {
     let sheet = Sheet {
+        before,
         width: chart.width(),
         moments: chart.moments(),
         columns: chart.columns(),
@@ -359,14 +373,15 @@ fn write_picture(text: &mut String, chart: &Chart) -> Result<(), AllocError>
 }
 
 /// Puts the picture of a chart, an SVG that stands alone, behind what `out` holds. It has a row for each arena at each level at which
-/// it stood (of the levels of one column, the least and the greatest), in which each column tells a pointer its numbers. `Err` says
-/// that memory ran out, and leaves `out` as it was.
-pub fn push_picture(out: &mut Vec<u8>, chart: &Chart) -> Result<(), AllocError>
+/// it stood (of the levels of one column, the least and the greatest), in which each column tells a pointer its numbers and its
+/// entries; `before` entries came before the first moment. `Err` says that memory ran out, and leaves `out` as it was.
+pub fn push_picture(out: &mut Vec<u8>, before: u32, chart: &Chart) -> Result<(), AllocError>
     requires few { length chart.now.lines.rows < 2 ^ 32 }
-    ensures ok { OnOk result (out.new.items ≡ out.old.items ++ picture_text chart.now) }
+    requires countable { before + chart.now.moments < 2 ^ 64 }
+    ensures ok { OnOk result (out.new.items ≡ out.old.items ++ picture_text before chart.now) }
     ensures err { OnErr result (out.new.items ≡ out.old.items) }
 {
     let mut text = String::new(*out.allocator());
-    write_picture(&mut text, chart)?;
+    write_picture(&mut text, before, chart)?;
     out.extend_from_slice(text.as_bytes())
 }

@@ -1,6 +1,6 @@
 //! The lines of an arena.
 ghost use Rattle.std.specs.Prelude.{◌≡◌, IfOk, map};
-ghost use Rattle.journal_chart.specs.Steps.{empty_row, halved_row, standing_row, stands_after, taken_row, viewed_row};
+ghost use Rattle.journal_chart.specs.Steps.{empty_row, halved_row, passed_row, standing_row, stands_after, taken_row, viewed_row};
 
 use crate::line::Line;
 use market_core::Market;
@@ -65,6 +65,13 @@ impl Row {
         self.add_view(place, market.view(self.arena));
     }
 
+    /// Lets the moment after a command and its reply pass: nothing is drawn, but where the arena stands is known after it.
+    pub(crate) fn pass(&mut self, cmd: &Cmd, reply: &Reply)
+        ensures { self.new ≡ passed_row cmd.now reply.now self.old }
+    {
+        self.stands = stands_after(self.arena, self.stands, cmd, reply);
+    }
+
     /// Puts the level at which the arena stands into the column at a place.
     fn add_level(&mut self, place: usize)
         ensures { self.new ≡ standing_row place self.old }
@@ -125,5 +132,14 @@ pub(crate) fn take_rows(rows: &mut [Row], place: usize, market: &Market, cmd: &C
 {
     for index in 0..rows.len() {
         rows[index].take(place, market, cmd, reply);
+    }
+}
+
+/// Lets the moment after a command and its reply pass in all rows.
+pub(crate) fn pass_rows(rows: &mut [Row], cmd: &Cmd, reply: &Reply)
+    ensures { rows.new ≡ map (passed_row cmd.now reply.now) rows.old }
+{
+    for index in 0..rows.len() {
+        rows[index].pass(cmd, reply);
     }
 }

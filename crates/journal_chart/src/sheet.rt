@@ -1,15 +1,17 @@
 //! The columns of a picture.
-ghost use Rattle.std.specs.Prelude.{◌≡◌, ◌*◌, ◌<◌};
+ghost use Rattle.std.specs.Prelude.{◌≡◌, ◌+◌, ◌*◌, ◌<◌, ◌^◌};
 ghost use Rattle.std.specs.List.{list_any};
-ghost use Rattle.journal_chart.specs.Picture.{entries_of, filled, greatest, is_at, most_of, scale_of, stands_at, wide_of};
+ghost use Rattle.journal_chart.specs.Picture.{entries_of, filled, first_entry, greatest, is_at, most_of, scale_of, stands_at, wide_of};
 
 use crate::figure::{Entries, stands_at};
 use crate::row::Row;
 use crate::span::Span;
 
-/// How many moments there are, how many of them a column holds, and at most how many columns there are.
+/// How many entries came before the first moment, how many moments there are, how many of them a column holds, and at most how many
+/// columns there are.
 #[derive(Clone, Copy)]
 pub(crate) struct Sheet {
+    pub(crate) before: u32,
     pub(crate) width: u64,
     pub(crate) moments: u64,
     pub(crate) columns: u32,
@@ -20,7 +22,7 @@ impl Sheet {
     pub(crate) fn wide(self) -> u64
         ensures { result ≡ wide_of self }
     {
-        (160 + 6 * u64::from(self.columns)).max(660)
+        (256 + 8 * u64::from(self.columns)).max(660)
     }
 
     /// How many columns have moments.
@@ -35,7 +37,7 @@ impl Sheet {
     }
 
     /// The number of moments before a column.
-    pub(crate) fn before(self, place: u32) -> u64
+    fn moments_before(self, place: u32) -> u64
         requires wide { 0 < self.width }
         requires inside { place < filled self }
         ensures exact { result ≡ place * self.width }
@@ -44,16 +46,28 @@ impl Sheet {
         u64::from(place) * self.width
     }
 
+    /// The first entry of a column.
+    pub(crate) fn first_entry(self, place: u32) -> u64
+        requires wide { 0 < self.width }
+        requires countable { self.before + self.moments < 2 ^ 64 }
+        requires inside { place < filled self }
+        ensures { result ≡ first_entry self place }
+    {
+        u64::from(self.before) + self.moments_before(place) + 1
+    }
+
     /// The entries of a column.
     pub(crate) fn entries(self, place: u32) -> Entries
         requires wide { 0 < self.width }
+        requires countable { self.before + self.moments < 2 ^ 64 }
         requires inside { place < filled self }
         ensures { result ≡ entries_of self place }
     {
-        let before = self.before(place);
+        let passed = self.moments_before(place);
+        let before = u64::from(self.before) + passed;
         Entries {
             first: before + 1,
-            last: before + self.width.min(self.moments - before),
+            last: before + self.width.min(self.moments - passed),
         }
     }
 }

@@ -119,31 +119,32 @@ fn shows_nine_calls(rt: &impl Abort, chart: &Chart) {
 /// The picture of these nine calls begins with its size, ends with its entries, and holds these rows and columns.
 fn draws_nine_calls(rt: &impl Abort, alloc: Global, chart: &Chart) {
     holds(rt, chart.lines().rows().len() < 3);
+    holds(rt, chart.moments() < 1_000_000);
     let mut out = Vec::new(alloc);
-    same(rt, push_picture(&mut out, chart).is_ok(), true);
+    same(rt, push_picture(&mut out, 0, chart).is_ok(), true);
     let Ok(text) = String::from_utf8(out) else {
         panic!(rt; "no text");
     };
     let text = text.as_str();
-    let size = "width=\"660\" height=\"296\" viewBox=\"0 0 660 296\">\n<style>";
-    let axis = "<text x=\"8\" y=\"284\">entry</text>\n<text x=\"150\" y=\"284\">1</text>\n</svg>\n";
+    let size = "width=\"660\" height=\"272\" viewBox=\"0 0 660 272\">\n<style>";
+    let axis = "<text x=\"8\" y=\"260\">entry</text>\n<text x=\"180\" y=\"260\">1</text>\n</svg>\n";
     holds(rt, text.contains(size));
     holds(rt, text.ends_with(axis));
-    let limit = "<g transform=\"translate(150 60)\">\
+    let limit = "<g transform=\"translate(180 60)\">\
         <title>entries 1 to 4: limit 7, effective limit ";
     holds(rt, text.contains(limit));
-    let row = "<g transform=\"translate(0 216)\"><text x=\"8\" y=\"24\">level 2, arena 1</text>\
-        <text x=\"142\" y=\"10\" class=\"e\">3</text>\n<g transform=\"translate(150)\">";
+    let row = "<g transform=\"translate(0 200)\"><text x=\"8\" y=\"24\">level 2, arena 1</text>\
+        <text x=\"172\" y=\"10\" class=\"e\">3</text>\n<g transform=\"translate(180)\">";
     holds(rt, text.contains(row));
     let first =
         "<title>entries 1 to 4: arena 1, level 2, request 0 to 3, allotment 0 to 3, active 0 to 2</title>\
-        <rect class=\"h\" width=\"6\" height=\"44\"/>\
-        <rect class=\"m\" y=\"0\" width=\"6\" height=\"38\"/><rect class=\"l\" y=\"36\" width=\"6\" height=\"2\"/>\
-        <rect class=\"r\" y=\"0\" width=\"6\" height=\"38\"/><rect class=\"a\" y=\"12\" width=\"6\" height=\"26\"/>\
-        <rect class=\"k\" y=\"39\" width=\"6\" height=\"0\"/><rect class=\"n\" y=\"42\" width=\"6\" height=\"2\"/></g>\n";
+        <path class=\"h\" d=\"M4 0v36\"/>\
+        <path class=\"m\" d=\"M4 0v30\"/><path class=\"l\" d=\"M4 28v2\"/>\
+        <path class=\"r\" d=\"M4 0v30\"/><path class=\"a\" d=\"M4 10v20\"/>\
+        <path class=\"k\" d=\"M4 31v0\"/><path class=\"n\" d=\"M4 34v2\"/></g>\n";
     holds(rt, text.contains(first));
     let last = "<g transform=\"translate(0 120)\"><text x=\"8\" y=\"24\">level 1, arena 1</text>\
-        <text x=\"142\" y=\"10\" class=\"e\">3</text>\n<g transform=\"translate(162)\">\
+        <text x=\"172\" y=\"10\" class=\"e\">3</text>\n<g transform=\"translate(196)\">\
         <title>entry 9: arena 1, level 1, request 3, allotment 0, active 1</title>";
     holds(rt, text.contains(last));
 }

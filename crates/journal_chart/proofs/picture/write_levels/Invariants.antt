@@ -7,5 +7,5 @@ invariant-loop-level l =
     record {
       written : string_bytes l.text ≡ string_bytes l.initial.text ++ levels_text l.sheet l.rows l.level;
       height : l.y ≡ levels_end l.rows l.level;
-      low : l.y ≤ 120 + l.level * (48 * 2 ^ 32);
+      low : l.y ≤ 120 + l.level * (40 * 2 ^ 32);
     }

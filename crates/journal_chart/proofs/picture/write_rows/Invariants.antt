@@ -6,5 +6,5 @@ abbrev pub invariant-loop-row : goal.invariant-loop-row
 invariant-loop-row l =
     record {
       written : string_bytes l.text ++ rows_text l.sheet l.level l.below (drop l.row-index l.rows) ≡ string_bytes l.initial.text ++ rows_text l.sheet l.level l.y l.rows;
-      low : l.below ≤ l.y + 48 * l.row-index;
+      low : l.below ≤ l.y + 40 * l.row-index;
     }
