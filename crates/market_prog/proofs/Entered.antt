@@ -1,4 +1,4 @@
--- Words that clap takes name the subcommand `run`, `explain` or `drive`, with a number for each of its options, or `replay`.
+-- Words that clap takes name the subcommand `run`, `explain`, `drive` or `chart`, with a number for each of its options, or `replay`.
 use Rattle.std.proofs.Common.{◌≡◌, ◌∙◌, ◌&&◌, ◌||◌, cond, not, ℕ, Bool, true, false, refl, sym, subst, List, [], ◌∷◌, Option, Some, None, is_some, option_map, inl, inr, true≢false, codes, pos, bytes_eq, drop, find, fold, slice_get}
 use Rattle.std.specs.List.{list_any}
 use Rattle.std.specs.Option.{option_map_or}
@@ -14,7 +14,7 @@ use Rattle.clap.specs.ValueTests.{is_signed_in}
 use Rattle.clap.specs.declared.builder.value_parser.ValueParser.TheVariants.{Signed}
 use Rattle.clap.proofs.ValueTestLemmas.{accepts-Accepts}
 use Rattle.market_prog.specs.Words.{market_app}
-use Rattle.market_prog.specs.Passed.{HasNumber, HasMarketNumbers, NamesSubcommand}
+use Rattle.market_prog.specs.Passed.{HasChartNumbers, HasNumber, HasMarketNumbers, NamesSubcommand}
 use Rattle.market_prog.proofs.Rows.{HasRule, Holds, Only, and_true, is_at, no_kind, or_else_nil, row_fits}
 use Rattle.market_prog.proofs.Walked.{level_holds}
 
@@ -124,6 +124,9 @@ replay = first_shape (drop 2 market.subs)
 abbrev drive : Shape
 drive = first_shape (drop 3 market.subs)
 
+abbrev chart : Shape
+chart = first_shape (drop 4 market.subs)
+
 other : {X : Type 0} → false ≡ true → X
 other e = absurd (true≢false (sym e))
 
@@ -207,6 +210,13 @@ drive_only = ((λ _. refl), (other, (other, tt)))
 workers_held : (words : List Text) → level_fault drive [] nothing_held words false [] ≡ [] → HasNumber (codes "workers") 16 (rows_after drive.rules [] words)
 workers_held words e = option_held drive refl (codes "workers") (codes "4") 16 drive_only (inl refl) refl words e
 
+chart_held : (words : List Text) → level_fault chart [] nothing_held words false [] ≡ [] → HasChartNumbers (rows_after chart.rules [] words)
+chart_held words e = record {
+  width = option_held chart refl (codes "width") (codes "112") 1792 ((λ _. refl), (other, (other, (other, (other, (other, tt)))))) (inl refl) refl words e;
+  from = option_held chart refl (codes "from") (codes "1") 4294967295 (other, ((λ _. refl), (other, (other, (other, (other, tt)))))) (inr (inl refl)) refl words e;
+  to = option_held chart refl (codes "to") (codes "4294967295") 4294967295 (other, (other, ((λ _. refl), (other, (other, (other, tt)))))) (inr (inr (inl refl))) refl words e;
+}
+
 -- ---- the subcommand
 
 -- without a subcommand the last checks fail
@@ -232,26 +242,29 @@ enters_one : (stop : Option (Text × List Text)) → NoHelp stop → is_some (en
     → (found : Text × List Row) × (entered market stop ≡ Some found) × NamesSubcommand found
 enters_one None no_help some e = absurd (true≢false (sym some))
 enters_one (Some p) no_help some e =
-    go (bytes_eq (codes "run") p.0) (bytes_eq (codes "explain") p.0) (bytes_eq (codes "replay") p.0) (bytes_eq (codes "drive") p.0) (bytes_eq (codes "help") p.0) (not_help p.0 no_help) some e
+    go (bytes_eq (codes "run") p.0) (bytes_eq (codes "explain") p.0) (bytes_eq (codes "replay") p.0) (bytes_eq (codes "drive") p.0) (bytes_eq (codes "chart") p.0) (bytes_eq (codes "help") p.0) (not_help p.0 no_help) some e
   where
     help : Shape
-    help = first_shape (drop 4 market.subs)
+    help = first_shape (drop 5 market.subs)
 
-    met : Bool → Bool → Bool → Bool → Bool → Option Shape
-    met is_run is_explain is_replay is_drive is_help =
-        cond (is_run || false) (Some run) (cond (is_explain || false) (Some explain) (cond (is_replay || false) (Some replay) (cond (is_drive || false) (Some drive) (cond (is_help || false) (Some help) None))))
+    met : Bool → Bool → Bool → Bool → Bool → Bool → Option Shape
+    met is_run is_explain is_replay is_drive is_chart is_help =
+        cond (is_run || false) (Some run) (cond (is_explain || false) (Some explain) (cond (is_replay || false) (Some replay) (cond (is_drive || false) (Some drive)
+        (cond (is_chart || false) (Some chart) (cond (is_help || false) (Some help) None)))))
 
-    go : (is_run is_explain is_replay is_drive is_help : Bool) → is_help ≡ false → is_some (option_map (λ s. rows_at s p.1) (met is_run is_explain is_replay is_drive is_help)) ≡ true
-        → option_map_or (λ s. level_fault s [] nothing_held p.1 false []) (met is_run is_explain is_replay is_drive is_help) [] ≡ []
-        → (found : Text × List Row) × (option_map (λ s. rows_at s p.1) (met is_run is_explain is_replay is_drive is_help) ≡ Some found) × NamesSubcommand found
-    go true is_explain is_replay is_drive is_help none has free =
+    go : (is_run is_explain is_replay is_drive is_chart is_help : Bool) → is_help ≡ false
+        → is_some (option_map (λ s. rows_at s p.1) (met is_run is_explain is_replay is_drive is_chart is_help)) ≡ true
+        → option_map_or (λ s. level_fault s [] nothing_held p.1 false []) (met is_run is_explain is_replay is_drive is_chart is_help) [] ≡ []
+        → (found : Text × List Row) × (option_map (λ s. rows_at s p.1) (met is_run is_explain is_replay is_drive is_chart is_help) ≡ Some found) × NamesSubcommand found
+    go true is_explain is_replay is_drive is_chart is_help none has free =
         (rows_at run p.1, refl, inl (record { name = inl refl; numbers = numbers run run_rules refl p.1 free }))
-    go false true is_replay is_drive is_help none has free =
+    go false true is_replay is_drive is_chart is_help none has free =
         (rows_at explain p.1, refl, inl (record { name = inr refl; numbers = numbers explain explain_rules refl p.1 free }))
-    go false false true is_drive is_help none has free = (rows_at replay p.1, refl, inr (inl refl))
-    go false false false true is_help none has free = (rows_at drive p.1, refl, inr (inr (record { name = refl; workers = workers_held p.1 free })))
-    go false false false false false none has free = absurd (true≢false (sym has))
-    go false false false false true none has free = absurd (true≢false none)
+    go false false true is_drive is_chart is_help none has free = (rows_at replay p.1, refl, inr (inl refl))
+    go false false false true is_chart is_help none has free = (rows_at drive p.1, refl, inr (inr (inl (record { name = refl; workers = workers_held p.1 free }))))
+    go false false false false true is_help none has free = (rows_at chart p.1, refl, inr (inr (inr (record { name = refl; numbers = chart_held p.1 free }))))
+    go false false false false false false none has free = absurd (true≢false (sym has))
+    go false false false false false true none has free = absurd (true≢false none)
 
 -- where clap finds no fault the words name a subcommand
 pub entered_one : (words : List Text) → fault_of market_app words ≡ []

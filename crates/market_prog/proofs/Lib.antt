@@ -13,3 +13,5 @@ pub mod Explaining
 pub mod History
 pub mod Journaling
 pub mod Driven
+pub mod Spelling
+pub mod Drawn

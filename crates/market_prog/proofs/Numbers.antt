@@ -19,16 +19,21 @@ least_end high fits = go (int_lt (pos high) (pos 4294967295)) refl
         ap pos same
 
 -- the numbers of 32 bits, narrowed to those from 1 to high
+pub literal_narrows : (high : ℕ) (given parser : ValueParser) (first last : ℤ) → high < 2 ^ 32 → given ≡ Signed (pos 0) (pos 4294967295)
+    → first ≡ pos 1 → last ≡ pos high → NarrowsTo given (Some first) (Some last) parser → parser ≡ Signed (pos 1) (pos high)
+literal_narrows high given parser first last fits is starts ends narrowed =
+    let all = subst (λ p. NarrowsTo p (Some first) (Some last) parser) is narrowed in
+    let from_one = subst (λ z. NarrowsTo (Signed (pos 0) (pos 4294967295)) (Some z) (Some last) parser) starts all in
+    let to_high = subst (λ z. NarrowsTo (Signed (pos 0) (pos 4294967295)) (Some (pos 1)) (Some z) parser) ends from_one in
+    to_high ∙ ap (signed_between (pos 1)) (least_end high fits)
+
 pub range_narrows : (high : ℕ) (given parser : ValueParser) (first last whole : ℤ) → high < 2 ^ 32 → given ≡ Signed (pos 0) (pos 4294967295)
     → first ≡ pos 1 → last ≡ to_z w64 (of_z w64 whole) → whole ≡ pos high → NarrowsTo given (Some first) (Some last) parser
     → parser ≡ Signed (pos 1) (pos high)
 range_narrows high given parser first last whole fits is starts ends whole_is narrowed =
     let small : FitsSigned w64 (pos high) = record { sfits = omega arith } in
     let at_high = subst (λ z. last ≡ to_z w64 (of_z w64 z)) whole_is ends ∙ to_z-of_z small in
-    let all = subst (λ p. NarrowsTo p (Some first) (Some last) parser) is narrowed in
-    let from_one = subst (λ z. NarrowsTo (Signed (pos 0) (pos 4294967295)) (Some z) (Some last) parser) starts all in
-    let to_high = subst (λ z. NarrowsTo (Signed (pos 0) (pos 4294967295)) (Some (pos 1)) (Some z) parser) at_high from_one in
-    to_high ∙ ap (signed_between (pos 1)) (least_end high fits)
+    literal_narrows high given parser first last fits is starts at_high narrowed
 
 -- a word that spells a number from 1 to high parses as that number
 pub range_parses : {E : Type 0} (high : ℕ) (word : Text) (r : Result ℕ E) → high < 2 ^ 32 → IsSignedIn (pos 1) (pos high) word → ParsesUnsigned 32 10 word r

@@ -9,7 +9,7 @@ use Rattle.journal_replay.specs.Verdicts.{StopsReading, limit_of, verdict}
 use Rattle.market_prog.specs.Faults.{run_fault_of_input}
 use Rattle.market_prog.specs.Replay.{StopsTelling, TellingCauseOf, verdict_line}
 
-telling-cause : {F : Type 0} (fault : InputFault F) (text : List ℕ) (failed : Bool) → CauseOf (λ _. ⊤) limit_of fault text failed false → TellingCauseOf (run_fault_of_input fault) text failed false
+pub telling-cause : {F : Type 0} (fault : InputFault F) (text : List ℕ) (failed : Bool) → CauseOf (λ _. ⊤) limit_of fault text failed false → TellingCauseOf (run_fault_of_input fault) text failed false
 telling-cause ReadFault text failed c = c
 telling-cause LongInput text failed c = c
 telling-cause WriteFault text failed c = c

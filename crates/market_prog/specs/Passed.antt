@@ -26,6 +26,17 @@ pub record NamesDrive (found : Text × List Row) : Type 0 where
   pub name : found.0 ≡ codes "drive"
   pub workers : HasNumber (codes "workers") 16 found.1
 
+-- each number of `chart`
+pub record HasChartNumbers (rows : List Row) : Type 0 where
+  pub width : HasNumber (codes "width") 1792 rows
+  pub from : HasNumber (codes "from") 4294967295 rows
+  pub to : HasNumber (codes "to") 4294967295 rows
+
+-- it is `chart`, with its numbers
+pub record NamesChart (found : Text × List Row) : Type 0 where
+  pub name : found.0 ≡ codes "chart"
+  pub numbers : HasChartNumbers found.1
+
 -- one of these, or `replay`
 abbrev pub NamesSubcommand : Text × List Row → Type 0
-NamesSubcommand found = NamesScript found ⊎ ((found.0 ≡ codes "replay") ⊎ NamesDrive found)
+NamesSubcommand found = NamesScript found ⊎ ((found.0 ≡ codes "replay") ⊎ (NamesDrive found ⊎ NamesChart found))

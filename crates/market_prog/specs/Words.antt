@@ -1,12 +1,14 @@
 -- What the words of the command line choose.
-use Rattle.std.specs.Prelude.{◌≡◌, ℕ, ◌≤◌, Bool, List, [], ◌∷◌, bytes_eq, false, true, Some, Ok, codes, pos}
+use Rattle.std.specs.Prelude.{◌≡◌, ℕ, ◌≤◌, ⊤, Bool, List, [], ◌∷◌, bytes_eq, false, true, length, take, Option, Some, None, Ok, Err, codes, pos}
+use Rattle.std.specs.List.{range_with_len}
 use Rattle.std.specs.Option.{option_map_or}
 use Rattle.std.specs.Str.Parse.{ParsesUnsigned}
-use Rattle.clap.specs.Words.{App, Row, Rule, Text, first_of, new_app, new_rule, with_rule, with_subcommand, subcommand_of}
-use Rattle.clap.specs.declared.builder.ArgAction.TheVariants.{Set, SetTrue}
+use Rattle.clap.specs.Words.{App, Row, Rule, Text, all_of, first_of, new_app, new_rule, with_rule, with_subcommand, subcommand_of}
+use Rattle.clap.specs.declared.builder.ArgAction.TheVariants.{Append, Set, SetTrue}
 use Rattle.clap.specs.declared.builder.value_parser.ValueParser.TheVariants.{Signed}
 use Rattle.market_prog.specs.declared.words.Choice.{Choice}
-use Rattle.market_prog.specs.declared.words.Choice.TheVariants.{Script, Replay, Drive}
+use Rattle.market_prog.specs.declared.words.Choice.TheVariants.{Script, Replay, Drive, Chart}
+use Rattle.market_prog.specs.declared.chart.ChartOptions.{ChartOptions}
 use Rattle.market_prog.specs.declared.words.ScriptTask.{ScriptTask}
 use Rattle.market_prog.specs.declared.words.ScriptTask.TheVariants.{Answer, Journal, Explain}
 use Rattle.market_prog.specs.declared.options.MarketOptions.{MarketOptions}
@@ -57,6 +59,24 @@ replay_app = with_rule (new_app (codes "replay")) progress_rule
 abbrev pub drive_app : App
 drive_app = with_rule (with_rule (new_app (codes "drive")) (number_rule (codes "workers") (codes "4") 16)) progress_rule
 
+-- the option that names an arena, and may come again
+abbrev pub arena_rule : Rule
+arena_rule = record (new_rule (codes "arena")) {
+  long = Some (codes "arena");
+  value_names = 1;
+  action = Some Append;
+  parser = Some (Signed (pos 1) (pos 4294967294));
+}
+
+-- the subcommand `chart`
+abbrev pub chart_app : App
+chart_app = with_rule (with_rule (with_rule (with_rule (with_rule (new_app (codes "chart"))
+    (number_rule (codes "width") (codes "112") 1792))
+    (number_rule (codes "from") (codes "1") 4294967295))
+    (number_rule (codes "to") (codes "4294967295") 4294967295))
+    arena_rule)
+    progress_rule
+
 -- a command that tells its version, and is nothing without a subcommand
 abbrev pub with_choice_asked : App → App
 with_choice_asked a =
@@ -64,11 +84,12 @@ with_choice_asked a =
 
 -- the program's command
 abbrev pub market_app : App
-market_app = with_subcommand (with_subcommand (with_subcommand (with_subcommand (with_choice_asked (new_app (codes "market")))
+market_app = with_subcommand (with_subcommand (with_subcommand (with_subcommand (with_subcommand (with_choice_asked (new_app (codes "market")))
     run_app.top)
     explain_app.top)
     replay_app.top)
-    drive_app.top
+    drive_app.top)
+    chart_app.top
 
 -- n, from 1 to high, is the number that the option's word spells in these matches
 pub record IsNumberOf (name : Text) (high : ℕ) (rows : List Row) (n : ℕ) : Type 0 where
@@ -110,11 +131,53 @@ pub record IsDriveOf (rows : List Row) (options : DriveOptions) : Type 0 where
   pub workers : IsNumberOf (codes "workers") 16 rows options.workers
   pub progress : options.progress ≡ asks (codes "progress") rows
 
+-- what a word spells as a number, if it spells one
+abbrev pub Spells : Text → Option ℕ → Type 0
+Spells word (Some n) = ParsesUnsigned {E = ℕ} 32 10 word (Ok n)
+Spells word None = ParsesUnsigned {E = ℕ} 32 10 word (Err 0)
+
+-- so for each of some words
+abbrev pub SpellEach : List Text → List (Option ℕ) → Type 0
+SpellEach [] [] = ⊤
+SpellEach (word ∷ words) (n ∷ ns) = Spells word n × SpellEach words ns
+SpellEach _ _ = ⊥
+
+-- the numbers among these
+abbrev pub numbers_among : List (Option ℕ) → List ℕ
+numbers_among [] = []
+numbers_among (None ∷ ns) = numbers_among ns
+numbers_among (Some n ∷ ns) = n ∷ numbers_among ns
+
+-- the arenas are those that the words spell, in order
+pub record AreSpelled (words : List Text) (arenas : List ℕ) : Type 0 where
+  pub spelled : List (Option ℕ)
+  pub each : SpellEach words spelled
+  pub are : arenas ≡ numbers_among spelled
+
+-- the arenas are the 16 that are opened first
+abbrev pub AreFirstArenas : List ℕ → Type 0
+AreFirstArenas arenas = arenas ≡ range_with_len 1 16
+
+-- the arenas are the first 16 that are named; where none is named the 16 that are opened first
+abbrev pub AreArenasOf : Option (List Text) → List ℕ → Type 0
+AreArenasOf None arenas = AreFirstArenas arenas
+AreArenasOf (Some words) arenas = AreSpelled (take 16 words) arenas
+
+-- the options of `chart` are those of these matches
+pub record IsDrawingOf (rows : List Row) (options : ChartOptions) : Type 0 where
+  pub width : IsNumberOf (codes "width") 1792 rows options.width
+  pub from : IsNumberOf (codes "from") 4294967295 rows options.from
+  pub to : IsNumberOf (codes "to") 4294967295 rows options.to
+  pub arenas : AreArenasOf (all_of (codes "arena") rows) options.arenas.items
+  pub few : length options.arenas.items ≤ 16
+  pub progress : options.progress ≡ asks (codes "progress") rows
+
 -- the choice is the named subcommand with these matches
 abbrev pub IsChoiceOf : Text × List Row → Choice → Type 0
 IsChoiceOf found (Script task options) = IsTaskOf found task × IsScriptOf found.1 options
 IsChoiceOf found (Replay options) = (found.0 ≡ codes "replay") × IsReplayOf found.1 options
 IsChoiceOf found (Drive options) = (found.0 ≡ codes "drive") × IsDriveOf found.1 options
+IsChoiceOf found (Chart options) = (found.0 ≡ codes "chart") × IsDrawingOf found.1 options
 
 -- the choice is that of clap's subcommand for the words, with its matches
 pub record Chooses (words : List Text) (choice : Choice) : Type 0 where

@@ -8,12 +8,17 @@ pub(crate) const PROGRESS_OF_LINES: &str =
 pub(crate) const PROGRESS_OF_JOBS: &str =
     "Reports on standard error how many jobs are done, even if that is no terminal";
 
+/// Of `--arena`.
+pub(crate) const ARENA: &str =
+    "Draws arena N; up to 16 may be named, and where none is the first 16 are drawn";
+
 /// At the end of `market --help`.
 pub(crate) const OF_MARKET: &str = "\
 `market run` reads script lines from standard input, and answers each by a reply line on standard
 output. `market run --help` tells the commands. `market explain` reads the same lines, and writes
 how the workers of the market that they lead to are divided. `market replay` reads the journal that
 `market run --journal` writes of them, and tells whether each reply in it is the one that is due.
+`market chart` reads such a journal too, and draws it: an SVG of what arenas asked for and had.
 `market drive` reads a plan of jobs, and runs them by workers that a market moves between arenas.
 
 Example:
@@ -146,5 +151,24 @@ Example:
 Exit status:
   0  all jobs are done, or help was asked for
   1  the plan is refused; why is on standard output, as `G01 bad plan line 2`
+  2  a bad command line
+  3  a read, write, memory or length fault; its text is on standard error";
+
+/// At the end of `market chart --help`.
+pub(crate) const OF_CHART: &str = "\
+Standard input holds a journal, as for `market replay`. Where it is legal, standard output gets its
+picture, an SVG of less than 2 MB that stands alone. From left to right come the entries, each
+column holding as many as the others, from top to bottom the limits, and for each level a row for
+each arena that stood in it: what it asked for, how many workers it was allotted, and how many it
+had. A column shows the least and the most of each number in its entries, and tells them to a
+pointer. Where the journal is not legal, standard output gets nothing, and standard error its first
+fault, which `market replay --help` explains.
+
+Example:
+  $ printf '0 open 8 1 normal\\n0 request 1 3\\n' | market run --journal | market chart > chart.svg
+
+Exit status:
+  0  the journal is drawn, or help was asked for
+  1  it is not legal
   2  a bad command line
   3  a read, write, memory or length fault; its text is on standard error";

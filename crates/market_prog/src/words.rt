@@ -1,21 +1,25 @@
 //! The words of the command line.
-ghost use Rattle.std.specs.Prelude.{◌≡◌, ◌≤◌, ◌<◌, IfOk, codes, false, map};
-ghost use Rattle.clap.specs.Words.{App, FailsBy, app_of, fault_of, found_of, new_app, rows_of, rule_of, with_rule, with_subcommand};
-ghost use Rattle.market_prog.specs.Words.{Chooses, IsChoiceOf, IsDriveOf, IsNumberOf, IsMarketOf, IsReplayOf, IsScriptOf, asks, drive_app, explain_app, flag_rule, market_app, number_rule, replay_app, run_app, script_app, with_choice_asked};
+ghost use Rattle.std.specs.Prelude.{◌≡◌, ◌≤◌, ◌<◌, IfOk, codes, false, length, map};
+ghost use Rattle.clap.specs.Words.{App, FailsBy, all_of, app_of, fault_of, found_of, new_app, rows_of, rule_of, with_rule, with_subcommand};
+ghost use Rattle.market_prog.specs.Words.{AreArenasOf, AreSpelled, Chooses, IsChoiceOf, IsDrawingOf, IsDriveOf, IsNumberOf, IsMarketOf, IsReplayOf, IsScriptOf, Spells, AreFirstArenas, arena_rule, asks, chart_app, drive_app, explain_app, flag_rule, market_app, number_rule, replay_app, run_app, script_app, with_choice_asked};
 ghost use Rattle.market_prog.specs.Command.{IsCommandOf};
-ghost use Rattle.market_prog.specs.Passed.{HasNumber, HasMarketNumbers, NamesSubcommand};
+ghost use Rattle.market_prog.specs.Passed.{HasChartNumbers, HasNumber, HasMarketNumbers, NamesSubcommand};
 
+use crate::chart::ChartOptions;
 use crate::help;
 use crate::options::MarketOptions;
 use clap::{Arg, ArgAction, ArgMatches, Command, Error};
-use market_types::LastNumber;
+use market_types::{ArenaId, LastNumber};
 use std::alloc::{AllocError, Global};
 
 /// What `market --version` tells.
 const VERSION: &str = "0.1.0";
 
+/// How many arenas are drawn at most.
+const MOST_ARENAS: usize = 16;
+
 /// A subcommand with its options.
-#[derive(Clone, Copy, Debug, PartialEq, Eq)]
+#[derive(Debug, PartialEq, Eq, Drop)]
 pub enum Choice {
     /// `market run` and `market explain`: a script speaks to this market.
     Script(ScriptTask, ScriptOptions),
@@ -23,6 +27,8 @@ pub enum Choice {
     Replay(ReplayOptions),
     /// `market drive`: drives a plan.
     Drive(DriveOptions),
+    /// `market chart`: draws a journal.
+    Chart(ChartOptions),
 }
 
 /// What is written of a script.
@@ -110,6 +116,27 @@ const WORKERS: NumberOption = NumberOption {
     default: "4",
     high: 16,
     help: "N workers run the jobs, 1 to 16",
+};
+
+const WIDTH: NumberOption = NumberOption {
+    name: "width",
+    default: "112",
+    high: 1_792,
+    help: "Draws at most N columns, 1 to 1792; all arenas together have at most 1792",
+};
+
+const FROM: NumberOption = NumberOption {
+    name: "from",
+    default: "1",
+    high: 4_294_967_295,
+    help: "Draws no entry before entry N, 1 to 4294967295",
+};
+
+const TO: NumberOption = NumberOption {
+    name: "to",
+    default: "4294967295",
+    high: 4_294_967_295,
+    help: "Draws no entry after entry N, 1 to 4294967295",
 };
 
 impl NumberOption {
@@ -262,6 +289,43 @@ fn drive_command<'a>(alloc: Global) -> Result<Command<'a>, AllocError>
     with_progress(command, alloc, help::PROGRESS_OF_JOBS)
 }
 
+/// The option that names an arena, as clap's. It may come again.
+fn arena_arg<'a>(alloc: Global) -> Arg<'a>
+    ensures rule { rule_of result ≡ arena_rule }
+    ensures global { result.global ≡ false }
+{
+    Arg::new(alloc, "arena")
+        .long("arena")
+        .value_name("N")
+        .action(ArgAction::Append)
+        .value_parser(clap::value_parser!(u32).range(1..=4_294_967_294))
+        .help(help::ARENA)
+}
+
+/// A command that also takes arenas, where there was memory to make the command.
+fn with_arenas<'a>(
+    command: Result<Command<'a>, AllocError>,
+    alloc: Global,
+) -> Result<Command<'a>, AllocError>
+    ensures { (app : App) → IfOk command.entry (λ c. IsCommandOf c app) → IfOk result (λ c. IsCommandOf c (with_rule app arena_rule)) }
+{
+    command?.arg(arena_arg(alloc))
+}
+
+/// The subcommand `chart`.
+fn chart_command<'a>(alloc: Global) -> Result<Command<'a>, AllocError>
+    ensures { IfOk result (λ c. IsCommandOf c chart_app) }
+{
+    let command = Command::new(alloc, "chart")
+        .about("Draws what a journal's arenas asked for, were allotted and had, as an SVG")
+        .after_help(help::OF_CHART);
+    let command = with_number(Ok(command), alloc, WIDTH);
+    let command = with_number(command, alloc, FROM);
+    let command = with_number(command, alloc, TO);
+    let command = with_arenas(command, alloc);
+    with_progress(command, alloc, help::PROGRESS_OF_LINES)
+}
+
 /// A command with one more subcommand, where there was memory to make it.
 fn with_made<'a>(
     command: Command<'a>,
@@ -294,7 +358,8 @@ fn market_command<'a>(alloc: Global) -> Result<Command<'a>, AllocError>
     let command = with_made(bare_command(alloc), run_command(alloc))?;
     let command = with_made(command, explain_command(alloc))?;
     let command = with_made(command, replay_command(alloc))?;
-    with_made(command, drive_command(alloc))
+    let command = with_made(command, drive_command(alloc))?;
+    with_made(command, chart_command(alloc))
 }
 
 /// The market's options in matches that clap has passed.
@@ -362,16 +427,79 @@ fn drive_options(matches: &ArgMatches<'_>) -> DriveOptions
     }
 }
 
+/// The arena that a word names.
+fn read_arena(word: &str) -> Option<ArenaId>
+    ensures { Spells word.now result }
+{
+    let Ok(number) = word.parse::<u32>() else {
+        return None;
+    };
+    Some(ArenaId::new(number))
+}
+
+/// The arenas that words name, in order.
+fn read_arenas(alloc: Global, words: &[&str]) -> Result<Vec<ArenaId>, AllocError>
+    ensures { IfOk result (λ arenas. AreSpelled (map (λ s. s.now) words.now) arenas.items) }
+{
+    let mut arenas = Vec::new(alloc);
+    for word in words {
+        if let Some(arena) = read_arena(word) {
+            arenas.push(arena)?;
+        }
+    }
+    Ok(arenas)
+}
+
+/// The arenas that are opened first.
+fn first_arenas(alloc: Global) -> Result<Vec<ArenaId>, AllocError>
+    ensures { IfOk result (λ arenas. AreFirstArenas arenas.items) }
+{
+    let mut arenas = Vec::new(alloc);
+    for index in 0..MOST_ARENAS {
+        arenas.push(ArenaId::new(index as u32 + 1))?;
+    }
+    Ok(arenas)
+}
+
+/// The arenas that matches name which clap has passed, the first 16 of them; where they name none, the 16 that are opened first.
+fn arenas_in(alloc: Global, matches: &ArgMatches<'_>) -> Result<Vec<ArenaId>, AllocError>
+    ensures exact { IfOk result (λ arenas. AreArenasOf (all_of (codes "arena") (rows_of (found_of matches.now))) arenas.items) }
+    ensures few { IfOk result (λ arenas. length arenas.items ≤ 16) }
+{
+    match matches.get_strs("arena") {
+        Some(words) => read_arenas(alloc, &words[..words.len().min(MOST_ARENAS)]),
+        None => first_arenas(alloc),
+    }
+}
+
+/// The options of `chart` in matches that clap has passed.
+fn chart_options(alloc: Global, matches: &ArgMatches<'_>) -> Result<ChartOptions, AllocError>
+    requires { HasChartNumbers (rows_of (found_of matches.now)) }
+    ensures { IfOk result (λ options. IsDrawingOf (rows_of (found_of matches.now)) options) }
+{
+    let arenas = arenas_in(alloc, matches)?;
+    Ok(ChartOptions {
+        width: WIDTH.number(matches),
+        from: FROM.number(matches),
+        to: TO.number(matches),
+        arenas,
+        progress: asks_progress(matches),
+    })
+}
+
 /// The choice of a subcommand that clap has passed.
-fn choice_of(name: &str, matches: &ArgMatches<'_>) -> Choice
+fn choice_of(alloc: Global, name: &str, matches: &ArgMatches<'_>) -> Result<Choice, AllocError>
     requires { NamesSubcommand (name.now, rows_of (found_of matches.now)) }
-    ensures { IsChoiceOf (name.now, rows_of (found_of matches.now)) result }
+    ensures { IfOk result (λ choice. IsChoiceOf (name.now, rows_of (found_of matches.now)) choice) }
 {
     if name == "replay" {
-        return Choice::Replay(replay_options(matches));
+        return Ok(Choice::Replay(replay_options(matches)));
     }
     if name == "drive" {
-        return Choice::Drive(drive_options(matches));
+        return Ok(Choice::Drive(drive_options(matches)));
+    }
+    if name == "chart" {
+        return Ok(Choice::Chart(chart_options(alloc, matches)?));
     }
     let options = script_options(matches);
     let task = match name {
@@ -380,7 +508,7 @@ fn choice_of(name: &str, matches: &ArgMatches<'_>) -> Choice
         "explain" => ScriptTask::Explain,
         _ => unreachable!(),
     };
-    Choice::Script(task, options)
+    Ok(Choice::Script(task, options))
 }
 
 /// What the words of a command line choose. The first word is the program's name.
@@ -395,5 +523,6 @@ pub fn read_words<'a>(alloc: Global, words: &'a [&'a str]) -> Result<Choice, Err
     let Some((name, found)) = matches.subcommand() else {
         unreachable!()
     };
-    Ok(choice_of(name, found))
+    let choice = choice_of(alloc, name, found)?;
+    Ok(choice)
 }
