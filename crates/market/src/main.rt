@@ -1,7 +1,7 @@
 //! The program `market`: its words, its streams and its exit status.
 #![tactic(auto)]
 
-ghost use Rattle.std.specs.Prelude.{◌≤◌};
+ghost use Rattle.std.specs.Prelude.{◌≤◌, length};
 
 mod progress;
 
@@ -9,11 +9,12 @@ use crate::progress::{Meter, MeteredSource, ProgressGate};
 use byte_devices::{ReadSource, WriteSink};
 use clap::Error;
 use clap::error::ErrorKind;
+use journal_replay::Verdict;
 use market_drive::DriveFault;
 use market_prog::{
-    Choice, DriveEnd, DriveOptions, ReplayOptions, RunFault, ScriptOptions, ScriptTask,
-    explain_script, read_words, run_drive, run_drive_through, run_journal, run_replay, run_script,
-    status_of_drive, status_of_replay, status_of_run,
+    ChartOptions, Choice, DriveEnd, DriveOptions, ReplayOptions, RunFault, ScriptOptions,
+    ScriptTask, explain_script, read_words, run_chart, run_drive, run_drive_through, run_journal,
+    run_replay, run_script, status_of_drive, status_of_replay, status_of_run,
 };
 use std::fmt::Display;
 use std::io::IsTerminal;
@@ -83,6 +84,24 @@ fn replay(rt: &HostRuntime, options: ReplayOptions) -> u8 {
     finish(rt, outcome, status)
 }
 
+/// Draws the journal on standard input, and tells the verdict of one that is not legal.
+fn chart(rt: &HostRuntime, options: &ChartOptions) -> u8
+    requires width { 1 ≤ options.now.width }
+    requires from { 1 ≤ options.now.from }
+    requires few { length options.now.arenas.items ≤ 16 }
+{
+    let meter = meter_of(rt, "chart", options.progress);
+    let mut input = MeteredSource::new(ReadSource::new(rt.stdin()), meter);
+    let mut output = WriteSink::new(rt.stdout());
+    let outcome = run_chart(rt.alloc(), options, &mut input, &mut output);
+    let status = status_of_replay(&outcome);
+    match outcome {
+        Ok(Verdict::Legal(_)) => status,
+        Ok(verdict) => fail(rt, verdict, status),
+        Err(fault) => fail(rt, fault, status),
+    }
+}
+
 /// Whether the progress of a drive is told: where standard error is a terminal, and where it is asked for.
 fn tells_progress(rt: &HostRuntime, options: DriveOptions) -> bool {
     options.progress || rt.stderr().is_terminal()
@@ -145,6 +164,7 @@ fn obey<T: Threads + Wait + Sync>(rt: &HostRuntime, threads: &T, words: &[String
         Ok(Choice::Script(task, options)) => work_script(rt, task, options),
         Ok(Choice::Replay(options)) => replay(rt, options),
         Ok(Choice::Drive(options)) => drive(rt, threads, options),
+        Ok(Choice::Chart(options)) => chart(rt, &options),
         Err(error) => print_help(rt, &error),
     }
 }
