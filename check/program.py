@@ -13,6 +13,7 @@ import signal
 import subprocess
 import sys
 import time
+from xml.etree import ElementTree
 
 EXAMPLES = os.path.join(os.path.dirname(os.path.abspath(__file__)), "..", "examples")
 sys.path.insert(0, EXAMPLES)
@@ -22,7 +23,8 @@ SCRIPT = b"0 open 8 1 normal\n0 request 1 3\n0 show 1\n"
 REPLIES = b"arena 1\nrequest 3\narena 1 request 3 allot 3 top yes active 0 recall 0 hire 3\n"
 PLAN = b"market 8 64\narena 8 1 normal 2 0\narena 8 1 low 1 0\njob 1 sum 10\njob 1 digits 9081\njob 2 sum 100\n"
 OUTCOME = b"job 1 55\njob 2 18\njob 3 5050\n"
-SUBCOMMANDS = {("run",): SCRIPT, ("run", "--journal"): SCRIPT, ("explain",): SCRIPT, ("replay",): b"", ("drive",): PLAN}
+JOURNAL = open(os.path.join(EXAMPLES, "first.journal"), "rb").read()
+SUBCOMMANDS = {("run",): SCRIPT, ("run", "--journal"): SCRIPT, ("explain",): SCRIPT, ("replay",): b"", ("drive",): PLAN, ("chart",): JOURNAL}
 
 
 def ran(words, text=b"", **more):
@@ -91,7 +93,7 @@ def reads_slowly(program):
 
 def closes_its_pipe(program):
     for words in SUBCOMMANDS:
-        text = {"replay": b"x\n", "drive": PLAN}.get(words[0], b"0 open 8 1 normal\n" * 1_000)
+        text = {"replay": b"x\n", "drive": PLAN, "chart": JOURNAL}.get(words[0], b"0 open 8 1 normal\n" * 1_000)
         child = subprocess.Popen([program, *words], stdin=subprocess.PIPE, stdout=subprocess.PIPE, stderr=subprocess.PIPE)
         child.stdout.close()
         try:
@@ -125,7 +127,7 @@ def comes_in_pieces(program):
     rng = random.Random(7)
     script = b"".join(b"%d %s\n" % (rng.randint(0, 3), rng.choice([b"open 8", b"request 1 3", b"join", b"stay", b"lists", b"fly"])) for _ in range(2_000))
     journal = ran([program, "run", "--journal"], script).stdout
-    for words, text in ((["run"], script), (["run", "--journal"], script), (["explain"], script), (["replay"], journal), (["drive"], PLAN)):
+    for words, text in ((["run"], script), (["run", "--journal"], script), (["explain"], script), (["replay"], journal), (["drive"], PLAN), (["chart"], journal)):
         child = subprocess.Popen([program, *words], stdin=subprocess.PIPE, stdout=subprocess.PIPE)
         writer = os.fork()
         if writer == 0:
@@ -147,7 +149,7 @@ def is_too_long(program):
     for words in SUBCOMMANDS:
         # One remark, which says as much as nothing.
         found, short = ran([program, *words], b"#" * longest), ran([program, *words], b"#")
-        due(f"{' '.join(words)} reads an input of {longest} bytes", (found.stdout, found.stderr, found.returncode), (short.stdout, b"", short.returncode))
+        due(f"{' '.join(words)} reads an input of {longest} bytes", (found.stdout, found.stderr, found.returncode), (short.stdout, short.stderr, short.returncode))
         found = ran([program, *words], b"#" * (longest + 1))
         due(f"{' '.join(words)} reads none with a byte more", (found.stdout, found.stderr, found.returncode), (b"", b"input too long\n", 3))
 
@@ -163,7 +165,8 @@ def helps(program):
 def refuses_words(program):
     bad = [[], ["fly"], ["run", "--base", "0"], ["run", "--seats", "65"], ["run", "--levels", "9"], ["run", "--hard", "x"], ["replay", "x"],
            ["run", "--last", "0"], ["explain", "--last", "4294967295"], ["run", "--journal", "--last", "0"],
-           ["drive", "--workers", "0"], ["drive", "--workers", "17"], ["drive", "--workers"], ["run", b"\xff"]]
+           ["drive", "--workers", "0"], ["drive", "--workers", "17"], ["drive", "--workers"], ["run", b"\xff"], ["chart", "--width", "0"],
+           ["chart", "--width", "1793"], ["chart", "--arena", "0"], ["chart", "--from", "0"], ["chart", "--to", "x"]]
     for words in bad:
         found = ran([program, *words], SCRIPT)
         due(f"{words} is refused with a text", (found.returncode, found.stdout, found.stderr != b""), (2, b"", True))
@@ -175,7 +178,7 @@ def tells_progress(program):
     for words in SUBCOMMANDS:
         if words[0] == "drive":
             continue
-        lines = (journal if words[0] == "replay" else SCRIPT + b"0 limit\n" * 3).splitlines(keepends=True)
+        lines = (journal if words[0] in ("replay", "chart") else SCRIPT + b"0 limit\n" * 3).splitlines(keepends=True)
         whole = ran([program, *words], b"".join(lines))
         for how, options in (("untold", []), ("asked for", ["--progress"]), ("to a terminal", [])):
             seen, shown = pty.openpty() if how == "to a terminal" else os.pipe()
@@ -207,6 +210,10 @@ def does_its_job(program):
     numbered = ran([program, "run", "--journal", "--last", "3"], b"0 control 9\n" * 4).stdout
     due("a journal of another last number is legal", ran([program, "replay"], numbered).stdout, b"legal 4\n")
     due("its journal is legal", ran([program, "replay"], journal).stdout, b"legal 3\n")
+    picture = ran([program, "chart"], journal)
+    due("its picture is one document", (ElementTree.fromstring(picture.stdout).tag, picture.stderr, picture.returncode), ("{http://www.w3.org/2000/svg}svg", b"", 0))
+    wrong = ran([program, "chart"], journal.replace(b"allot 3", b"allot 2"))
+    due("a journal that is not legal is not drawn", (wrong.stdout, wrong.stderr[:18], wrong.returncode), (b"", b"J4 wrong reply lin", 1))
     for workers in range(1, 17):
         found = ran([program, "drive", "--workers", str(workers), "--progress"], PLAN)
         due(f"a plan has its outcome by {workers} workers", (found.stdout, found.returncode), (OUTCOME, 0))

@@ -122,7 +122,7 @@ const WIDTH: NumberOption = NumberOption {
     name: "width",
     default: "112",
     high: 1_792,
-    help: "Draws at most N columns, 1 to 1792; all arenas together have at most 1792",
+    help: "Draws at most N columns, 1 to 1792, and 1792 of all arenas",
 };
 
 const FROM: NumberOption = NumberOption {

@@ -6,6 +6,8 @@
 #[cfg(test)]
 mod asserts;
 #[cfg(test)]
+mod charts;
+#[cfg(test)]
 mod devices;
 #[cfg(test)]
 mod drives;

@@ -1,9 +1,10 @@
 //! Command lines, and what is said of them.
 use crate::asserts::same;
 use market_prog::{
-    Choice, DriveOptions, MarketOptions, ReplayOptions, ScriptOptions, ScriptTask, read_words,
+    ChartOptions, Choice, DriveOptions, MarketOptions, ReplayOptions, ScriptOptions, ScriptTask,
+    read_words,
 };
-use market_types::LastNumber;
+use market_types::{ArenaId, LastNumber};
 use std::alloc::Global;
 use std::process::Abort;
 use std::rt::HostRuntime;
@@ -126,6 +127,43 @@ fn options_of_drive_are_read_or_default(rt: HostRuntime) {
         let due = Choice::Drive(DriveOptions { workers, progress });
         choose(&rt, rt.alloc(), words, due);
     }
+}
+
+/// A chart of these arenas.
+fn chart(rt: &impl Abort, alloc: Global, width: u32, from: u32, arenas: &[ArenaId]) -> Choice {
+    let Ok(arenas) = Vec::from_slice(alloc, arenas) else {
+        panic!(rt; "no memory");
+    };
+    Choice::Chart(ChartOptions {
+        width,
+        from,
+        to: 4_294_967_295,
+        arenas,
+        progress: false,
+    })
+}
+
+#[test]
+fn options_of_chart_are_read_or_default(rt: HostRuntime) {
+    let mut first = [ArenaId::new(1); 16];
+    for index in 0..16 {
+        first[index] = ArenaId::new(index as u32 + 1);
+    }
+    let due = chart(&rt, rt.alloc(), 112, 1, &first);
+    choose(&rt, rt.alloc(), &["market", "chart"], due);
+    let words = [
+        "market",
+        "chart",
+        "--arena",
+        "7",
+        "--width=3",
+        "--arena=4294967294",
+        "--from",
+        "2",
+    ];
+    let named = [ArenaId::new(7), ArenaId::new(4_294_967_294)];
+    let due = chart(&rt, rt.alloc(), 3, 2, &named);
+    choose(&rt, rt.alloc(), &words, due);
 }
 
 /// The words end the program with that status, and this is said of them.

@@ -2,6 +2,7 @@
 ghost use Rattle.std.specs.Prelude.{◌≡◌, false};
 
 use crate::asserts::{holds, same};
+use crate::charts::draw;
 use byte_devices::{TestSink, TestSource};
 use journal_replay::Verdict;
 use market_prog::{MarketOptions, RunFault, explain_script, run_journal, run_replay, run_script};
@@ -145,4 +146,18 @@ fn a_refused_growth_is_told_and_no_verdict(rt: HostRuntime) {
 fn a_refused_growth_is_told_and_no_due_reply(rt: HostRuntime) {
     let line = b"J4 wrong reply line 2 due arena 1\n";
     is_replayed(&rt, rt.alloc(), WRONG, line);
+}
+
+#[test]
+fn a_refused_growth_is_told_and_no_picture(rt: HostRuntime) {
+    let (told, sink) = draw(&rt, rt.alloc(), JOURNAL, 1, 9);
+    if told.is_ok() {
+        holds(&rt, sink.taken().ends_with(b"</svg>\n"));
+        return;
+    }
+    holds(&rt, matches!(&told, Err(RunFault::Memory)));
+    holds(&rt, sink.taken().is_empty());
+    let (told, sink) = draw(&rt, rt.alloc(), JOURNAL, 1, 9);
+    holds(&rt, told.is_ok());
+    holds(&rt, sink.taken().ends_with(b"</svg>\n"));
 }
