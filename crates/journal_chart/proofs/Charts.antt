@@ -24,9 +24,9 @@ use Rattle.journal_chart.proofs.Standing.{stands}
 -- ---- widths
 
 -- a column is wide enough for all moments so far
-record Roomy (most n : ℕ) : Type 0 where
-  wide : 0 < width_of most n
-  room : n ≤ most * width_of most n
+pub record Roomy (most n : ℕ) : Type 0 where
+  pub wide : 0 < width_of most n
+  pub room : n ≤ most * width_of most n
 
 roomy-if : (most n w : ℕ) (b : Bool) → 0 < most → nat_le (most * w) n ≡ b → 0 < w → n ≤ most * w
     → (0 < (if b then w + w else w)) × (suc n ≤ most * (if b then w + w else w))
@@ -38,7 +38,7 @@ roomy-if most n w false some full wide room =
     let less : n < most * w = grind (arith, nat_tests) in
     (wide, omega arith)
 
-roomy : (most n : ℕ) → 0 < most → Roomy most n
+pub roomy : (most n : ℕ) → 0 < most → Roomy most n
 roomy most zero some = record { wide = omega arith; room = omega arith }
 roomy most (suc n) some =
     let so_far = roomy most n some in
@@ -88,7 +88,7 @@ line-more most number moments t some =
     ∙ ap (columns most w) (sym (map_push number moments t))
     ∙ ap (λ m. columns most (width_of most m) (map number (moments ++ t ∷ []))) next
 
-line-if : (b : Bool) (most : ℕ) (number : State → Option ℕ) (moments : List State) (t : State) → 0 < most
+pub line-if : (b : Bool) (most : ℕ) (number : State → Option ℕ) (moments : List State) (t : State) → 0 < most
     → nat_le (most * width_of most (length moments)) (length moments) ≡ b
     → added (length moments / width_of most (suc (length moments))) (number t) (roomed b (line_of most number moments)) ≡ line_of most number (moments ++ t ∷ [])
 line-if b most number moments t some full =

@@ -17,9 +17,10 @@ use Rattle.journal_replay.specs.Reading.{header_in, header_of, opened_by}
 use Rattle.journal_replay.specs.Verdicts.{json_by}
 use Rattle.journal_replay.specs.Watched.{Watched, Watches, seen_all}
 use Rattle.journal_chart.specs.Numbers.{Charted, chart_of, chart_between, moments_of}
-use Rattle.journal_chart.specs.Steps.{Making, made_more, passed_chart, taken_chart}
+use Rattle.journal_chart.specs.Steps.{Making, made_more, next_chart, passed_chart}
 use Rattle.journal_chart.specs.Journals.{Charts, IsChartOf}
-use Rattle.journal_chart.proofs.Charts.{chart-passed, chart-taken}
+use Rattle.journal_chart.proofs.Charts.{chart-passed}
+use Rattle.journal_chart.proofs.Still.{EndsIn, chart-next, ends-dropped}
 
 -- a header opens a market without arenas
 module _ {D O : Type 0} (read : D → Option Header) (opened : Header → O) (market : O → State) (empty : (h : Header) → (market (opened h)).arenas ≡ []) where
@@ -46,9 +47,9 @@ module _ (most : ℕ) (arenas : List ℕ) (before to : ℕ) (some : 0 < most) wh
   abbrev making : List State → State → ℕ → Making
   making ms s seen = record { before = before; to = to; seen = seen; chart = chart_of most arenas (drop before ms) s }
 
-  made-one : (s t : State) (seat : ℕ) (cmd : Cmd) (reply : Reply) (ms : List State) → step s seat cmd ≡ (reply, t) → length ms < to
+  made-one : (s t : State) (seat : ℕ) (cmd : Cmd) (reply : Reply) (ms : List State) → step s seat cmd ≡ (reply, t) → EndsIn s ms → length ms < to
       → made_more (making ms s (length ms)) t cmd reply ≡ making (ms ++ t ∷ []) t (length ms + 1)
-  made-one s t seat cmd reply ms answered inside =
+  made-one s t seat cmd reply ms answered last inside =
       let open_ : nat_le to (length ms) ≡ false = grind (arith, nat_tests) in
       elim (cases_Bool (nat_lt (length ms) before)) [
         | inl early ↦
@@ -60,20 +61,20 @@ module _ (most : ℕ) (arenas : List ℕ) (before to : ℕ) (some : 0 < most) wh
             rw (open_, early) (λ i. record { before = before; to = to; seen = length ms + 1; chart = chart i })
         | inr late ↦
             let long : before ≤ length ms = grind (arith, nat_tests) in
-            let chart : taken_chart t cmd reply (chart_of most arenas (drop before ms) s) ≡ chart_of most arenas (drop before (ms ++ t ∷ [])) t =
-            chart-taken most arenas (drop before ms) s t seat cmd reply some answered ∙ ap (λ l. chart_of most arenas l t) (sym (drop-append-le before ms (t ∷ []) long)) in
+            let chart : next_chart t cmd reply (chart_of most arenas (drop before ms) s) ≡ chart_of most arenas (drop before (ms ++ t ∷ [])) t =
+            chart-next most arenas (drop before ms) s t seat cmd reply some answered (ends-dropped before s ms last) ∙ ap (λ l. chart_of most arenas l t) (sym (drop-append-le before ms (t ∷ []) long)) in
             rw (open_, late) (λ i. record { before = before; to = to; seen = length ms + 1; chart = chart i })
       ]
 
-  made-all : (left : ℕ) (history : List Entry) (s : State) (ms : List State) → IsLegal s history → length ms + left ≡ to
+  made-all : (left : ℕ) (history : List Entry) (s : State) (ms : List State) → IsLegal s history → EndsIn s ms → length ms + left ≡ to
       → (seen_all made_more s history (making ms s (length ms))).chart
       ≡ chart_of most arenas (drop before (ms ++ moments_of s (take left (calls_of history)))) (state_after s (take left (calls_of history)))
-  made-all zero history s ms legal sum =
+  made-all zero history s ms legal last sum =
       let full : nat_le to (length ms) ≡ true = grind (arith, nat_tests) in
       ap (λ (m : Making). m.chart) (made-still history s (making ms s (length ms)) full)
       ∙ ap (λ l. chart_of most arenas (drop before l) s) (sym (append-nil ms))
-  made-all (suc left) [] s ms legal sum = ap (λ l. chart_of most arenas (drop before l) s) (sym (append-nil ms))
-  made-all (suc left) (e ∷ history) s ms legal sum =
+  made-all (suc left) [] s ms legal last sum = ap (λ l. chart_of most arenas (drop before l) s) (sym (append-nil ms))
+  made-all (suc left) (e ∷ history) s ms legal last sum =
       let o : Outcome = step s e.call.seat e.call.cmd in
       let due : e.reply ≡ o.0 = cc in
       let rest : IsLegal o.1 history = cc in
@@ -81,9 +82,9 @@ module _ (most : ℕ) (arenas : List ℕ) (before to : ℕ) (some : 0 < most) wh
       let longer : length (ms ++ o.1 ∷ []) ≡ length ms + 1 = omega (arith, length_push ms o.1) in
       let more : length (ms ++ o.1 ∷ []) + left ≡ to = omega (arith, longer, sum) in
       let tail : List Call = take left (calls_of history) in
-      ap (λ (m : Making). (seen_all made_more o.1 history m).chart) (made-one s o.1 e.call.seat e.call.cmd e.reply ms answered (omega (arith, sum)))
+      ap (λ (m : Making). (seen_all made_more o.1 history m).chart) (made-one s o.1 e.call.seat e.call.cmd e.reply ms answered last (omega (arith, sum)))
       ∙ ap (λ n. (seen_all made_more o.1 history (making (ms ++ o.1 ∷ []) o.1 n)).chart) (sym longer)
-      ∙ made-all left history o.1 (ms ++ o.1 ∷ []) rest more
+      ∙ made-all left history o.1 (ms ++ o.1 ∷ []) rest (inr (ms, refl)) more
       ∙ ap (λ l. chart_of most arenas (drop before l) (state_after o.1 tail)) (append_assoc ms (o.1 ∷ []) (moments_of o.1 tail))
 
 -- whoever watched a journal has its chart
@@ -111,6 +112,6 @@ charts most arenas from to begun end left left' found some empty h =
             is =
                 ap (λ (m : Making). m.chart) w.is
                 ∙ ap (λ (c : Charted). (seen_all made_more w.start w.history (record { before = from - 1; to = to; seen = 0; chart = c })).chart) first
-                ∙ made-all most arenas (from - 1) to some to w.history w.start [] w.legal (omega arith);
+                ∙ made-all most arenas (from - 1) to some to w.history w.start [] w.legal (inl refl) (omega arith);
           };
     }

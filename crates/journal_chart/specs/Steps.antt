@@ -1,11 +1,11 @@
 -- What the code does to the lines of a chart, moment by moment. What it comes to is in Numbers.
-use Rattle.std.specs.Prelude.{ℕ, ◌+◌, ◌*◌, ◌/◌, ◌==◌, nat_le, nat_lt, if◌then◌else◌, List, map, replicate, Option, Some, None}
+use Rattle.std.specs.Prelude.{ℕ, ◌+◌, ◌*◌, ◌/◌, ◌%◌, ◌==◌, ◌&&◌, Bool, true, false, nat_le, nat_lt, if◌then◌else◌, List, map, replicate, Option, Some, None}
 use Rattle.std.specs.Option.{option_map}
 use Rattle.market_types.specs.declared.command.Cmd.{Cmd}
 use Rattle.market_types.specs.declared.command.Cmd.TheVariants.{Open, Close, Priority}
 use Rattle.market_types.specs.declared.reply.ArenaView.{ArenaView}
 use Rattle.market_types.specs.declared.reply.Reply.{Reply}
-use Rattle.market_types.specs.declared.reply.Reply.TheVariants.{Opened, Closed, Moved}
+use Rattle.market_types.specs.declared.reply.Reply.TheVariants.{Opened, Closed, Moved, Idle, Stays, Shown, Listed, Limits, Refused}
 use Rattle.market_types.specs.State.{State}
 use Rattle.market_types.specs.Allotment.{limit_of, effective_limit_of}
 use Rattle.journal_chart.specs.declared.row.Row.{Row}
@@ -118,6 +118,28 @@ taken_chart s cmd reply c =
       lines = taken_lines (c.moments / width_of c.most (c.moments + 1)) s cmd reply (roomed_lines c);
     }
 
+-- the market is as it was before: nothing was asked of it that changes it, or it was refused
+abbrev pub is_still : Reply → Bool
+is_still Idle = true
+is_still (Stays a) = true
+is_still (Shown view) = true
+is_still (Listed lists) = true
+is_still (Limits view) = true
+is_still (Refused fault) = true
+is_still _ = false
+
+-- the next moment goes into the column of the last
+abbrev pub goes_on : Charted → Bool
+goes_on c = nat_lt 0 (c.moments % width_of c.most c.moments)
+
+-- a chart with a moment more that is as the last was, in the same column
+abbrev pub counted_chart : Charted → Charted
+counted_chart c = record c { moments = c.moments + 1 }
+
+-- a chart with the moment after a command and its reply, of which it has taken the one before, if any
+abbrev pub next_chart : State → Cmd → Reply → Charted → Charted
+next_chart s cmd reply c = if is_still reply && goes_on c then counted_chart c else taken_chart s cmd reply c
+
 -- a chart that lets this moment pass
 abbrev pub passed_chart : Cmd → Reply → Charted → Charted
 passed_chart cmd reply c = record c { lines = passed_lines cmd reply c.lines }
@@ -136,4 +158,4 @@ abbrev pub made_more : Making → State → Cmd → Reply → Making
 made_more m s cmd reply =
     if nat_le m.to m.seen then m
     else if nat_lt m.seen m.before then record m { seen = m.seen + 1; chart = passed_chart cmd reply m.chart }
-    else record m { seen = m.seen + 1; chart = taken_chart s cmd reply m.chart }
+    else record m { seen = m.seen + 1; chart = next_chart s cmd reply m.chart }

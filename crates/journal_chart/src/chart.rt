@@ -4,7 +4,7 @@ ghost use Rattle.market_types.specs.State.{State};
 ghost use Rattle.market_types.specs.Step.{step};
 ghost use Rattle.journal_chart.specs.Columns.{width_of};
 ghost use Rattle.journal_chart.specs.Numbers.{chart_of};
-ghost use Rattle.journal_chart.specs.Steps.{halved_lines, passed_chart, taken_chart};
+ghost use Rattle.journal_chart.specs.Steps.{goes_on, halved_lines, is_still, next_chart, passed_chart, taken_chart};
 
 use crate::lines::Lines;
 use market_core::Market;
@@ -95,6 +95,27 @@ impl Chart {
         self.moments += 1;
     }
 
+    /// The next moment goes into the column of the last.
+    fn goes_on(&self) -> bool
+        ensures { result ≡ goes_on self.now }
+    {
+        self.moments % self.width > 0
+    }
+
+    /// Takes the moment after an entry, as `take` does, where the moment before was taken last, if any was. So a moment at which the market
+    /// is as it was is only counted, where it goes into the same column.
+    #[inline]
+    pub(crate) fn take_next(&mut self, market: &Market, cmd: &Cmd, reply: &Reply)
+        requires few { self.old.moments + 1 < 2 ^ 63 }
+        ensures { self.new ≡ next_chart market.now cmd.now reply.now self.old }
+    {
+        if is_still(reply) && self.goes_on() {
+            self.moments += 1;
+            return;
+        }
+        self.take(market, cmd, reply);
+    }
+
     /// Lets the moment after an entry pass that is not drawn, by its command and its reply. It takes no memory.
     pub fn pass(&mut self, cmd: &Cmd, reply: &Reply)
         ensures exact { (arenas : List ℕ) (moments : List State) (s t : State) (seat : ℕ) → step s seat cmd.now ≡ (reply.now, t)
@@ -103,6 +124,22 @@ impl Chart {
     {
         self.lines.pass(cmd, reply);
     }
+}
+
+/// The market is as it was before an entry with this reply.
+#[inline]
+fn is_still(reply: &Reply) -> bool
+    ensures { result ≡ is_still reply.now }
+{
+    matches!(
+        reply,
+        Reply::Idle
+            | Reply::Stays(_)
+            | Reply::Shown(_)
+            | Reply::Listed(_)
+            | Reply::Limits(_)
+            | Reply::Refused(_)
+    )
 }
 
 /// How many moments a column then holds, if so many were taken before the next: where all columns are full, each two become one.

@@ -53,7 +53,7 @@ impl Watcher for Making {
         if self.seen < self.before {
             self.chart.pass(cmd, reply);
         } else {
-            self.chart.take(market, cmd, reply);
+            self.chart.take_next(market, cmd, reply);
         }
         self.seen += 1;
     }
