@@ -1,0 +1,100 @@
+"""The worker market from Python, by ctypes: a copy of this file and libmarket.so are all that a program needs.
+
+A Seat is one caller's way in. Each may go to a thread of its own; an answer that is no number is a Code, a misuse raises Misuse.
+"""
+import ctypes as c
+import os
+import pathlib
+
+U32, SEAT = c.c_uint32, c.c_void_p
+KEEP_ALL, KEEP_PARTS, KEEP_NOTHING = range(3)
+OK, HISTORY_FULL, IDLE, RECALLED = 0, 2, 3, 4
+
+
+class Place(c.Structure):
+    _fields_ = [("state", U32), ("at", c.c_void_p), ("market", c.c_uint64), ("wait", c.c_void_p), ("with", c.c_void_p), ("in_use", c.c_ubyte)]
+
+
+class Terms(c.Structure):
+    _fields_ = [(name, U32) for name in ("base", "hard", "seats", "places", "levels", "last", "keeping")]
+
+
+class Totals(c.Structure):
+    _fields_ = [("calls", c.c_uint64)]
+
+
+class View(c.Structure):
+    _fields_ = [(name, U32) for name in ("arena", "request", "allot", "active", "recall", "hire", "top")]
+
+
+class Limits(c.Structure):
+    _fields_ = [(name, U32) for name in ("value", "limit", "effective")]
+
+
+def _load():
+    lib = c.CDLL(os.environ.get("MARKET_LIB") or str(pathlib.Path(__file__).resolve().parents[2] / "build" / "libmarket.so"))
+    lib.market_code_name.restype, lib.market_code_name.argtypes = c.c_char_p, [c.c_int32]
+    out, i32 = c.POINTER(U32), c.c_int32
+    for name, rest in {
+        "open": [c.POINTER(Terms)], "split": [SEAT], "merge": [SEAT], "close": [c.POINTER(Totals)], "arena_open": [U32, U32, U32, out],
+        "arena_close": [U32], "priority": [U32, U32], "resize": [U32, U32, U32, out], "request": [U32, i32, i32, out],
+        "control": [U32, out], "uncontrol": [U32], "join": [out], "stay": [out], "leave": [out], "show": [U32, c.POINTER(View)],
+        "limit": [c.POINTER(Limits)],
+    }.items():
+        getattr(lib, "market_" + name).argtypes = [SEAT] + rest
+    return lib
+
+
+LIB = _load()
+
+
+class Misuse(Exception):
+    """A code that is neither done nor an answer."""
+
+    def __init__(self, code):
+        super().__init__(LIB.market_code_name(code).decode())
+        self.code = code
+
+
+class Seat:
+    def __init__(self):
+        self._place = Place()
+
+    def _call(self, name, *words, answers=(), out=None):
+        code = getattr(LIB, "market_" + name)(c.byref(self._place), *words, *([c.byref(out)] if out is not None else []))
+        if code != OK and code not in answers:
+            raise Misuse(code)
+        return code, (out.value if isinstance(out, U32) else out)
+
+    @staticmethod
+    def open(base, hard, seats, places=1048576, levels=3, last=1048576, keeping=KEEP_NOTHING):
+        seat = Seat()
+        seat._call("open", c.byref(Terms(base, hard, seats, places, levels, last, keeping)))
+        return seat
+
+    def split(self):
+        seat = Seat()
+        self._call("split", c.byref(seat._place))
+        return seat
+
+    def merge(self, other): self._call("merge", c.byref(other._place))
+    def close(self): return self._call("close", out=Totals())[1].calls
+    def arena_open(self, slots, reserved, level): return self._call("arena_open", slots, reserved, level, out=U32())[1]
+    def arena_close(self, arena): self._call("arena_close", arena)
+    def priority(self, arena, level): self._call("priority", arena, level)
+    def resize(self, arena, slots, reserved): return self._call("resize", arena, slots, reserved, out=U32())[1]
+    def request(self, arena, wanted, mandatory=0): return self._call("request", arena, wanted, mandatory, out=U32())[1]
+    def control(self, value): return self._call("control", value, out=U32())[1]
+    def uncontrol(self, control): self._call("uncontrol", control)
+    def show(self, arena): return self._call("show", arena, out=View())[1]
+    def limit(self): return self._call("limit", out=Limits())[1]
+    def leave(self): return self._call("leave", out=U32())[1]
+
+    def join(self):
+        """The arena at which the seat then is placed, or None where none is in need of a worker."""
+        code, arena = self._call("join", answers=(IDLE,), out=U32())
+        return arena if code == OK else None
+
+    def stay(self):
+        """Whether the seat's arena still wants it: else it is no longer placed."""
+        return self._call("stay", answers=(RECALLED,), out=U32())[0] == OK

@@ -1,0 +1,48 @@
+"""Two threads share a market from Python, and every misuse is told. Run it with python3; it ends with 0 where all is right."""
+import threading
+
+from market import Misuse, Seat
+
+
+def told(name, call, *words):
+    try:
+        call(*words)
+    except Misuse as misuse:
+        assert str(misuse) == name, (str(misuse), name)
+    else:
+        raise AssertionError("not told: " + name)
+
+
+first = Seat.open(base=3, hard=8, seats=3)
+told("MARKET_BAD_BASE", lambda: Seat.open(base=0, hard=8, seats=3))
+told("MARKET_BAD_SEAT", Seat().join)
+seats = [first.split(), first.split()]
+told("MARKET_NO_SEAT_LEFT", first.split)
+arena = first.arena_open(8, 1, 1)
+assert first.join() is None
+told("MARKET_UNFIT", first.leave)
+first.request(arena, 2)
+assert (first.limit().limit, first.show(arena).hire) == (2, 2)
+joined = []
+
+
+def work(seat):
+    joined.append(seat.join())
+    for _ in range(1000):
+        assert seat.stay()
+    assert seat.leave() == arena
+
+
+threads = [threading.Thread(target=work, args=[seat]) for seat in seats]
+for thread in threads:
+    thread.start()
+for thread in threads:
+    thread.join()
+assert joined == [arena, arena]
+told("MARKET_SEATS_OUT", first.close)
+for seat in seats:
+    first.merge(seat)
+told("MARKET_BAD_SEAT", first.merge, seats[0])
+# An open, an idle join, a request, a limit and a show, and of each worker a join, the stays and a leave.
+assert first.close() == 5 + 2 * 1002
+print("a market from Python: all is right")
