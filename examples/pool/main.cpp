@@ -78,8 +78,9 @@ int main(int count, char **words) {
         right = right && high_sum == sum && low_sum == sum;
         const market_view views[] = {threads.show(high), threads.show(low)};
         right = right && views[0].request == 0 && views[1].request == 0;
-        std::fprintf(stderr, "%.1f ms, %.2f bodies at a time; idle for 200 ms it took %.1f ms of the processor; %llu recalls, %llu sleeps\n", took,
-            2.0 * size * body / 1e3 / took, idle, (unsigned long long)threads.recalls(), (unsigned long long)threads.sleeps());
+        std::fprintf(stderr, "%.1f ms, %.2f bodies at a time, %llu recalls, %llu sleeps\n", took, 2.0 * size * body / 1e3 / took,
+            (unsigned long long)threads.recalls(), (unsigned long long)threads.sleeps());
+        std::fprintf(stderr, "idle for 200 ms it took %.1f ms of the processor\n", idle);
     }
     std::printf("%s\n", right ? "the pool's sums are right, and no arena had more workers than it may have" : "WRONG");
     return right ? 0 : 1;

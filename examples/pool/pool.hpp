@@ -1,5 +1,5 @@
 // A thread pool on top of the worker market. The market says how many workers each arena may have; the pool's threads join, stay and
-// leave as it says, and sleep while nobody wants them. A loop's own thread works on it too, beside the workers, as the market's base counts.
+// leave as it says, and sleep while nobody wants them. A loop's own thread works on it too, beside the workers.
 #ifndef MARKET_POOL_HPP
 #define MARKET_POOL_HPP
 
@@ -30,9 +30,12 @@ inline void want(const char *what, int32_t code) {
     if (code != MARKET_OK) throw refusal(what, code);
 }
 
+// What a loop does with the numbers from the first up to the second.
+using piece_body = std::function<void(std::size_t, std::size_t)>;
+
 // One parallel_for: its body, and how many of its chunks are not done yet.
 struct loop {
-    const std::function<void(std::size_t, std::size_t)> &body;
+    const piece_body &body;
     std::atomic<std::size_t> undone;
     std::atomic<std::size_t> untaken;
     int32_t wanted;
@@ -138,7 +141,7 @@ public:
 
     // Calls `body` for all of begin..end, in pieces of at most `grain`, in this thread and by the workers that the arena gets. A body may
     // call it again, in this arena or another.
-    void parallel_for(arena &where, std::size_t begin, std::size_t end, std::size_t grain, const std::function<void(std::size_t, std::size_t)> &body) {
+    void parallel_for(arena &where, std::size_t begin, std::size_t end, std::size_t grain, const piece_body &body) {
         if (begin >= end) return;
         const std::size_t size = std::max<std::size_t>(grain, 1), pieces = (end - begin + size - 1) / size;
         loop mine{body, {pieces}, {pieces}, int32_t(std::min<std::size_t>(pieces - 1, where.slots()))};

@@ -1,6 +1,6 @@
 """The worker market from Python, by ctypes: a copy of this file and libmarket.so are all that a program needs.
 
-A Seat is one caller's way in. Each may go to a thread of its own; an answer that is no number is a Code, a misuse raises Misuse.
+A Seat is one caller's way in, and each may go to a thread of its own. What is neither done nor an answer raises Misuse.
 """
 import ctypes as c
 import os
@@ -8,11 +8,11 @@ import pathlib
 
 U32, SEAT = c.c_uint32, c.c_void_p
 KEEP_ALL, KEEP_PARTS, KEEP_NOTHING = range(3)
-OK, HISTORY_FULL, IDLE, RECALLED = 0, 2, 3, 4
+OK, IDLE, RECALLED = 0, 3, 4
 
 
 class Place(c.Structure):
-    _fields_ = [("state", U32), ("at", c.c_void_p), ("market", c.c_uint64), ("wait", c.c_void_p), ("with", c.c_void_p), ("in_use", c.c_ubyte)]
+    _fields_ = [("state", U32), ("at", SEAT), ("market", c.c_uint64), ("wait", SEAT), ("with", SEAT), ("in_use", c.c_ubyte)]
 
 
 class Terms(c.Structure):

@@ -2,7 +2,8 @@
 use std::path::PathBuf;
 
 fn main() {
-    let folder = std::env::var("MARKET_DIR").map(PathBuf::from).unwrap_or_else(|_| PathBuf::from(env!("CARGO_MANIFEST_DIR")).join("../../build"));
+    let usual = PathBuf::from(env!("CARGO_MANIFEST_DIR")).join("../../build");
+    let folder = std::env::var("MARKET_DIR").map_or(usual, PathBuf::from);
     println!("cargo:rustc-link-search=native={}", folder.display());
     println!("cargo:rustc-link-lib=static=market");
     println!("cargo:rerun-if-env-changed=MARKET_DIR");
