@@ -1,5 +1,5 @@
 -- What a place held before and after a call (own).
-use Rattle.std.specs.Prelude.{◌≡◌, ◌≢◌, ℤ, pos, negsuc, ℕ, Option, IsSome, IsSomeAnd}
+use Rattle.std.specs.Prelude.{◌≡◌, ◌≢◌, ℤ, pos, negsuc, ℕ, Option, None, IsSome, IsSomeAnd}
 use Rattle.market_types.specs.declared.command.Cmd.{Cmd}
 use Rattle.edit_history.specs.declared.fault.CallFault.TheVariants.{HistoryFull, Memory}
 use Rattle.market_lock.specs.Seen.{OfPass}
@@ -17,6 +17,7 @@ pub record Tells (code : ℤ) (cmd : Cmd) (old new : Option OfSeat) : Type 0 whe
   pub memory : code ≡ negsuc 0 → Goes old new (λ p q. Fails p cmd Memory q)
   pub vacant : code ≡ negsuc 1 → new ≡ old
   pub number : code ≡ negsuc 2 → new ≡ old
+  pub none : old ≡ None → code ≢ negsuc 2 → code ≡ negsuc 1
   pub live : code ≢ negsuc 1 → code ≢ negsuc 2 → IsSome new
 
 -- the place holds a seat that is placed so

@@ -1,9 +1,9 @@
 //! Opening a market, one more seat of it, taking a seat back, and closing it.
-ghost use Rattle.std.specs.Prelude.{◌≡◌, ◌≢◌, ◌++◌, [], pos, negsuc, length, Some, None, IsSome, IsSomeAnd};
+ghost use Rattle.std.specs.Prelude.{◌≡◌, ◌≢◌, ◌++◌, [], pos, negsuc, length, true, is_some, Some, None, IfSome, IsSome, IsSomeAnd};
 ghost use Rattle.edit_history.specs.Chronicled.{Chronicled};
 ghost use Rattle.market_lock.specs.Headline.{IsGivenBy};
 ghost use Rattle.market_lock.specs.Views.{opening_of};
-ghost use Rattle.market_seat.specs.Seated.{OfSeat, callers};
+ghost use Rattle.market_seat.specs.Seated.{OfSeat, place_of, callers};
 ghost use Rattle.market_c.specs.Opened.{IsOpenedOn};
 
 use crate::code::{BAD_NUMBER, BAD_SEAT, NO_MEMORY, NO_SEAT_LEFT, OK, of_open_fault, of_why_not};
@@ -46,6 +46,7 @@ pub struct MarketTotals {
 #[unsafe(no_mangle)]
 pub extern "C" fn market_raw_open(alloc: Global, place: &mut Place, terms: &MarketTerms) -> i32
     ensures opened { result ≡ pos 0 → IsSomeAnd place.new.held.seat (IsOpenedOn terms.now) }
+    ensures over { IsSome place.old.held.seat → result ≡ negsuc 1 }
     ensures unopened { result ≢ pos 0 → place.new.held.seat ≡ place.old.held.seat }
 {
     if place.is_live() {
@@ -91,6 +92,8 @@ pub extern "C" fn market_raw_open(alloc: Global, place: &mut Place, terms: &Mark
 #[unsafe(no_mangle)]
 pub extern "C" fn market_raw_split(alloc: Global, from: &mut Place, to: &mut Place) -> i32
     ensures split { result ≡ pos 0 → IsSomeAnd from.old.held.seat (λ s. IsSomeAnd from.new.held.seat (λ t. IsSomeAnd to.new.held.seat (λ u. (u.office ≡ s.office) × (t.office ≡ s.office) × (t.hand ≡ s.hand) × (s.spare ≡ t.spare ++ callers u)))) }
+    ensures over { IsSome to.old.held.seat → result ≡ negsuc 1 }
+    ensures none { from.old.held.seat ≡ None → result ≢ pos 0 }
     ensures unsplit { result ≢ pos 0 → (from.new.held.seat ≡ from.old.held.seat) × (to.new.held.seat ≡ to.old.held.seat) }
 {
     if to.is_live() {
@@ -124,6 +127,9 @@ pub extern "C" fn market_raw_merge(alloc: Global, into: &mut Place, from: &mut P
     requires { (s t : OfSeat) → into.old.held.seat ≡ Some s → from.old.held.seat ≡ Some t → t.office ≡ s.office }
     ensures merged { result ≡ pos 0 → IsSomeAnd into.old.held.seat (λ s. IsSomeAnd from.old.held.seat (λ u. IsSomeAnd into.new.held.seat (λ t. (t.office ≡ s.office) × (t.hand ≡ s.hand) × (t.spare ≡ s.spare ++ callers u)))) }
     ensures empty { result ≡ pos 0 → from.new.held.seat ≡ None }
+    ensures none_into { into.old.held.seat ≡ None → result ≡ negsuc 1 }
+    ensures none_from { from.old.held.seat ≡ None → result ≡ negsuc 1 }
+    ensures placed { IsSome into.old.held.seat → IfSome from.old.held.seat (λ u. is_some (place_of u.hand) ≡ true → result ≡ pos 7) }
     ensures unmerged { result ≢ pos 0 → (into.new.held.seat ≡ into.old.held.seat) × (from.new.held.seat ≡ from.old.held.seat) }
 {
     let Some((ours, room)) = into.take(alloc) else {
@@ -158,6 +164,8 @@ pub extern "C" fn market_raw_close(
     ensures closed { result ≡ pos 0 → IsSomeAnd place.old.held.seat (λ s. (c : Chronicled) × IsGivenBy (opening_of s.office.terms) c × (totals.new.calls ≡ length c.log)) }
     ensures all { result ≡ pos 0 → IsSomeAnd place.old.held.seat (λ s. length (callers s) ≡ s.office.terms.seats) }
     ensures empty { result ≡ pos 0 → place.new.held.seat ≡ None }
+    ensures none { place.old.held.seat ≡ None → result ≡ negsuc 1 }
+    ensures early { IfSome place.old.held.seat (λ s. length (callers s) ≢ s.office.terms.seats → place_of s.hand ≡ None → result ≡ pos 6) }
     ensures unclosed { result ≢ pos 0 → (place.new.held.seat ≡ place.old.held.seat) × (totals.new ≡ totals.old) }
 {
     let Some((seat, room)) = place.take(alloc) else {

@@ -1,5 +1,5 @@
 //! A seat, and what it can do.
-ghost use Rattle.std.specs.Prelude.{◌≡◌, ◌+◌, ◌++◌, [], ◌∷◌, length, None, IfOk, IfErr, IfSome, IfNone, is_some, is_none, All, sum_by};
+ghost use Rattle.std.specs.Prelude.{◌≡◌, ◌≢◌, if◌then◌else◌, true, ◌+◌, ◌++◌, [], ◌∷◌, length, None, IfOk, IfErr, IfSome, IfNone, is_some, is_none, All, sum_by};
 ghost use Rattle.market_types.specs.declared.command.Cmd.TheVariants.{Join, Stay, Leave};
 ghost use Rattle.market_types.specs.declared.reply.Reply.TheVariants.{Left};
 ghost use Rattle.market_types.specs.Commands.{moves_seat};
@@ -11,6 +11,7 @@ ghost use Rattle.market_lock.specs.Moves.{Called, Fails};
 ghost use Rattle.market_lock.specs.Headline.{IsGivenBy};
 ghost use Rattle.market_seat.specs.Seated.{who, place_of, HasPlace, IsSameSeat, IsFresh, kept_by_seat, callers};
 ghost use Rattle.market_seat.specs.Answered.{IfAnswered, IfFailed, IfUnasked, is_unfit, joined_by, stayed_by, arena_of, place_kept};
+ghost use Rattle.market_seat.specs.declared.answer.WhyNot.TheVariants.{StillPlaced, OthersOut, Memory};
 ghost use Rattle.market_seat.specs.declared.hand.Hand.TheVariants.{Free};
 
 use crate::answer::{Answer, Asked, Kept, Unclosed, Unmerged, WhyNot};
@@ -104,6 +105,7 @@ impl Seat {
         ensures free { IfOk result (λ _. place_of other.hand ≡ None) }
         ensures same { (self.new.office ≡ self.old.office) × (self.new.hand ≡ self.old.hand) }
         ensures err { IfErr result (λ refused. (refused.seat ≡ other) × (self.new ≡ self.old)) }
+        ensures placed { IfErr result (λ refused. refused.why ≡ (if is_some (place_of other.hand) then StillPlaced else Memory)) }
     {
         let Seat {
             office,
@@ -158,6 +160,8 @@ impl Seat {
         ensures all { IfOk result (λ _. length (callers self) ≡ self.office.terms.seats) }
         ensures unplaced { IfOk result (λ closed. closed.workers ≡ 0) }
         ensures err { IfErr result (λ refused. refused.seat ≡ self) }
+        ensures placed { IfErr result (λ refused. refused.why ≡ StillPlaced → is_some (place_of self.hand) ≡ true) }
+        ensures others { length (callers self) ≢ self.office.terms.seats → IfErr result (λ refused. refused.why ≡ (if is_some (place_of self.hand) then StillPlaced else OthersOut)) }
     {
         let Seat {
             office,
