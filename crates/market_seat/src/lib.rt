@@ -7,6 +7,8 @@
 #![tactic(auto)]
 
 mod answer;
+#[cfg(test)]
+mod each_once;
 mod hand;
 mod seat;
 
