@@ -1,12 +1,18 @@
 -- What is so of an answer (own).
 use Rattle.std.specs.Prelude.{ℕ, Bool, true, false, Result, Ok, Err, Option, Some, None}
+use Rattle.std.specs.Global.{Global}
+use Rattle.std.specs.declared.vec.Vec.{Vec}
 use Rattle.market_types.specs.declared.reply.Reply.{Reply}
 use Rattle.market_types.specs.declared.reply.Reply.TheVariants.{Placed, Idle, Stays, Recalled as RecalledFrom}
+use Rattle.market_types.specs.declared.reply.Entry.{Entry}
 use Rattle.edit_history.specs.declared.fault.CallFault.{CallFault}
+use Rattle.edit_history.specs.declared.part.Part.{Part}
 use Rattle.market_lock.specs.declared.attempt.Attempt.{Attempt}
 use Rattle.market_lock.specs.declared.attempt.Attempt.TheVariants as attempt
 use Rattle.market_seat.specs.declared.answer.Answer.{Answer}
 use Rattle.market_seat.specs.declared.answer.Answer.TheVariants.{Made, Failed, Busy, Unfit}
+use Rattle.market_seat.specs.declared.answer.Cutting.{Cutting}
+use Rattle.market_seat.specs.declared.answer.Cutting.TheVariants as cutting
 use Rattle.market_seat.specs.declared.answer.Kept.{Kept}
 use Rattle.market_seat.specs.declared.answer.Kept.TheVariants.{Wanted, Recalled}
 
@@ -30,6 +36,22 @@ IfUnasked _ P = Unit {0}
 abbrev pub is_unfit : {T : Type 0} → Answer T → Bool
 is_unfit Unfit = true
 is_unfit _ = false
+
+-- where the desk was at home for a cut, this holds of the part, or of none
+abbrev pub IfCut : Cutting → (Option Part → Type 0) → Type 0
+IfCut (cutting.Made answer) P = P answer
+IfCut _ P = Unit {0}
+
+-- where it was not, nor was asked for, this holds of the spare vector that came back
+abbrev pub IfUncut : Cutting → (Vec Entry Global → Type 0) → Type 0
+IfUncut (cutting.Busy back) P = P back
+IfUncut (cutting.Unfit back) P = P back
+IfUncut _ P = Unit {0}
+
+-- the seat could not ask for a part, being placed
+abbrev pub is_unfit_to_cut : Cutting → Bool
+is_unfit_to_cut (cutting.Unfit back) = true
+is_unfit_to_cut _ = false
 
 -- what an attempt has told
 abbrev pub answer_to : {T B : Type 0} → Attempt (Result T CallFault) B → Answer T

@@ -1,8 +1,8 @@
 //! What a seat is answered.
 
 use crate::seat::Seat;
-use edit_history::CallFault;
-use market_types::ArenaId;
+use edit_history::{CallFault, Part};
+use market_types::{ArenaId, Entry};
 
 /// What an attempt at a call gives. Its caller's seat is the same but at the first two.
 #[derive(Drop)]
@@ -22,6 +22,17 @@ pub struct Asked<T> {
     /// The same seat; a Join, a Stay or a Leave may have placed it, or taken it from its arena.
     pub seat: Seat,
     pub answer: Answer<T>,
+}
+
+/// What an attempt at a cut gives.
+#[derive(Drop)]
+pub enum Cutting {
+    /// The desk was at home. The next part of the history is here, or none where nothing could be cut.
+    Made(Option<Part>),
+    /// Another caller has the desk: nothing was asked, and the spare vector comes back, emptied.
+    Busy(Vec<Entry>),
+    /// The seat is placed: nothing was asked, and the spare vector comes back as it was.
+    Unfit(Vec<Entry>),
 }
 
 /// Whether an arena keeps its worker.

@@ -1,7 +1,7 @@
 //! Each call of a seat once, with ample memory, and what it can't ask.
 ghost use Rattle.std.specs.Prelude.{◌≡◌};
 
-use crate::{Answer, Asked, Kept, Seat, Unclosed, Unmerged, WhyNot};
+use crate::{Answer, Asked, Cutting, Kept, Seat, Unclosed, Unmerged, WhyNot};
 use edit_history::{Keeping, Terms};
 use market_types::{ArenaId, Cmd, LastNumber, Level};
 use std::alloc::Global;
@@ -104,4 +104,44 @@ fn each_call_is_made_once(rt: HostRuntime) {
         panic!(&rt; "no office");
     };
     both_once(&rt, rt.alloc(), first);
+}
+
+/// The seat cuts all calls of its office out, of which there are so many.
+fn cut(rt: &impl Abort, alloc: Global, seat: &mut Seat, calls: usize)
+    ensures office { seat.new.office ≡ seat.old.office }
+{
+    let Ok(spare) = Vec::with_capacity(alloc, 2) else {
+        panic!(rt; "no room");
+    };
+    let Cutting::Made(Some(part)) = seat.try_cut(spare) else {
+        panic!(rt; "nothing is cut");
+    };
+    holds(rt, part.from == 0 && part.entries.len() == calls);
+}
+
+#[test]
+fn a_part_is_cut_once(rt: HostRuntime) {
+    let terms = Terms {
+        keeping: Keeping::InParts,
+        ..TERMS
+    };
+    let Ok(first) = Seat::open(rt.alloc(), terms) else {
+        panic!(&rt; "no office");
+    };
+    let mut first = first;
+    let Some(second) = first.split(rt.alloc()) else {
+        panic!(&rt; "no seat is left");
+    };
+    call(&rt, rt.alloc(), &mut first, Cmd::Limit);
+    cut(&rt, rt.alloc(), &mut first, 1);
+    if let Err(
+        Unmerged {
+            seat: _seat,
+            why: _,
+        },
+    ) = first.merge(second)
+    {
+        panic!(&rt; "it is not taken back");
+    }
+    close(&rt, rt.alloc(), first, 1);
 }

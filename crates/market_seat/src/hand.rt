@@ -1,17 +1,22 @@
 //! What a seat has in hand, and what that can do at an office.
-ghost use Rattle.std.specs.Prelude.{◌≡◌, None, is_some, is_none};
+ghost use Rattle.std.specs.Prelude.{◌≡◌, ◌≤◌, length, vec_capacity, None, IfSome, OnSome, IsSome, is_some, is_none};
 ghost use Rattle.market_types.specs.declared.command.Cmd.TheVariants.{Join, Stay, Leave};
 ghost use Rattle.market_types.specs.declared.reply.Reply.TheVariants.{Left};
 ghost use Rattle.market_types.specs.Commands.{moves_seat};
-ghost use Rattle.market_lock.specs.Seen.{IsSamePass};
+ghost use Rattle.market_types.specs.History.{IsLegal};
+ghost use Rattle.edit_history.specs.Chronicled.{most_forgotten};
+ghost use Rattle.edit_history.specs.Parts.{EndsWith};
+ghost use Rattle.edit_history.specs.declared.keeping.Keeping.TheVariants.{InParts};
+ghost use Rattle.market_lock.specs.Views.{opening_of, seats_placed_after};
+ghost use Rattle.market_lock.specs.Seen.{IsSamePass, Looks, HasCut};
 ghost use Rattle.market_lock.specs.Moves.{Called, Fails};
-ghost use Rattle.market_seat.specs.Answered.{IfAnswered, IfFailed, IfUnasked, is_unfit, answer_to, joined_by, stayed_by, arena_of, place_kept};
+ghost use Rattle.market_seat.specs.Answered.{IfAnswered, IfFailed, IfUnasked, is_unfit, IfCut, IfUncut, is_unfit_to_cut, answer_to, joined_by, stayed_by, arena_of, place_kept};
 ghost use Rattle.market_seat.specs.Seated.{who, place_of, HasPlace};
 
-use crate::answer::{Answer, Kept};
+use crate::answer::{Answer, Cutting, Kept};
 use edit_history::CallFault;
 use market_lock::{Attempt, Joined, Office, Pass, Placed, Stayed};
-use market_types::{ArenaId, Cmd, Reply};
+use market_types::{ArenaId, Cmd, Entry, Reply};
 use std::alloc::Global;
 
 /// What a caller of an office has in hand: a pass, or the worker that it became.
@@ -53,6 +58,36 @@ impl Hand {
         match self {
             Hand::Free(pass) => told(office.try_call(alloc, pass, *cmd)),
             Hand::Working(worker) => told(office.try_call_placed(alloc, worker, *cmd)),
+        }
+    }
+
+    /// An attempt at a cut.
+    pub(crate) fn try_cut(&mut self, office: &Office, spare: Vec<Entry>) -> Cutting
+        requires office { (who self.old).table ≡ office.now.table }
+        ensures same { IsSamePass (who self.old) (who self.new) }
+        ensures still { place_of self.new ≡ place_of self.old }
+        ensures legal { IfCut result (λ _. IsLegal (opening_of (who self.new).terms) (who self.new).seen) }
+        ensures looks { IfCut result (λ _. Looks (who self.old) (who self.new)) }
+        ensures later { IfCut result (λ _. (who self.old).from ≤ (who self.new).from) }
+        ensures part { IfCut result (λ answer. IfSome answer (λ part. EndsWith (who self.new).seen part.from part.entries.items)) }
+        ensures goes_on { IfCut result (λ answer. IfSome answer (λ part. (who self.old).from ≤ part.from)) }
+        ensures all { IfCut result (λ answer. OnSome answer ((who self.new).from ≡ length (who self.new).seen)) }
+        ensures cuts { IfCut result (λ answer. HasCut (who self.old) answer (who self.new)) }
+        ensures countable { IfCut result (λ answer. OnSome answer (length (who self.new).seen ≤ most_forgotten)) }
+        ensures in_parts { IfCut result (λ answer. OnSome answer ((who self.old).terms.keeping ≡ InParts)) }
+        ensures room { IfCut result (λ answer. OnSome answer (seats_placed_after (who self.old).terms (who self.new).seen ≤ vec_capacity spare)) }
+        ensures enough { IfCut result (λ answer. (who self.old).terms.keeping ≡ InParts → seats_placed_after (who self.old).terms (who self.new).seen ≤ vec_capacity spare → length (who self.new).seen ≤ most_forgotten → IsSome answer) }
+        ensures served { IfCut result (λ answer. (who self.old).terms.keeping ≡ InParts → (who self.old).terms.seats ≤ vec_capacity spare → length (who self.new).seen ≤ most_forgotten → IsSome answer) }
+        ensures uncut { IfUncut result (λ back. (self.new ≡ self.old) × (vec_capacity back ≡ vec_capacity spare)) }
+        ensures unfit { is_unfit_to_cut result ≡ is_some (place_of self.old) }
+    {
+        let pass = match self {
+            Hand::Free(pass) => pass,
+            Hand::Working(_) => return Cutting::Unfit(spare),
+        };
+        match office.try_cut(pass, spare) {
+            Attempt::Made(answer) => Cutting::Made(answer),
+            Attempt::Busy(back) => Cutting::Busy(back),
         }
     }
 

@@ -12,6 +12,6 @@ mod each_once;
 mod hand;
 mod seat;
 
-pub use answer::{Answer, Asked, Kept, Unclosed, Unmerged, WhyNot};
+pub use answer::{Answer, Asked, Cutting, Kept, Unclosed, Unmerged, WhyNot};
 pub use hand::Hand;
 pub use seat::Seat;

@@ -1,24 +1,27 @@
 //! A seat, and what it can do.
-ghost use Rattle.std.specs.Prelude.{◌≡◌, ◌≢◌, if◌then◌else◌, true, ◌+◌, ◌++◌, [], ◌∷◌, length, None, IfOk, IfErr, IfSome, IfNone, is_some, is_none, All, sum_by};
+ghost use Rattle.std.specs.Prelude.{◌≡◌, ◌≢◌, ◌≤◌, if◌then◌else◌, true, ◌+◌, ◌++◌, [], ◌∷◌, length, vec_capacity, None, IfOk, IfErr, IfSome, IfNone, OnSome, IsSome, is_some, is_none, All, sum_by};
 ghost use Rattle.market_types.specs.declared.command.Cmd.TheVariants.{Join, Stay, Leave};
 ghost use Rattle.market_types.specs.declared.reply.Reply.TheVariants.{Left};
 ghost use Rattle.market_types.specs.Commands.{moves_seat};
 ghost use Rattle.market_types.specs.Opening.{MemoryAside};
-ghost use Rattle.edit_history.specs.Chronicled.{opened_by};
-ghost use Rattle.market_lock.specs.Views.{opening_of, chronicle_cut};
-ghost use Rattle.market_lock.specs.Seen.{OfPass, Met, AllParts};
+ghost use Rattle.market_types.specs.History.{IsLegal};
+ghost use Rattle.edit_history.specs.Chronicled.{opened_by, most_forgotten};
+ghost use Rattle.edit_history.specs.Parts.{EndsWith};
+ghost use Rattle.edit_history.specs.declared.keeping.Keeping.TheVariants.{InParts};
+ghost use Rattle.market_lock.specs.Views.{opening_of, chronicle_cut, seats_placed_after};
+ghost use Rattle.market_lock.specs.Seen.{OfPass, Met, AllParts, Looks, HasCut};
 ghost use Rattle.market_lock.specs.Moves.{Called, Fails};
 ghost use Rattle.market_lock.specs.Headline.{IsGivenBy};
 ghost use Rattle.market_seat.specs.Seated.{who, place_of, HasPlace, IsSameSeat, IsFresh, kept_by_seat, callers};
-ghost use Rattle.market_seat.specs.Answered.{IfAnswered, IfFailed, IfUnasked, is_unfit, joined_by, stayed_by, arena_of, place_kept};
+ghost use Rattle.market_seat.specs.Answered.{IfAnswered, IfFailed, IfUnasked, is_unfit, IfCut, IfUncut, is_unfit_to_cut, joined_by, stayed_by, arena_of, place_kept};
 ghost use Rattle.market_seat.specs.declared.answer.WhyNot.TheVariants.{StillPlaced, OthersOut, Memory};
 ghost use Rattle.market_seat.specs.declared.hand.Hand.TheVariants.{Free};
 
-use crate::answer::{Answer, Asked, Kept, Unclosed, Unmerged, WhyNot};
+use crate::answer::{Answer, Asked, Cutting, Kept, Unclosed, Unmerged, WhyNot};
 use crate::hand::Hand;
 use edit_history::Terms;
 use market_lock::{Closed, Office, Pass};
-use market_types::{ArenaId, Cmd, OpenFault, Reply};
+use market_types::{ArenaId, Cmd, Entry, OpenFault, Reply};
 use std::alloc::Global;
 use std::marker::Model;
 use std::sync::Arc;
@@ -27,7 +30,7 @@ use std::sync::Arc;
 /// that were not given out or that came back. It can't be dropped, as a pass can't: an office is closed with all of its seats.
 pub struct Seat {
     office: Arc<Office, Global>,
-    seats: u8,
+    terms: Terms,
     hand: Hand,
     spare: Vec<Pass>,
 }
@@ -42,7 +45,7 @@ impl Model for Seat {
 
     ghost view = { λ s. record { office = arc_value s.office; hand = s.hand; spare = s.spare.items } };
 
-    ghost invariant = { λ s. ((who s.hand).table ≡ (arc_value s.office).table) × All (λ (p : OfPass). p.table ≡ (arc_value s.office).table) s.spare.items × ((arc_value s.office).terms.seats ≡ s.seats) };
+    ghost invariant = { λ s. ((who s.hand).table ≡ (arc_value s.office).table) × All (λ (p : OfPass). p.table ≡ (arc_value s.office).table) s.spare.items × ((arc_value s.office).terms ≡ s.terms) };
 }
 
 impl Seat {
@@ -55,8 +58,7 @@ impl Seat {
         ensures all { IfOk result (λ s. length s.spare + 1 ≡ terms.seats) }
         ensures fresh { IfOk result (λ s. All (IsFresh s.office) (callers s)) }
     {
-        let seats = terms.seats;
-        let (office, mut passes) = Office::on_terms(alloc, terms)?;
+        let (office, mut passes) = Office::on_terms(alloc, Terms { ..terms })?;
         match Arc::new(alloc, office) {
             Ok(office) => {
                 let Some(pass) = passes.pop() else {
@@ -64,7 +66,7 @@ impl Seat {
                 };
                 Ok(Seat {
                     office,
-                    seats,
+                    terms,
                     hand: Hand::Free(pass),
                     spare: passes,
                 })
@@ -74,6 +76,13 @@ impl Seat {
                 Err(OpenFault::Memory)
             }
         }
+    }
+
+    /// What the office was opened with.
+    pub fn terms(&self) -> Terms
+        ensures exact { result ≡ self.now.office.terms }
+    {
+        self.terms
     }
 
     /// A seat for one more caller, by the last of the passes that were not given out or that came back. `None` where there is no
@@ -91,7 +100,7 @@ impl Seat {
         let pass = self.spare.pop()?;
         Some(Seat {
             office,
-            seats: self.seats,
+            terms: self.terms,
             hand: Hand::Free(pass),
             spare: Vec::new(alloc),
         })
@@ -109,7 +118,7 @@ impl Seat {
     {
         let Seat {
             office,
-            seats,
+            terms,
             hand,
             mut spare,
         } = other;
@@ -118,7 +127,7 @@ impl Seat {
             Hand::Working(worker) => {
                 let seat = Seat {
                     office,
-                    seats,
+                    terms,
                     hand: Hand::Working(worker),
                     spare,
                 };
@@ -131,7 +140,7 @@ impl Seat {
         if self.spare.reserve(spare.len() + 1).is_err() {
             let seat = Seat {
                 office,
-                seats,
+                terms,
                 hand: Hand::Free(pass),
                 spare,
             };
@@ -165,7 +174,7 @@ impl Seat {
     {
         let Seat {
             office,
-            seats,
+            terms,
             hand,
             mut spare,
         } = self;
@@ -174,7 +183,7 @@ impl Seat {
             Hand::Working(worker) => {
                 let seat = Seat {
                     office,
-                    seats,
+                    terms,
                     hand: Hand::Working(worker),
                     spare,
                 };
@@ -184,7 +193,7 @@ impl Seat {
                 });
             }
         };
-        let why = if spare.len() + 1 != seats as usize {
+        let why = if spare.len() + 1 != terms.seats as usize {
             WhyNot::OthersOut
         } else if spare.reserve(1).is_err() {
             WhyNot::Memory
@@ -197,7 +206,7 @@ impl Seat {
                 Err(office) => {
                     let seat = Seat {
                         office,
-                        seats,
+                        terms,
                         hand: Hand::Free(pass),
                         spare,
                     };
@@ -210,7 +219,7 @@ impl Seat {
         };
         let seat = Seat {
             office,
-            seats,
+            terms,
             hand: Hand::Free(pass),
             spare,
         };
@@ -231,6 +240,30 @@ impl Seat {
         self.hand.try_call(&self.office, alloc, cmd)
     }
 
+    /// An attempt at a cut: the next part of the history, as `Office::cut` gives it, and as there none where `spare` has too little
+    /// room, where the office does not keep its entries in parts, or where the history is too long. A seat that is placed is
+    /// `Unfit`. Room for one entry for each seat of the office is always enough. It takes no memory.
+    pub fn try_cut(&mut self, spare: Vec<Entry>) -> Cutting
+        ensures same { IsSameSeat self.old self.new }
+        ensures still { place_of self.new.hand ≡ place_of self.old.hand }
+        ensures legal { IfCut result (λ _. IsLegal (opening_of (who self.new.hand).terms) (who self.new.hand).seen) }
+        ensures looks { IfCut result (λ _. Looks (who self.old.hand) (who self.new.hand)) }
+        ensures later { IfCut result (λ _. (who self.old.hand).from ≤ (who self.new.hand).from) }
+        ensures part { IfCut result (λ answer. IfSome answer (λ part. EndsWith (who self.new.hand).seen part.from part.entries.items)) }
+        ensures goes_on { IfCut result (λ answer. IfSome answer (λ part. (who self.old.hand).from ≤ part.from)) }
+        ensures all { IfCut result (λ answer. OnSome answer ((who self.new.hand).from ≡ length (who self.new.hand).seen)) }
+        ensures cuts { IfCut result (λ answer. HasCut (who self.old.hand) answer (who self.new.hand)) }
+        ensures countable { IfCut result (λ answer. OnSome answer (length (who self.new.hand).seen ≤ most_forgotten)) }
+        ensures in_parts { IfCut result (λ answer. OnSome answer ((who self.old.hand).terms.keeping ≡ InParts)) }
+        ensures room { IfCut result (λ answer. OnSome answer (seats_placed_after (who self.old.hand).terms (who self.new.hand).seen ≤ vec_capacity spare)) }
+        ensures enough { IfCut result (λ answer. (who self.old.hand).terms.keeping ≡ InParts → seats_placed_after (who self.old.hand).terms (who self.new.hand).seen ≤ vec_capacity spare → length (who self.new.hand).seen ≤ most_forgotten → IsSome answer) }
+        ensures served { IfCut result (λ answer. (who self.old.hand).terms.keeping ≡ InParts → (who self.old.hand).terms.seats ≤ vec_capacity spare → length (who self.new.hand).seen ≤ most_forgotten → IsSome answer) }
+        ensures uncut { IfUncut result (λ back. (self.new ≡ self.old) × (vec_capacity back ≡ vec_capacity spare)) }
+        ensures unfit { is_unfit_to_cut result ≡ is_some (place_of self.old.hand) }
+    {
+        self.hand.try_cut(&self.office, spare)
+    }
+
     /// An attempt at a Join: the arena at which the seat then is placed, or none that is in need of a worker. A seat that is placed
     /// is `Unfit`. The faults are those of `Office::join`.
     pub fn try_join(self, alloc: Global) -> Asked<Option<ArenaId>>
@@ -244,14 +277,14 @@ impl Seat {
     {
         let Seat {
             office,
-            seats,
+            terms,
             hand,
             spare,
         } = self;
         let (hand, answer) = hand.try_join(&office, alloc);
         let seat = Seat {
             office,
-            seats,
+            terms,
             hand,
             spare,
         };
@@ -272,14 +305,14 @@ impl Seat {
     {
         let Seat {
             office,
-            seats,
+            terms,
             hand,
             spare,
         } = self;
         let (hand, answer) = hand.try_stay(&office, alloc);
         let seat = Seat {
             office,
-            seats,
+            terms,
             hand,
             spare,
         };
@@ -299,14 +332,14 @@ impl Seat {
     {
         let Seat {
             office,
-            seats,
+            terms,
             hand,
             spare,
         } = self;
         let (hand, answer) = hand.try_leave(&office);
         let seat = Seat {
             office,
-            seats,
+            terms,
             hand,
             spare,
         };
