@@ -23,6 +23,11 @@ int32_t market_raw_stay(void *place, uint32_t *arena);
 int32_t market_raw_leave(void *place, uint32_t *arena);
 int32_t market_raw_show(void *place, uint32_t arena, market_view *view);
 int32_t market_raw_limit(void *place, market_limits *limits);
+int32_t market_raw_lists(void *place, market_counts *arenas, size_t room, uint64_t *count);
+int32_t market_raw_journal_open(void *place, void *journal);
+int32_t market_raw_cut(void *place, void *journal, market_part *part);
+int32_t market_raw_journal_read(void *journal, unsigned char *buffer, size_t room, uint64_t *written);
+int32_t market_raw_journal_close(void *journal);
 
 /* How many attempts a call makes before it gives its processor away, and how many pauses stand between two of them. */
 enum { ATTEMPTS_AT_ONCE = 16, PAUSES = 32 };
@@ -204,6 +209,77 @@ int32_t market_try_limit(market_seat *seat, market_limits *limits) { TRY(market_
 
 int32_t market_limit(market_seat *seat, market_limits *limits) { UNTIL_ANSWERED(market_try_limit(seat, limits)) }
 
+/* A slice of no elements has a pointer too: it is never read. */
+static market_counts no_counts;
+static unsigned char no_bytes;
+
+int32_t market_try_lists(market_seat *seat, market_counts *arenas, size_t room, uint64_t *count) {
+    TRY(market_raw_lists(&seat->place, room == 0 ? &no_counts : arenas, room, count))
+}
+
+int32_t market_lists(market_seat *seat, market_counts *arenas, size_t room, uint64_t *count) {
+    UNTIL_ANSWERED(market_try_lists(seat, arenas, room, count))
+}
+
+/* ---- the journal ---- */
+
+/* The same flag, of a journal. */
+static int take_journal(market_journal *journal) { return !__atomic_test_and_set(&journal->in_use, __ATOMIC_ACQUIRE); }
+
+static void give_journal(market_journal *journal) { __atomic_clear(&journal->in_use, __ATOMIC_RELEASE); }
+
+/* Takes the flags of a seat and of a journal. */
+static int32_t take_with(market_seat *seat, market_journal *journal) {
+    if (seat == NULL) return MARKET_BAD_SEAT;
+    if (journal == NULL) return MARKET_BAD_JOURNAL;
+    if (!take(seat)) return MARKET_SEAT_IN_USE;
+    if (take_journal(journal)) return MARKET_OK;
+    give(seat);
+    return MARKET_JOURNAL_IN_USE;
+}
+
+int32_t market_journal_open(market_seat *seat, market_journal *journal) {
+    int32_t code = take_with(seat, journal);
+    if (code != MARKET_OK) return code;
+    code = market_raw_journal_open(&seat->place, &journal->place);
+    if (code == MARKET_OK) journal->market = seat->market;
+    give_journal(journal);
+    give(seat);
+    return code;
+}
+
+int32_t market_try_cut(market_seat *seat, market_journal *journal, market_part *part) {
+    int32_t code = take_with(seat, journal);
+    if (code != MARKET_OK) return code;
+    /* A journal is of one market. Where one of the places is empty, the proved function finds that itself. */
+    const int both_live = seat->market != 0 && journal->market != 0;
+    code = both_live && seat->market != journal->market ? MARKET_OTHER_MARKET : market_raw_cut(&seat->place, &journal->place, part);
+    give_journal(journal);
+    give(seat);
+    return code;
+}
+
+int32_t market_cut(market_seat *seat, market_journal *journal, market_part *part) {
+    UNTIL_ANSWERED(market_try_cut(seat, journal, part))
+}
+
+int32_t market_journal_read(market_journal *journal, void *buffer, size_t size, uint64_t *written) {
+    if (journal == NULL) return MARKET_BAD_JOURNAL;
+    if (!take_journal(journal)) return MARKET_JOURNAL_IN_USE;
+    const int32_t code = market_raw_journal_read(&journal->place, size == 0 ? &no_bytes : buffer, size, written);
+    give_journal(journal);
+    return code;
+}
+
+int32_t market_journal_close(market_journal *journal) {
+    if (journal == NULL) return MARKET_BAD_JOURNAL;
+    if (!take_journal(journal)) return MARKET_JOURNAL_IN_USE;
+    const int32_t code = market_raw_journal_close(&journal->place);
+    if (code == MARKET_OK) journal->market = 0;
+    give_journal(journal);
+    return code;
+}
+
 /* ---- names ---- */
 
 const char *market_code_name(int32_t code) {
@@ -219,6 +295,8 @@ const char *market_code_name(int32_t code) {
         NAME(MARKET_NO_SEAT_LEFT)
         NAME(MARKET_SEATS_OUT)
         NAME(MARKET_STILL_PLACED)
+        NAME(MARKET_UNREAD)
+        NAME(MARKET_NO_PART)
         NAME(MARKET_BAD_SLOTS)
         NAME(MARKET_BAD_RESERVE)
         NAME(MARKET_TOO_MANY_ARENAS)
@@ -242,6 +320,8 @@ const char *market_code_name(int32_t code) {
         NAME(MARKET_SEAT_IN_USE)
         NAME(MARKET_OTHER_MARKET)
         NAME(MARKET_UNFIT)
+        NAME(MARKET_BAD_JOURNAL)
+        NAME(MARKET_JOURNAL_IN_USE)
 #undef NAME
     default:
         return "MARKET_UNKNOWN";

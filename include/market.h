@@ -7,9 +7,10 @@
  * market_set_wait says. No call is made from a signal handler, nor in the forked child of a process with threads.
  *
  * WHAT IS LEFT TO THE CALLER'S WORD. All else is proved of the library behind this header, or told by a code.
- *   1. Each seat begins as MARKET_SEAT_INIT (all bytes zero), stays where it is, and its fields are the library's: no memcpy, no write.
+ *   1. Each seat begins as MARKET_SEAT_INIT and each journal as MARKET_JOURNAL_INIT (all bytes zero), stays where it is, and its
+ *      fields are the library's: no memcpy, no write.
  *   2. Pointers point to what their types say, readable and writable, and no two of one call overlap.
- *   3. A seat's memory is not freed, nor used for anything else, before the seat is merged or closed.
+ *   3. A seat's memory is not freed, nor used for anything else, before the seat is merged or closed; nor a journal's before it is closed.
  *   4. Two threads that share a seat order their calls: the flag behind MARKET_SEAT_IN_USE finds an overlap, and orders nothing.
  *   5. malloc and free do what the C standard says, also when several threads call them.
  *
@@ -20,6 +21,7 @@
 #ifndef MARKET_H
 #define MARKET_H
 
+#include <stddef.h>
 #include <stdint.h>
 
 #ifdef __cplusplus
@@ -39,6 +41,8 @@ typedef enum market_code {
     MARKET_NO_SEAT_LEFT = 5,       /* all seats are given out */
     MARKET_SEATS_OUT = 6,          /* other seats of the market are not merged yet */
     MARKET_STILL_PLACED = 7,       /* the seat is placed: it has to leave first */
+    MARKET_UNREAD = 8,             /* the journal has text that was not read yet: read it first */
+    MARKET_NO_PART = 9,            /* nothing was cut: the market does not keep its entries in parts, or its history is too long */
 
     /* refusals of a command */
     MARKET_BAD_SLOTS = 11,         /* the slots are not 1 to 65,535 */
@@ -67,7 +71,9 @@ typedef enum market_code {
     MARKET_BAD_NUMBER = -3,        /* a number is out of the range that is named beside it: nothing was asked */
     MARKET_SEAT_IN_USE = -4,       /* another thread is in a call by this very seat: nothing was asked */
     MARKET_OTHER_MARKET = -5,      /* the two seats are of different markets */
-    MARKET_UNFIT = -6              /* the seat is placed, where it is not to be, or is not placed, where it is to be: nothing was asked */
+    MARKET_UNFIT = -6,             /* the seat is placed, where it is not to be, or is not placed, where it is to be: nothing was asked */
+    MARKET_BAD_JOURNAL = -7,       /* the place holds no journal, or one where an empty place is wanted */
+    MARKET_JOURNAL_IN_USE = -8     /* another thread is in a call with this very journal: nothing was asked */
 } market_code;
 
 /* The name of a code, as "MARKET_BUSY"; "MARKET_UNKNOWN" for any other number. Never NULL. */
@@ -194,6 +200,54 @@ typedef struct market_limits {
 } market_limits;
 int32_t market_try_limit(market_seat *seat, market_limits *limits);
 int32_t market_limit(market_seat *seat, market_limits *limits);
+
+/* How far an arena is from what it is allotted: one of its counts is 0, the other is not. */
+typedef struct market_counts {
+    uint32_t arena;
+    uint32_t recall; /* how many of its workers are too many */
+    uint32_t hire;   /* how many more it is allotted */
+} market_counts;
+
+/* All arenas with workers too many or too few, in the order in which arenas are served: the first `room` of them are written, and
+ * how many there are in all, which may be more. */
+int32_t market_try_lists(market_seat *seat, market_counts *arenas, size_t room, uint64_t *count);
+int32_t market_lists(market_seat *seat, market_counts *arenas, size_t room, uint64_t *count);
+
+/* ---- the journal of a market that keeps its entries in parts: each part is cut by a seat, and read as text ---- */
+
+/* The text of a journal that was not read yet. All fields are the library's. One thread at a time uses a journal. */
+typedef struct market_journal {
+    struct {
+        uint32_t state;
+        void *at;
+    } place;
+    uint64_t market;
+    unsigned char in_use;
+} market_journal;
+
+#define MARKET_JOURNAL_INIT {{0, 0}, 0, 0}
+
+/* A journal of the seat's market, in a place that holds none. Its first line is there to be read. */
+int32_t market_journal_open(market_seat *seat, market_journal *journal);
+
+/* What is told of a part. Parts follow one another: a part begins with as many calls as the parts before it have together. */
+typedef struct market_part {
+    uint64_t from;  /* how many calls the history has before it */
+    uint64_t calls; /* how many calls it has */
+} market_part;
+
+/* The seat, which is not placed, cuts out all that the market keeps of its history, and that goes to the end of the journal's text:
+ * its entries take no place any more. At MARKET_UNREAD the part before is to be read first. Where one journal takes all parts, its
+ * text is what `market replay` reads. */
+int32_t market_try_cut(market_seat *seat, market_journal *journal, market_part *part);
+int32_t market_cut(market_seat *seat, market_journal *journal, market_part *part);
+
+/* The next bytes of the text go to the buffer, at most `size`; how many is written, which is 0 where all is read. At
+ * MARKET_NO_MEMORY none are, and none are lost: read again. It asks the market for nothing. */
+int32_t market_journal_read(market_journal *journal, void *buffer, size_t size, uint64_t *written);
+
+/* The journal goes, and its place is empty; MARKET_UNREAD where some of its text was not read. It may outlive its market. */
+int32_t market_journal_close(market_journal *journal);
 
 #ifdef __cplusplus
 } /* extern "C" */

@@ -92,6 +92,42 @@ int main(void) {
     want("by the arena", (int32_t)number, 1);
     want("leave after that", market_leave(&b, &number), MARKET_UNFIT);
 
+    {
+        market_counts counts[2] = {{77, 77, 77}, {77, 77, 77}};
+        uint64_t many = 77;
+        want("lists", market_lists(&a, counts, 2, &many), MARKET_OK);
+        want("none is too many or too few", (int32_t)many, 0);
+        want("request", market_request(&b, 1, 2, 0, &number), MARKET_OK);
+        want("lists with no room", market_lists(&a, NULL, 0, &many), MARKET_OK);
+        want("there is one", (int32_t)many, 1);
+        want("lists", market_lists(&a, counts, 2, &many), MARKET_OK);
+        want("two are to be hired", counts[0].arena == 1 && counts[0].recall == 0 ? (int32_t)counts[0].hire : -1, 2);
+        want("the other is not written", (int32_t)counts[1].arena, 77);
+        want("lists of zeros", market_lists(&zeros, counts, 2, &many), MARKET_BAD_SEAT);
+        want("request back", market_request(&b, 1, -2, 0, &number), MARKET_OK);
+    }
+    {
+        market_journal journal = MARKET_JOURNAL_INIT;
+        market_part part = {77, 77};
+        unsigned char text[256];
+        uint64_t written = 77;
+        want("a read of no journal", market_journal_read(&journal, text, sizeof text, &written), MARKET_BAD_JOURNAL);
+        want("a cut into no journal", market_cut(&a, &journal, &part), MARKET_BAD_JOURNAL);
+        want("close of no journal", market_journal_close(&journal), MARKET_BAD_JOURNAL);
+        want("a journal of no market", market_journal_open(&zeros, &journal), MARKET_BAD_SEAT);
+        want("journal_open", market_journal_open(&a, &journal), MARKET_OK);
+        want("opened over a live journal", market_journal_open(&a, &journal), MARKET_BAD_JOURNAL);
+        want("a market that is not in parts", market_cut(&a, &journal, &part), MARKET_NO_PART);
+        want("no seat at all", market_cut(&zeros, &journal, &part), MARKET_BAD_SEAT);
+        want("nothing was told", (int32_t)part.from, 77);
+        want("close before it is read", market_journal_close(&journal), MARKET_UNREAD);
+        want("a read of no bytes", market_journal_read(&journal, NULL, 0, &written), MARKET_OK);
+        want("read nothing", (int32_t)written, 0);
+        want("read", market_journal_read(&journal, text, sizeof text, &written), MARKET_OK);
+        want("a line", written > 0 && text[0] == '{' && text[written - 1] == '\n', 1);
+        want("journal_close", market_journal_close(&journal), MARKET_OK);
+        want("journal_close again", market_journal_close(&journal), MARKET_BAD_JOURNAL);
+    }
     want("merge", market_merge(&a, &b), MARKET_OK);
     want("merge again", market_merge(&a, &b), MARKET_BAD_SEAT);
     want("a call on a seat given back", market_join(&b, &number), MARKET_BAD_SEAT);

@@ -31,6 +31,18 @@ class Limits(c.Structure):
     _fields_ = [(name, U32) for name in ("value", "limit", "effective")]
 
 
+class Counts(c.Structure):
+    _fields_ = [(name, U32) for name in ("arena", "recall", "hire")]
+
+
+class Text(c.Structure):
+    _fields_ = [("state", U32), ("at", SEAT), ("market", c.c_uint64), ("in_use", c.c_ubyte)]
+
+
+class Part(c.Structure):
+    _fields_ = [("from_", c.c_uint64), ("calls", c.c_uint64)]
+
+
 def _load():
     lib = c.CDLL(os.environ.get("MARKET_LIB") or str(pathlib.Path(__file__).resolve().parents[2] / "build" / "libmarket.so"))
     lib.market_code_name.restype, lib.market_code_name.argtypes = c.c_char_p, [c.c_int32]
@@ -39,7 +51,8 @@ def _load():
         "open": [c.POINTER(Terms)], "split": [SEAT], "merge": [SEAT], "close": [c.POINTER(Totals)], "arena_open": [U32, U32, U32, out],
         "arena_close": [U32], "priority": [U32, U32], "resize": [U32, U32, U32, out], "request": [U32, i32, i32, out],
         "control": [U32, out], "uncontrol": [U32], "join": [out], "stay": [out], "leave": [out], "show": [U32, c.POINTER(View)],
-        "limit": [c.POINTER(Limits)],
+        "limit": [c.POINTER(Limits)], "lists": [c.POINTER(Counts), c.c_size_t, c.POINTER(c.c_uint64)], "journal_open": [SEAT],
+        "cut": [SEAT, c.POINTER(Part)], "journal_read": [c.c_char_p, c.c_size_t, c.POINTER(c.c_uint64)], "journal_close": [],
     }.items():
         getattr(lib, "market_" + name).argtypes = [SEAT] + rest
     return lib
@@ -88,6 +101,24 @@ class Seat:
     def uncontrol(self, control): self._call("uncontrol", control)
     def show(self, arena): return self._call("show", arena, out=View())[1]
     def limit(self): return self._call("limit", out=Limits())[1]
+    def lists(self, room=1024):
+        """The arenas with workers too many or too few, each as (arena, recall, hire), in the order in which they are served."""
+        counts, many = (Counts * room)(), c.c_uint64()
+        self._call("lists", counts, room, out=many)
+        return [(of.arena, of.recall, of.hire) for of in counts[:min(room, many.value)]]
+
+    def journal(self):
+        """A journal of this seat's market, which keeps its entries in parts."""
+        journal = Journal()
+        self._call("journal_open", c.byref(journal._place))
+        return journal
+
+    def cut(self, journal):
+        """Cuts all that the market keeps into the journal, and tells how many calls that are."""
+        part = Part()
+        self._call("cut", c.byref(journal._place), c.byref(part))
+        return part.calls
+
     def leave(self): return self._call("leave", out=U32())[1]
 
     def join(self):
@@ -98,3 +129,23 @@ class Seat:
     def stay(self):
         """Whether the seat's arena still wants it: else it is no longer placed."""
         return self._call("stay", answers=(RECALLED,), out=U32())[0] == OK
+
+
+class Journal:
+    def __init__(self):
+        self._place = Text()
+
+    def _call(self, name, *words):
+        code = getattr(LIB, "market_journal_" + name)(c.byref(self._place), *words)
+        if code != OK:
+            raise Misuse(code)
+
+    def read(self):
+        """All text that was not read yet."""
+        text, buffer, written = b"", c.create_string_buffer(65536), c.c_uint64(1)
+        while written.value > 0:
+            self._call("read", buffer, len(buffer), c.byref(written))
+            text += buffer.raw[:written.value]
+        return text.decode()
+
+    def close(self): self._call("close")

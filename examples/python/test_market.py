@@ -1,7 +1,7 @@
 """Two threads share a market from Python, and every misuse is told. Run it with python3; it ends with 0 where all is right."""
 import threading
 
-from market import Misuse, Seat
+from market import KEEP_PARTS, Misuse, Seat
 
 
 def told(name, call, *words):
@@ -22,6 +22,8 @@ arena = first.arena_open(8, 1, 1)
 assert first.join() is None
 told("MARKET_UNFIT", first.leave)
 first.request(arena, 2)
+assert first.lists() == [(arena, 0, 2)]
+told("MARKET_NO_PART", lambda: first.cut(first.journal()))
 assert (first.limit().limit, first.show(arena).hire) == (2, 2)
 joined = []
 
@@ -43,6 +45,18 @@ told("MARKET_SEATS_OUT", first.close)
 for seat in seats:
     first.merge(seat)
 told("MARKET_BAD_SEAT", first.merge, seats[0])
-# An open, an idle join, a request, a limit and a show, and of each worker a join, the stays and a leave.
-assert first.close() == 5 + 2 * 1002
+# An open, an idle join, a request, lists, a limit and a show, and of each worker a join, the stays and a leave.
+assert first.close() == 6 + 2 * 1002
+
+kept = Seat.open(base=3, hard=8, seats=1, keeping=KEEP_PARTS)
+journal = kept.journal()
+told("MARKET_UNREAD", journal.close)
+kept.arena_open(8, 1, 1)
+assert kept.cut(journal) == 1
+told("MARKET_UNREAD", kept.cut, journal)
+lines = journal.read().splitlines()
+assert len(lines) == 2 and '"open' in lines[1], lines
+assert (kept.cut(journal), journal.read(), kept.close()) == (0, "", 1)
+journal.close()
+told("MARKET_BAD_JOURNAL", journal.close)
 print("a market from Python: all is right")

@@ -1,5 +1,7 @@
 pub mod Asked
 pub mod Codes
 pub mod Held
+pub mod HeldJournal
+pub mod Journals
 pub mod Opened
 pub mod Views

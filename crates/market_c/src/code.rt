@@ -29,6 +29,12 @@ pub const SEATS_OUT: i32 = 6;
 /// The seat is placed: it has to leave first.
 pub const STILL_PLACED: i32 = 7;
 
+/// A part of the journal was not read yet: read it first.
+pub const UNREAD: i32 = 8;
+
+/// Nothing could be cut: the market does not keep its entries in parts, or its history is too long.
+pub const NO_PART: i32 = 9;
+
 /// Out of memory.
 pub const NO_MEMORY: i32 = -1;
 
@@ -40,6 +46,9 @@ pub const BAD_NUMBER: i32 = -3;
 
 /// The seat is placed, where it is not to be, or is not placed, where it is to be: nothing was asked.
 pub const UNFIT: i32 = -6;
+
+/// The place holds no journal, or holds one where an empty one is wanted.
+pub const BAD_JOURNAL: i32 = -7;
 
 /// A reply of another kind: no market gives one.
 const ODD_REPLY: i32 = -9;
