@@ -6,7 +6,7 @@ ghost use Rattle.market_types.specs.declared.reply.Reply.TheVariants.{Left};
 ghost use Rattle.market_types.specs.Allotment.{active};
 ghost use Rattle.market_types.specs.Commands.{moves_seat};
 ghost use Rattle.market_types.specs.Opening.{MemoryAside};
-ghost use Rattle.edit_history.specs.Chronicled.{market_of, most_forgotten, opened_by, opened_chronicle, opened_in_parts, opened_unrecorded};
+ghost use Rattle.edit_history.specs.Chronicled.{market_of, most_forgotten, opened_by, opened_chronicle, opened_in_parts, opened_unrecorded, in_parts, unrecorded, usual_terms};
 ghost use Rattle.edit_history.specs.Parts.{EndsWith};
 ghost use Rattle.edit_history.specs.Places.{placed as seats_placed};
 ghost use Rattle.edit_history.specs.declared.keeping.Keeping.TheVariants.{InParts, Nothing};
@@ -87,6 +87,7 @@ impl Office {
         levels: u32,
     ) -> Result<(Self, Vec<Pass>), OpenFault>
         ensures exact { MemoryAside (opened_chronicle base hard seats places levels) (kept_by result) }
+        ensures terms { IfOk result (λ o. o.0.terms ≡ usual_terms base hard seats places levels) }
         ensures one_for_each { IfOk result (λ o. length o.1.items ≡ seats) }
         ensures passes { IfOk result (λ o. (k : ℕ) → k < seats → slice_get o.1.items k ≡ Some (fresh o.0 k)) }
         ensures own { IfOk result (λ o. All (λ (p : OfPass). p.table ≡ o.0.table) o.1.items) }
@@ -115,6 +116,7 @@ impl Office {
         levels: u32,
     ) -> Result<(Self, Vec<Pass>), OpenFault>
         ensures exact { MemoryAside (opened_in_parts base hard seats places levels) (kept_by result) }
+        ensures terms { IfOk result (λ o. o.0.terms ≡ in_parts (usual_terms base hard seats places levels)) }
         ensures one_for_each { IfOk result (λ o. length o.1.items ≡ seats) }
         ensures passes { IfOk result (λ o. (k : ℕ) → k < seats → slice_get o.1.items k ≡ Some (fresh o.0 k)) }
         ensures own { IfOk result (λ o. All (λ (p : OfPass). p.table ≡ o.0.table) o.1.items) }
@@ -142,6 +144,7 @@ impl Office {
         levels: u32,
     ) -> Result<(Self, Vec<Pass>), OpenFault>
         ensures exact { MemoryAside (opened_unrecorded base hard seats levels) (kept_by result) }
+        ensures terms { IfOk result (λ o. o.0.terms ≡ unrecorded (usual_terms base hard seats 0 levels)) }
         ensures one_for_each { IfOk result (λ o. length o.1.items ≡ seats) }
         ensures passes { IfOk result (λ o. (k : ℕ) → k < seats → slice_get o.1.items k ≡ Some (fresh o.0 k)) }
         ensures own { IfOk result (λ o. All (λ (p : OfPass). p.table ≡ o.0.table) o.1.items) }
