@@ -60,12 +60,12 @@ def told_by(command, program):
 def compare_program(page, crate):
     """The block of a page that is a source file is that of a crate."""
     source = open(os.path.join(ROOT, "crates", crate, "src/main.rt"), encoding="utf-8").read()
-    told = [block for _, block in blocks_of(page) if block[0].startswith("//! A first program")]
+    told = [block for _, block in blocks_of(page) if block[0] == source.split("\n")[0]]
     # A block ends at an empty line, and a source has some.
     text = open(os.path.join(ROOT, page), encoding="utf-8").read()
     indented = "".join(INDENT + line if line.strip() else line for line in source.splitlines(keepends=True))
     if len(told) != 1 or indented not in text:
-        sys.exit(f"{page}: the first program is not that of crates/{crate}")
+        sys.exit(f"{page}: the program is not that of crates/{crate}")
 
 
 def main():
@@ -73,6 +73,7 @@ def main():
         sys.exit(__doc__)
     program = os.path.abspath(sys.argv[1])
     compare_program("README.md", "first_market")
+    compare_program("docs/EMBEDDING.md", "first_history")
     compare_program("docs/EMBEDDING.md", "first_threads")
     compared = passed_over = 0
     for page in PAGES:

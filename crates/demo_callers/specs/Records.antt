@@ -29,4 +29,4 @@ lasting seats = opening_to 8 64 seats 3 4294967294
 
 -- the header of the journal that tells so, which may have any number of entries
 abbrev pub header_of : ℕ → Header
-header_of callers = record { base = 8; hard = 64; seats = callers + 1; levels = 3; last = 4294967294; extent = Endless }
+header_of callers = record { opening = record { base = 8; hard = 64; seats = callers + 1; levels = 3; last = 4294967294 }; extent = Endless }

@@ -18,7 +18,7 @@ use byte_devices::{OutFault, Sink};
 use edit_history::{Chronicle, Keeping};
 use journal_replay::{Extent, Header, write_header};
 use market_lock::Closed;
-use market_types::{LastNumber, OpenFault};
+use market_types::{LastNumber, OpenFault, Opening};
 use office_crew::{Meeting, MeetingTerms, meet};
 use std::alloc::{AllocError, Global};
 use std::rt::HostRuntime;
@@ -141,12 +141,15 @@ fn begin_journal<O: Sink>(alloc: Global, callers: u8, output: &mut O) -> Result<
     requires working { O.failed output.old ≡ false }
     ensures all { OnOk result (Appends (O.taken output.old) (O.taken output.new) (header_line (header_of callers) ++ codes "\n")) }
 {
-    let header = Header {
+    let opening = Opening {
         base: BASE,
         hard: HARD,
         seats: callers + 1,
         levels: LEVELS,
         last: last_number(),
+    };
+    let header = Header {
+        opening,
         extent: Extent::Endless,
     };
     write_header(alloc, header, output)

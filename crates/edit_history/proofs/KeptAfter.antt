@@ -1,42 +1,21 @@
 -- What a chronicle keeps, at the start and after a call.
-use Rattle.std.proofs.Common.{◌≡◌, ℕ, ◌+◌, ◌-◌, ◌^◌, ◌<◌, ◌≤◌, List, [], ◌∷◌, ◌++◌, length, append_assoc, length-append, None, refl, ap, sym, ◌∙◌, subst, arith}
-use Rattle.std.proofs.lemmas.List.{length-replicate, append-nil, nil_from_length}
-use Rattle.std.proofs.lemmas.List.Elements.{All-nil, All-push}
+use Rattle.std.proofs.Common.{◌≡◌, ℕ, ◌+◌, ◌-◌, ◌^◌, ◌<◌, ◌≤◌, List, [], ◌∷◌, ◌++◌, length, append_assoc, length-append, ap, sym, ◌∙◌, subst, arith}
+use Rattle.std.proofs.lemmas.List.{append-nil, nil_from_length}
+use Rattle.std.proofs.lemmas.List.Elements.{All-push}
 use Rattle.std.specs.List.{All}
 use Rattle.market_types.specs.declared.command.Cmd.{Cmd}
 use Rattle.market_types.specs.declared.reply.Entry.{Entry}
 use Rattle.market_types.specs.declared.reply.Reply.{Reply}
-use Rattle.market_types.specs.State.{State, opening_to}
+use Rattle.market_types.specs.State.{State}
 use Rattle.market_types.specs.Step.{place_of, step}
 use Rattle.market_types.specs.History.{IsLegal, calls_of, state_after}
 use Rattle.market_types.specs.Reading.{Fits}
-use Rattle.edit_history.specs.Chronicled.{IsOpening, IsCallOf, entry}
+use Rattle.edit_history.specs.Chronicled.{IsCallOf, entry}
 use Rattle.edit_history.specs.Kept.{IsKept}
 use Rattle.edit_history.specs.Places.{placed, takes}
 use Rattle.edit_history.proofs.Longer.{state-longer, legal-longer}
 use Rattle.market_core.proofs.Moved.{steps}
-use Rattle.edit_history.proofs.Placed.{same-seats-after, nobody, one-of, placed-after, room, takes-some}
-
-pub opening-is : (base hard seats levels last : ℕ) → (1 ≤ base) × (base ≤ 65536) → (1 ≤ hard) × (hard ≤ 65535) → (1 ≤ seats) × (seats ≤ 64) → (1 ≤ levels) × (levels ≤ 8)
-    → (1 ≤ last) × (last ≤ 4294967294) → IsOpening (opening_to base hard seats levels last)
-opening-is base hard seats levels last b h s l n =
-    let long : length (opening_to base hard seats levels last).seats ≡ seats = length-replicate seats None in
-    record {
-      same = ap (λ n. opening_to base hard n levels last) (sym long);
-      base = b;
-      hard = h;
-      seats = (omega arith, omega arith);
-      levels = l;
-      last = n;
-    }
-
-pub kept-new : (base hard seats levels last places capacity : ℕ) (start market : State) (past recent : List Entry) → IsOpening (opening_to base hard seats levels last)
-    → start ≡ opening_to base hard seats levels last → market ≡ opening_to base hard seats levels last → past ≡ [] → recent ≡ [] → 1 ≤ places → places ≤ 1048576 → IsKept start market past recent 0 places capacity
-kept-new base hard seats levels last places capacity start market past recent opened starts is none_past none some few =
-    subst (λ (z : State × State × List Entry × List Entry). IsKept z.0 z.1 z.2 z.3 0 places capacity) (λ i. (sym starts i, sym is i, sym none_past i, sym none i)) (
-    let zero_placed : placed (opening_to base hard seats levels last) ≡ 0 = nobody seats in
-    record { opened = opened; legal = refl; calls = All-nil (IsCallOf (length (opening_to base hard seats levels last).seats)); market_is = refl; from_is = refl; room = omega arith; memory = omega arith; few = few; countable = omega arith }
-    )
+use Rattle.edit_history.proofs.Placed.{same-seats-after, one-of, placed-after, room, takes-some}
 
 module _ (start market : State) (past recent : List Entry) (from places capacity : ℕ) (k : IsKept start market past recent from places capacity) where
   pub kept-seats : length market.seats ≡ length start.seats

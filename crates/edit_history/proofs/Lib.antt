@@ -4,4 +4,3 @@ mod KeptAfter
 mod Rows
 pub mod Crossing
 mod Answering
-mod Opened

@@ -9,6 +9,7 @@ use Rattle.edit_history.specs.declared.keeping.Keeping.{Keeping}
 use Rattle.edit_history.specs.declared.terms.Terms.{Terms}
 use Rattle.edit_history.specs.declared.keeping.Keeping.TheVariants.{Everything, InParts, Nothing}
 use Rattle.market_types.specs.State.{State, opening_to, usual_last}
+use Rattle.market_types.specs.Opening.{opening_with}
 use Rattle.market_types.specs.Reading.{Fits}
 use Rattle.market_types.specs.History.{calls_of, state_after}
 
@@ -36,23 +37,23 @@ entry seat cmd reply = record { call = record { seat = seat; cmd = cmd }; reply 
 -- a chronicle that nothing has happened to
 abbrev pub begun : Terms → Chronicled
 begun t =
-    let start = opening_to t.base t.hard t.seats t.levels t.last in
+    let start = opening_with t.opening in
     record { start = start; market = start; log = []; places = t.places; from = 0; keeping = t.keeping }
 
 -- a new chronicle, or the first of its numbers that is out of range; the last number is never (own)
 abbrev pub opened_by : Terms → Result Chronicled OpenFault
 opened_by t =
-    if t.base == 0 || nat_lt 65536 t.base then Err BadBase
-    else if t.hard == 0 || nat_lt 65535 t.hard then Err BadHard
-    else if t.seats == 0 || nat_lt 64 t.seats then Err BadSeats
+    if t.opening.base == 0 || nat_lt 65536 t.opening.base then Err BadBase
+    else if t.opening.hard == 0 || nat_lt 65535 t.opening.hard then Err BadHard
+    else if t.opening.seats == 0 || nat_lt 64 t.opening.seats then Err BadSeats
     else if t.places == 0 || nat_lt 1048576 t.places then Err BadPlaces
-    else if t.levels == 0 || nat_lt 8 t.levels then Err BadLevels
+    else if t.opening.levels == 0 || nat_lt 8 t.opening.levels then Err BadLevels
     else Ok (begun t)
 
 -- the terms of these numbers: all entries are kept, and the last number is the usual one
 abbrev pub usual_terms : ℕ → ℕ → ℕ → ℕ → ℕ → Terms
 usual_terms base hard seats places levels =
-    record { base = base; hard = hard; seats = seats; places = places; levels = levels; last = usual_last; keeping = Everything }
+    record { opening = record { base = base; hard = hard; seats = seats; levels = levels; last = usual_last }; places = places; keeping = Everything }
 
 -- the same terms, but that the entries are cut out in parts
 abbrev pub in_parts : Terms → Terms
@@ -60,7 +61,7 @@ in_parts t = record t { keeping = InParts }
 
 -- the same terms, but that no entry is kept: the places are those that calls need at a time, one for each seat's Leave, and two for a call
 abbrev pub unrecorded : Terms → Terms
-unrecorded t = record t { places = t.seats + 2; keeping = Nothing }
+unrecorded t = record t { places = t.opening.seats + 2; keeping = Nothing }
 
 -- a new chronicle of these numbers, whose entries are all kept
 abbrev pub opened_chronicle : ℕ → ℕ → ℕ → ℕ → ℕ → Result Chronicled OpenFault

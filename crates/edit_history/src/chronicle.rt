@@ -6,8 +6,7 @@ ghost use Rattle.market_types.specs.Step.{step, place_of};
 ghost use Rattle.market_types.specs.History.{IsLegal};
 ghost use Rattle.market_types.specs.Opening.{MemoryAside};
 ghost use Rattle.edit_history.specs.Answered.{IsAnswered};
-ghost use Rattle.edit_history.specs.Chronicled.{entry, market_of, opened_by, opened_chronicle, most_forgotten, HasNumbersOf, IsCallOf, IsOpening};
-ghost use Rattle.edit_history.specs.Faults.{bad_places, first_fault};
+ghost use Rattle.edit_history.specs.Chronicled.{begun, entry, market_of, opened_by, opened_chronicle, usual_terms, most_forgotten, HasNumbersOf, IsCallOf, IsOpening};
 ghost use Rattle.edit_history.specs.Parts.{EndsWith};
 ghost use Rattle.edit_history.specs.Places.{placed, takes, taken, LacksPlaces};
 ghost use Rattle.edit_history.specs.declared.fault.CallFault.TheVariants.{HistoryFull, Memory};
@@ -16,16 +15,13 @@ use crate::fault::CallFault;
 use crate::keeping::Keeping;
 use crate::part::Part;
 use crate::past::Past;
-use crate::terms::Terms;
+use crate::terms::{MOST_PLACES, Terms};
 use market_core::Market;
-use market_types::{ArenaId, Call, Cmd, Entry, LastNumber, OpenFault, Reply, SeatNo};
+use market_types::{ArenaId, Call, Cmd, Entry, OpenFault, Opening, Reply, SeatNo};
 use std::alloc::Global;
 use std::marker::Model;
 use std::mem;
 use std::snapshot::Snapshot;
-
-/// The most places that a history can have, so the most entries of it that are kept.
-pub const MOST_PLACES: u32 = 1_048_576;
 
 /// How long a history is at most whose entries are all forgotten or cut out: with all places after it, 64 bits still count its calls.
 pub const MOST_FORGOTTEN: u64 = u64::MAX - MOST_PLACES as u64;
@@ -66,29 +62,24 @@ impl Chronicle {
     /// places more than seats are then enough.
     pub fn on_terms(alloc: Global, terms: Terms) -> Result<Self, OpenFault>
         ensures exact { MemoryAside (opened_by terms) result }
+        ensures opened { IfOk result (λ chronicle. chronicle ≡ begun terms) }
     {
         let Terms {
-            base,
-            hard,
-            seats,
+            opening,
             places,
-            levels,
-            last,
             keeping,
         } = terms;
-        match Market::with_last(alloc, base, hard, seats, levels, last) {
-            Err(fault) => Err(first_fault(fault, places)),
-            Ok(_) if are_bad(places) => Err(OpenFault::BadPlaces),
-            Ok(market) => Ok(Chronicle {
-                opened: Snapshot::of(&market),
-                market,
-                past: Past::new(),
-                from: 0,
-                recent: Vec::new(alloc),
-                places,
-                keeping,
-            }),
-        }
+        terms.check()?;
+        let market = Market::with_opening(alloc, opening)?;
+        Ok(Chronicle {
+            opened: Snapshot::of(&market),
+            market,
+            past: Past::new(),
+            from: 0,
+            recent: Vec::new(alloc),
+            places,
+            keeping,
+        })
     }
 
     /// The same, with the usual last number, and every entry is kept.
@@ -101,14 +92,11 @@ impl Chronicle {
         levels: u32,
     ) -> Result<Self, OpenFault>
         ensures exact { MemoryAside (opened_chronicle base hard seats places levels) result }
+        ensures opened { IfOk result (λ chronicle. chronicle ≡ begun (usual_terms base hard seats places levels)) }
     {
         let terms = Terms {
-            base,
-            hard,
-            seats,
+            opening: Opening::new(base, hard, seats, levels),
             places,
-            levels,
-            last: LastNumber::USUAL,
             keeping: Keeping::Everything,
         };
         Chronicle::on_terms(alloc, terms)
@@ -289,24 +277,6 @@ impl Chronicle {
     {
         let unused = self.places - self.recent.len() as u32;
         unused - self.market.placed()
-    }
-}
-
-/// Whether no history can have so many places.
-fn are_bad(places: u32) -> bool
-    ensures { result ≡ bad_places places }
-{
-    places == 0 || places > MOST_PLACES
-}
-
-/// The first fault of a chronicle's numbers, where this one is its market's: bad places come before bad levels, and before want of memory.
-fn first_fault(fault: OpenFault, places: u32) -> OpenFault
-    ensures { result ≡ first_fault fault (bad_places places) }
-{
-    match fault {
-        OpenFault::BadBase | OpenFault::BadHard | OpenFault::BadSeats => fault,
-        _ if are_bad(places) => OpenFault::BadPlaces,
-        _ => fault,
     }
 }
 

@@ -20,11 +20,11 @@ mod part;
 mod past;
 mod terms;
 
-pub use chronicle::{Chronicle, MOST_FORGOTTEN, MOST_PLACES};
+pub use chronicle::{Chronicle, MOST_FORGOTTEN};
 pub use fault::CallFault;
 pub use keeping::Keeping;
 pub use law::{
     a_forgetful_chronicle_is_never_full, own_entries_place_a_seat, parts_in_a_row_are_the_history,
 };
 pub use part::Part;
-pub use terms::Terms;
+pub use terms::{MOST_PLACES, Terms};

@@ -7,9 +7,10 @@ ghost use Rattle.std.specs.Prelude.{◌<◌, ◌≤◌};
 use anyhow::Result;
 use byte_devices::{TestSink, TestSource};
 use market_prog::{
-    MarketOptions, ScriptTask, explain_script, run_drive, run_journal, run_replay, run_script,
+    ScriptTask, USUAL_MARKET, explain_script, run_drive, run_journal, run_replay, run_script,
     status_of_drive, status_of_replay,
 };
+use market_types::Opening;
 use std::alloc::Global;
 use std::fs;
 use std::sync::Wait;
@@ -142,10 +143,10 @@ fn try_script(rt: &HostRuntime, task: ScriptTask, name: &str) -> Result<()> {
         levels,
         unread,
     } = Example::named(name);
-    let options = MarketOptions {
+    let options = Opening {
         base,
         levels,
-        ..MarketOptions::USUAL
+        ..USUAL_MARKET
     };
     let alloc = rt.alloc();
     let script = fs::read(rt, format!(in alloc; "{name}.txt")?)?;
@@ -206,7 +207,7 @@ fn is_written_of<T: Threads + Wait + Sync>(
     text: &[u8],
     wanted: &[u8],
 ) -> Result<bool> {
-    let usual = MarketOptions::USUAL;
+    let usual = USUAL_MARKET;
     let source = &mut TestSource::new(text);
     let sink = &mut TestSink::new(Vec::with_capacity(alloc, MOST_WRITTEN)?);
     match kind {

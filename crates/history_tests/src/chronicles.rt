@@ -1,7 +1,7 @@
 //! Histories that fill up, and what a chronicle answers at its bounds.
 use crate::asserts::{holds, same};
 use edit_history::{CallFault, Chronicle, Keeping, MOST_FORGOTTEN, Terms};
-use market_types::{ArenaId, Cmd, Entry, LastNumber, Level, OpenFault, Reply, SeatNo, reply_text};
+use market_types::{ArenaId, Cmd, Entry, Level, OpenFault, Opening, Reply, SeatNo, reply_text};
 use std::alloc::Global;
 use std::process::Abort;
 use std::rt::HostRuntime;
@@ -20,12 +20,8 @@ fn opened(rt: &impl Abort, alloc: Global, places: u32) -> Chronicle {
 /// These numbers, with the usual last number.
 fn terms(base: u32, hard: u32, seats: u8, places: u32, levels: u32, keeping: Keeping) -> Terms {
     Terms {
-        base,
-        hard,
-        seats,
+        opening: Opening::new(base, hard, seats, levels),
         places,
-        levels,
-        last: LastNumber::USUAL,
         keeping,
     }
 }
@@ -112,11 +108,11 @@ fn refusal(opening: Result<Chronicle, OpenFault>) -> Option<OpenFault> {
 fn is_refused(alloc: Global, terms: &Terms, due: OpenFault) -> bool {
     let usual = Chronicle::new(
         alloc,
-        terms.base,
-        terms.hard,
-        terms.seats,
+        terms.opening.base,
+        terms.opening.hard,
+        terms.opening.seats,
         terms.places,
-        terms.levels,
+        terms.opening.levels,
     );
     refusal(usual) == Some(due) && refusal(Chronicle::on_terms(alloc, *terms)) == Some(due)
 }

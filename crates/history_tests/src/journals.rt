@@ -7,7 +7,7 @@ use edit_history::{Chronicle, Keeping, Terms};
 use journal_replay::{
     Extent, Header, OutFault, Verdict, check, write_header, write_journal, write_part,
 };
-use market_types::{ArenaId, Cmd, LastNumber, Level, SeatNo};
+use market_types::{ArenaId, Cmd, LastNumber, Level, Opening, SeatNo};
 use std::alloc::Global;
 use std::process::Abort;
 use std::rt::HostRuntime;
@@ -118,11 +118,7 @@ fn write_next(
 /// The header of the market, in a journal of so many entries.
 fn header(extent: Extent) -> Header {
     Header {
-        base: 8,
-        hard: 64,
-        seats: 4,
-        levels: 3,
-        last: LastNumber::USUAL,
+        opening: Opening::new(8, 64, 4, 3),
         extent,
     }
 }
@@ -155,12 +151,8 @@ fn write_parts(
     requires working { sink.old.failed ≡ false }
 {
     let terms = Terms {
-        base: 8,
-        hard: 64,
-        seats: 4,
+        opening: Opening::new(8, 64, 4, 3),
         places: 1,
-        levels: 3,
-        last: LastNumber::USUAL,
         keeping: Keeping::InParts,
     };
     let Ok(mut chronicle) = Chronicle::on_terms(alloc, terms) else {
@@ -213,13 +205,13 @@ fn opened_four(rt: &impl Abort, alloc: Global) -> Chronicle
     let Some(last) = LastNumber::new(3) else {
         panic!(rt; "no number");
     };
-    let terms = Terms {
-        base: 8,
-        hard: 64,
-        seats: 4,
-        places: 1000,
-        levels: 3,
+    let opening = Opening {
         last,
+        ..Opening::new(8, 64, 4, 3)
+    };
+    let terms = Terms {
+        opening,
+        places: 1000,
         keeping: Keeping::Everything,
     };
     let Ok(mut chronicle) = Chronicle::on_terms(alloc, terms) else {

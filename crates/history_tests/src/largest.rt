@@ -10,7 +10,7 @@ use edit_history::{Chronicle, Keeping, Part, Terms};
 use explainer::explain;
 use journal_replay::{Extent, Header, write_header, write_part};
 use market_desk::Desk;
-use market_types::{ArenaId, Cmd, Correction, LastNumber, Level, Reply, SeatNo};
+use market_types::{ArenaId, Cmd, Correction, LastNumber, Level, Opening, Reply, SeatNo};
 use std::alloc::{AllocError, Global};
 use std::process::Abort;
 use std::rt::HostRuntime;
@@ -23,12 +23,14 @@ const PLACES: u32 = 1_048_576;
 
 /// A history of 1,048,576 places, of a market whose limit is 65,535.
 const TERMS: Terms = Terms {
-    base: 65_536,
-    hard: 65_535,
-    seats: SEATS,
+    opening: Opening {
+        base: 65_536,
+        hard: 65_535,
+        seats: SEATS,
+        levels: 3,
+        last: LastNumber::USUAL,
+    },
     places: PLACES,
-    levels: 3,
-    last: LastNumber::USUAL,
     keeping: Keeping::InParts,
 };
 
@@ -140,11 +142,7 @@ fn sink_of(rt: &impl Abort, alloc: Global, bytes: usize) -> TestSink
 fn is_written(rt: &impl Abort, alloc: Global, part: &Part) {
     same(rt, (part.from, part.entries.len()), (0, 1_048_576));
     let header = Header {
-        base: TERMS.base,
-        hard: TERMS.hard,
-        seats: TERMS.seats,
-        levels: TERMS.levels,
-        last: TERMS.last,
+        opening: TERMS.opening,
         extent: Extent::Limited,
     };
     let mut sink = sink_of(rt, alloc, 100_000_000);

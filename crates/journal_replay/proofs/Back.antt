@@ -39,28 +39,28 @@ number-then n rest h = ascii-append (decimal n) rest (ascii-plain (decimal n) (p
 
 -- a header whose numbers are in their ranges
 pub record IsInRanges (h : Header) : Type 0 where
-  pub base : (1 ≤ h.base) × (h.base ≤ 65536)
-  pub hard : (1 ≤ h.hard) × (h.hard ≤ 65535)
-  pub seats : (1 ≤ h.seats) × (h.seats ≤ 64)
-  pub levels : (1 ≤ h.levels) × (h.levels ≤ 8)
-  pub last : (1 ≤ h.last) × (h.last ≤ 4294967294)
+  pub base : (1 ≤ h.opening.base) × (h.opening.base ≤ 65536)
+  pub hard : (1 ≤ h.opening.hard) × (h.opening.hard ≤ 65535)
+  pub seats : (1 ≤ h.opening.seats) × (h.opening.seats ≤ 64)
+  pub levels : (1 ≤ h.opening.levels) × (h.opening.levels ≤ 8)
+  pub last : (1 ≤ h.opening.last) × (h.opening.last ≤ 4294967294)
 
 abbrev second-json : Header → json.Json
 second-json h =
-    json.object (json.member (codes "base") (json.number (decimal h.base))
-    (json.member (codes "hard") (json.number (decimal h.hard))
+    json.object (json.member (codes "base") (json.number (decimal h.opening.base))
+    (json.member (codes "hard") (json.number (decimal h.opening.hard))
     (json.member (codes "journal") (json.number (decimal 2))
-    (json.member (codes "levels") (json.number (decimal h.levels))
-    (json.member (codes "seats") (json.number (decimal h.seats)) json.no_members)))))
+    (json.member (codes "levels") (json.number (decimal h.opening.levels))
+    (json.member (codes "seats") (json.number (decimal h.opening.seats)) json.no_members)))))
 
 abbrev third-json : Header → json.Json
 third-json h =
-    json.object (json.member (codes "base") (json.number (decimal h.base))
-    (json.member (codes "hard") (json.number (decimal h.hard))
+    json.object (json.member (codes "base") (json.number (decimal h.opening.base))
+    (json.member (codes "hard") (json.number (decimal h.opening.hard))
     (json.member (codes "journal") (json.number (decimal 3))
-    (json.member (codes "last") (json.number (decimal h.last))
-    (json.member (codes "levels") (json.number (decimal h.levels))
-    (json.member (codes "seats") (json.number (decimal h.seats)) json.no_members))))))
+    (json.member (codes "last") (json.number (decimal h.opening.last))
+    (json.member (codes "levels") (json.number (decimal h.opening.levels))
+    (json.member (codes "seats") (json.number (decimal h.opening.seats)) json.no_members))))))
 
 second-printed : (h : Header) → print (json_tokens (second-json h)) ≡ second_line h
 unfolding serde_json_on_literals
@@ -72,11 +72,11 @@ third-printed h = search rules
 
 -- the numbers of a header fit 64 bits
 record Fits64 (h : Header) : Type 0 where
-  pub base : h.base < 2 ^ 64
-  pub hard : h.hard < 2 ^ 64
-  pub seats : h.seats < 2 ^ 64
-  pub levels : h.levels < 2 ^ 64
-  pub last : h.last < 2 ^ 64
+  pub base : h.opening.base < 2 ^ 64
+  pub hard : h.opening.hard < 2 ^ 64
+  pub seats : h.opening.seats < 2 ^ 64
+  pub levels : h.opening.levels < 2 ^ 64
+  pub last : h.opening.last < 2 ^ 64
 
 fits64 : (h : Header) → IsInRanges h → Fits64 h
 fits64 h r = record {
@@ -90,26 +90,26 @@ fits64 h r = record {
 second-as_data : (h : Header) → Fits64 h → of_json (second-json h) ≡ Some (second_data h)
 unfolding serde_json_on_literals
 second-as_data h f =
-    rw (number_of-decimal h.base f.base, number_of-decimal h.hard f.hard, number_of-decimal 2 (omega arith), number_of-decimal h.levels f.levels, number_of-decimal h.seats f.seats) refl
+    rw (number_of-decimal h.opening.base f.base, number_of-decimal h.opening.hard f.hard, number_of-decimal 2 (omega arith), number_of-decimal h.opening.levels f.levels, number_of-decimal h.opening.seats f.seats) refl
 
 third-as_data : (h : Header) → Fits64 h → of_json (third-json h) ≡ Some (third_data h)
 unfolding serde_json_on_literals
 third-as_data h f =
-    rw (number_of-decimal h.base f.base, number_of-decimal h.hard f.hard, number_of-decimal 3 (omega arith), number_of-decimal h.last f.last, number_of-decimal h.levels f.levels, number_of-decimal h.seats f.seats)
+    rw (number_of-decimal h.opening.base f.base, number_of-decimal h.opening.hard f.hard, number_of-decimal 3 (omega arith), number_of-decimal h.opening.last f.last, number_of-decimal h.opening.levels f.levels, number_of-decimal h.opening.seats f.seats)
     refl
 
 second-back : (h : Header) → Fits64 h → json_of (second_line h) ≡ Some (second_data h)
 second-back h f =
-    let ascii : are_ascii (second_line h) ≡ true = number-then h.base _ (number-then h.hard _ (number-then 2 _ (number-then h.levels _ (number-then h.seats (codes "}") refl)))) in
+    let ascii : are_ascii (second_line h) ≡ true = number-then h.opening.base _ (number-then h.opening.hard _ (number-then 2 _ (number-then h.opening.levels _ (number-then h.opening.seats (codes "}") refl)))) in
     json-back (second-json h) (second_data h) (second_line h) (second-printed h) (IsUtf8-are_ascii (second_line h) ascii)
-    (IsNumber-decimal h.base f.base, (IsNumber-decimal h.hard f.hard, (IsNumber-decimal 2 (omega arith), (IsNumber-decimal h.levels f.levels, (IsNumber-decimal h.seats f.seats, tt)))))
+    (IsNumber-decimal h.opening.base f.base, (IsNumber-decimal h.opening.hard f.hard, (IsNumber-decimal 2 (omega arith), (IsNumber-decimal h.opening.levels f.levels, (IsNumber-decimal h.opening.seats f.seats, tt)))))
     (omega arith) (second-as_data h f)
 
 third-back : (h : Header) → Fits64 h → json_of (third_line h) ≡ Some (third_data h)
 third-back h f =
-    let ascii : are_ascii (third_line h) ≡ true = number-then h.base _ (number-then h.hard _ (number-then 3 _ (number-then h.last _ (number-then h.levels _ (number-then h.seats (codes "}") refl))))) in
+    let ascii : are_ascii (third_line h) ≡ true = number-then h.opening.base _ (number-then h.opening.hard _ (number-then 3 _ (number-then h.opening.last _ (number-then h.opening.levels _ (number-then h.opening.seats (codes "}") refl))))) in
     json-back (third-json h) (third_data h) (third_line h) (third-printed h) (IsUtf8-are_ascii (third_line h) ascii)
-    (IsNumber-decimal h.base f.base, (IsNumber-decimal h.hard f.hard, (IsNumber-decimal 3 (omega arith), (IsNumber-decimal h.last f.last, (IsNumber-decimal h.levels f.levels, (IsNumber-decimal h.seats f.seats, tt))))))
+    (IsNumber-decimal h.opening.base f.base, (IsNumber-decimal h.opening.hard f.hard, (IsNumber-decimal 3 (omega arith), (IsNumber-decimal h.opening.last f.last, (IsNumber-decimal h.opening.levels f.levels, (IsNumber-decimal h.opening.seats f.seats, tt))))))
     (omega arith) (third-as_data h f)
 
 back-by : (b : Bool) (xs ys : List ℕ) (d e : Data) → json_of xs ≡ Some d → json_of ys ≡ Some e → json_of (cond b xs ys) ≡ Some (cond b d e)

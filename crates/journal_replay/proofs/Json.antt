@@ -32,4 +32,4 @@ count-members (e ∷ entries) = omega (arith, count-members entries)
 -- a market with the numbers of its opening has the header of that
 pub same-header : (extent : Extent) (start s : State) → HasNumbersOf start s → header_for extent s ≡ header_for extent start
 same-header extent start s same =
-    λ i. record { base = same.base i; hard = same.hard i; seats = same.seats i; levels = same.levels i; last = same.last i; extent = extent }
+    λ i. record { opening = record { base = same.base i; hard = same.hard i; seats = same.seats i; levels = same.levels i; last = same.last i }; extent = extent }

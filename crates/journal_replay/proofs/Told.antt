@@ -16,7 +16,8 @@ use Rattle.line_engine.specs.declared.form.LineForm.TheVariants.{Whole}
 use Rattle.line_engine.proofs.Cut.{ended_lines-first, unfinished_line-first, ended_lines-none, unfinished_line-none}
 use Rattle.market_types.specs.declared.command.Cmd.{Cmd}
 use Rattle.market_types.specs.declared.reply.Entry.{Entry}
-use Rattle.market_types.specs.State.{State, opening_to}
+use Rattle.market_types.specs.State.{State}
+use Rattle.market_types.specs.Opening.{opening_with}
 use Rattle.market_types.specs.Texts.{cmd_text, reply_text}
 use Rattle.market_types.specs.Reading.{Fits, reading}
 use Rattle.edit_history.specs.Chronicled.{IsOpening, IsCallOf}
@@ -132,14 +133,14 @@ free-number n rest small free = free-append (decimal n) rest (free-decimal n sma
 free-second : (h : Header) → IsInRanges h → lf_free (second_line h) ≡ true
 unfolding lf_free
 free-second h r =
-    free-number h.base _ (omega (arith, r.base.1)) (free-number h.hard _ (omega (arith, r.hard.1)) (free-number 2 _ (omega arith)
-    (free-number h.levels _ (omega (arith, r.levels.1)) (free-number h.seats _ (omega (arith, r.seats.1)) refl))))
+    free-number h.opening.base _ (omega (arith, r.base.1)) (free-number h.opening.hard _ (omega (arith, r.hard.1)) (free-number 2 _ (omega arith)
+    (free-number h.opening.levels _ (omega (arith, r.levels.1)) (free-number h.opening.seats _ (omega (arith, r.seats.1)) refl))))
 
 free-third : (h : Header) → IsInRanges h → lf_free (third_line h) ≡ true
 unfolding lf_free
 free-third h r =
-    free-number h.base _ (omega (arith, r.base.1)) (free-number h.hard _ (omega (arith, r.hard.1)) (free-number 3 _ (omega arith) (free-number h.last _ (omega (arith, r.last.1))
-    (free-number h.levels _ (omega (arith, r.levels.1)) (free-number h.seats _ (omega (arith, r.seats.1)) refl)))))
+    free-number h.opening.base _ (omega (arith, r.base.1)) (free-number h.opening.hard _ (omega (arith, r.hard.1)) (free-number 3 _ (omega arith) (free-number h.opening.last _ (omega (arith, r.last.1))
+    (free-number h.opening.levels _ (omega (arith, r.levels.1)) (free-number h.opening.seats _ (omega (arith, r.seats.1)) refl)))))
 
 -- ---- the lines of a journal
 
@@ -172,21 +173,21 @@ lines-entries levels seats (e ∷ log) few all =
 from_one_to-within : (most n : ℕ) → 1 ≤ n → n ≤ most → from_one_to most n ≡ Some n
 from_one_to-within most n low high = let out : (n == 0 || nat_lt most n) ≡ false = grind (arith, nat_tests) in rw out refl
 
-second-opens : (h : Header) → IsInRanges h → header_of (second_data h) ≡ Some (opened_by (record h { last = 1048576; extent = Limited }))
+second-opens : (h : Header) → IsInRanges h → header_of (second_data h) ≡ Some (opened_by (record h { opening = record h.opening { last = 1048576 }; extent = Limited }))
 unfolding header_in
 second-opens h r =
-    rw (from_one_to-within 8 h.levels r.levels.0 r.levels.1, from_one_to-within 65536 h.base r.base.0 r.base.1, from_one_to-within 65535 h.hard r.hard.0 r.hard.1, from_one_to-within 64 h.seats r.seats.0 r.seats.1)
+    rw (from_one_to-within 8 h.opening.levels r.levels.0 r.levels.1, from_one_to-within 65536 h.opening.base r.base.0 r.base.1, from_one_to-within 65535 h.opening.hard r.hard.0 r.hard.1, from_one_to-within 64 h.opening.seats r.seats.0 r.seats.1)
     refl
 
 third-opens : (h : Header) → IsInRanges h → header_of (third_data h) ≡ Some (opened_by (record h { extent = Endless }))
 unfolding header_in
 third-opens h r =
     rw (
-      from_one_to-within 8 h.levels r.levels.0 r.levels.1,
-      from_one_to-within 4294967294 h.last r.last.0 r.last.1,
-      from_one_to-within 65536 h.base r.base.0 r.base.1,
-      from_one_to-within 65535 h.hard r.hard.0 r.hard.1,
-      from_one_to-within 64 h.seats r.seats.0 r.seats.1,
+      from_one_to-within 8 h.opening.levels r.levels.0 r.levels.1,
+      from_one_to-within 4294967294 h.opening.last r.last.0 r.last.1,
+      from_one_to-within 65536 h.opening.base r.base.0 r.base.1,
+      from_one_to-within 65535 h.opening.hard r.hard.0 r.hard.1,
+      from_one_to-within 64 h.opening.seats r.seats.0 r.seats.1,
     )
     refl
 
@@ -205,15 +206,15 @@ limited-by Endless last e = absurd (cc)
 
 -- what a header that was written opens
 header-opens : (b : Bool) (h : Header) → fits_second h ≡ b → IsInRanges h
-    → header_of (cond b (second_data h) (third_data h)) ≡ Some (record { market = opening_to h.base h.hard h.seats h.levels h.last; extent = read_extent b })
+    → header_of (cond b (second_data h) (third_data h)) ≡ Some (record { market = opening_with h.opening; extent = read_extent b })
 unfolding read_extent
-header-opens true h e r = second-opens h r ∙ ap (λ n. Some (opened_by (record h { last = n; extent = Limited }))) (sym (usual-by h.extent h.last e))
+header-opens true h e r = second-opens h r ∙ ap (λ n. Some (opened_by (record h { opening = record h.opening { last = n }; extent = Limited }))) (sym (usual-by h.extent h.opening.last e))
 header-opens false h e r = third-opens h r
 
 -- and if that is limited, so was the header
 limit-kept : (b : Bool) (h : Header) → fits_second h ≡ b → read_extent b ≡ Limited → h.extent ≡ Limited
 unfolding read_extent
-limit-kept true h e same = limited-by h.extent h.last e
+limit-kept true h e same = limited-by h.extent h.opening.last e
 limit-kept false h e same = absurd (cc)
 
 pub entry-reads : (levels seats : ℕ) (e : Entry) → e.call.seat < seats → reading levels (cmd_text levels e.call.cmd) ≡ Some e.call.cmd
@@ -239,21 +240,21 @@ all-of seats levels (e ∷ log) few calls shorts =
 
 second-short : (h : Header) → IsInRanges h → length (second_line h) ≤ 65536
 second-short h r =
-    let p = length-decimal-le 5 h.base (omega arith) (omega (arith, r.base.1)) (omega (arith, r.base.1)) in
-    let q = length-decimal-le 5 h.hard (omega arith) (omega (arith, r.hard.1)) (omega (arith, r.hard.1)) in
-    let s = length-decimal-le 5 h.levels (omega arith) (omega (arith, r.levels.1)) (omega (arith, r.levels.1)) in
-    let t = length-decimal-le 5 h.seats (omega arith) (omega (arith, r.seats.1)) (omega (arith, r.seats.1)) in
+    let p = length-decimal-le 5 h.opening.base (omega arith) (omega (arith, r.base.1)) (omega (arith, r.base.1)) in
+    let q = length-decimal-le 5 h.opening.hard (omega arith) (omega (arith, r.hard.1)) (omega (arith, r.hard.1)) in
+    let s = length-decimal-le 5 h.opening.levels (omega arith) (omega (arith, r.levels.1)) (omega (arith, r.levels.1)) in
+    let t = length-decimal-le 5 h.opening.seats (omega arith) (omega (arith, r.seats.1)) (omega (arith, r.seats.1)) in
     let u = length-decimal-le 5 2 (omega arith) (omega arith) (omega arith) in
     simp length-append (omega arith)
 
 third-short : (h : Header) → IsInRanges h → length (third_line h) ≤ 65536
 third-short h r =
-    let p = length-decimal-le 5 h.base (omega arith) (omega (arith, r.base.1)) (omega (arith, r.base.1)) in
-    let q = length-decimal-le 5 h.hard (omega arith) (omega (arith, r.hard.1)) (omega (arith, r.hard.1)) in
-    let s = length-decimal-le 5 h.levels (omega arith) (omega (arith, r.levels.1)) (omega (arith, r.levels.1)) in
-    let t = length-decimal-le 5 h.seats (omega arith) (omega (arith, r.seats.1)) (omega (arith, r.seats.1)) in
+    let p = length-decimal-le 5 h.opening.base (omega arith) (omega (arith, r.base.1)) (omega (arith, r.base.1)) in
+    let q = length-decimal-le 5 h.opening.hard (omega arith) (omega (arith, r.hard.1)) (omega (arith, r.hard.1)) in
+    let s = length-decimal-le 5 h.opening.levels (omega arith) (omega (arith, r.levels.1)) (omega (arith, r.levels.1)) in
+    let t = length-decimal-le 5 h.opening.seats (omega arith) (omega (arith, r.seats.1)) (omega (arith, r.seats.1)) in
     let u = length-decimal-le 5 3 (omega arith) (omega arith) (omega arith) in
-    let v = length-decimal-le 10 h.last (omega arith) (omega (arith, r.last.1)) (omega (arith, r.last.1)) in
+    let v = length-decimal-le 10 h.opening.last (omega arith) (omega (arith, r.last.1)) (omega (arith, r.last.1)) in
     simp length-append (omega arith)
 
 -- what holds of both lines holds of the one that is written

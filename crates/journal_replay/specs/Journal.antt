@@ -4,6 +4,7 @@ use Rattle.json.specs.Print.{quoted}
 use Rattle.serde_json.specs.Data.{Data, number, unsigned, string, object, no_members, member}
 use Rattle.market_types.specs.declared.reply.Entry.{Entry}
 use Rattle.market_types.specs.State.{State, usual_last}
+use Rattle.market_types.specs.Opening.{numbers_of}
 use Rattle.edit_history.specs.declared.part.Part.{Part}
 use Rattle.market_types.specs.Texts.{cmd_text, reply_text}
 use Rattle.journal_replay.specs.declared.header.Extent.{Extent}
@@ -15,7 +16,7 @@ use Rattle.journal_replay.specs.declared.header.Header.{Header}
 -- the header of a journal of so many entries, of a market that was opened so
 abbrev pub header_for : Extent → State → Header
 header_for extent s =
-    record { base = s.base; hard = s.hard; seats = length s.seats; levels = s.levels; last = s.last; extent = extent }
+    record { opening = numbers_of s; extent = extent }
 
 abbrev pub is_limited : Extent → Bool
 is_limited Limited = true
@@ -23,26 +24,26 @@ is_limited Endless = false
 
 -- version 2 tells all of it: no other last number than the usual one, and no journal without a limit
 abbrev pub fits_second : Header → Bool
-fits_second h = is_limited h.extent && (h.last == usual_last)
+fits_second h = is_limited h.extent && (h.opening.last == usual_last)
 
 -- ---- as JSON
 
 abbrev pub second_data : Header → Data
 second_data h =
-    object (member (codes "base") (number (unsigned h.base))
-    (member (codes "hard") (number (unsigned h.hard))
+    object (member (codes "base") (number (unsigned h.opening.base))
+    (member (codes "hard") (number (unsigned h.opening.hard))
     (member (codes "journal") (number (unsigned 2))
-    (member (codes "levels") (number (unsigned h.levels))
-    (member (codes "seats") (number (unsigned h.seats)) no_members)))))
+    (member (codes "levels") (number (unsigned h.opening.levels))
+    (member (codes "seats") (number (unsigned h.opening.seats)) no_members)))))
 
 abbrev pub third_data : Header → Data
 third_data h =
-    object (member (codes "base") (number (unsigned h.base))
-    (member (codes "hard") (number (unsigned h.hard))
+    object (member (codes "base") (number (unsigned h.opening.base))
+    (member (codes "hard") (number (unsigned h.opening.hard))
     (member (codes "journal") (number (unsigned 3))
-    (member (codes "last") (number (unsigned h.last))
-    (member (codes "levels") (number (unsigned h.levels))
-    (member (codes "seats") (number (unsigned h.seats)) no_members))))))
+    (member (codes "last") (number (unsigned h.opening.last))
+    (member (codes "levels") (number (unsigned h.opening.levels))
+    (member (codes "seats") (number (unsigned h.opening.seats)) no_members))))))
 
 abbrev pub header_data : Header → Data
 header_data h = if fits_second h then second_data h else third_data h
@@ -58,14 +59,14 @@ entry_data cmd reply seat =
 -- the line of a header in version 2
 abbrev pub second_line : Header → List ℕ
 second_line h =
-    codes "{\"base\":" ++ (decimal h.base ++ (codes ",\"hard\":" ++ (decimal h.hard ++ (codes ",\"journal\":" ++ (decimal 2
-    ++ (codes ",\"levels\":" ++ (decimal h.levels ++ (codes ",\"seats\":" ++ (decimal h.seats ++ codes "}")))))))))
+    codes "{\"base\":" ++ (decimal h.opening.base ++ (codes ",\"hard\":" ++ (decimal h.opening.hard ++ (codes ",\"journal\":" ++ (decimal 2
+    ++ (codes ",\"levels\":" ++ (decimal h.opening.levels ++ (codes ",\"seats\":" ++ (decimal h.opening.seats ++ codes "}")))))))))
 
 -- the line of a header in version 3
 abbrev pub third_line : Header → List ℕ
 third_line h =
-    codes "{\"base\":" ++ (decimal h.base ++ (codes ",\"hard\":" ++ (decimal h.hard ++ (codes ",\"journal\":" ++ (decimal 3 ++ (codes ",\"last\":" ++ (decimal h.last
-    ++ (codes ",\"levels\":" ++ (decimal h.levels ++ (codes ",\"seats\":" ++ (decimal h.seats ++ codes "}")))))))))))
+    codes "{\"base\":" ++ (decimal h.opening.base ++ (codes ",\"hard\":" ++ (decimal h.opening.hard ++ (codes ",\"journal\":" ++ (decimal 3 ++ (codes ",\"last\":" ++ (decimal h.opening.last
+    ++ (codes ",\"levels\":" ++ (decimal h.opening.levels ++ (codes ",\"seats\":" ++ (decimal h.opening.seats ++ codes "}")))))))))))
 
 -- the line of a header: it is of version 3 only where version 2 doesn't tell all of it
 abbrev pub header_line : Header → List ℕ

@@ -5,7 +5,8 @@ use Rattle.serde_json.specs.Data.{Data, Members, no_members, member}
 use Rattle.serde_json.specs.Find.{get, as_str, as_number, as_u64, as_object}
 use Rattle.serde_json.specs.Read.{read}
 use Rattle.market_types.specs.declared.command.Cmd.{Cmd}
-use Rattle.market_types.specs.State.{usual_last, opening_to}
+use Rattle.market_types.specs.State.{usual_last}
+use Rattle.market_types.specs.Opening.{opening_with}
 use Rattle.market_types.specs.Reading.{reading, in_seats}
 use Rattle.journal_replay.specs.declared.header.Extent.{Extent}
 use Rattle.journal_replay.specs.declared.header.Extent.TheVariants.{Limited, Endless}
@@ -80,7 +81,7 @@ extent_of Third = Endless
 
 abbrev pub with_hard : Data → Version → ℕ → ℕ → ℕ → ℕ → Option Header
 with_hard d version levels last base hard =
-    option_map (λ seats. record { base = base; hard = hard; seats = seats; levels = levels; last = last; extent = extent_of version })
+    option_map (λ seats. record { opening = record { base = base; hard = hard; seats = seats; levels = levels; last = last }; extent = extent_of version })
     (number_at (codes "seats") 64 d)
 
 abbrev pub with_base : Data → Version → ℕ → ℕ → ℕ → Option Header
@@ -101,7 +102,7 @@ header_in d = option_and_then (with_version d) (version_of d)
 
 -- what is opened with these numbers
 abbrev pub opened_by : Header → Opened
-opened_by h = record { market = opening_to h.base h.hard h.seats h.levels h.last; extent = h.extent }
+opened_by h = record { market = opening_with h.opening; extent = h.extent }
 
 -- the market that a header opens, and how many entries its journal may have
 abbrev pub header_of : Data → Option Opened

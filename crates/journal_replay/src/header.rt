@@ -6,7 +6,7 @@ ghost use Rattle.journal_replay.specs.Verdicts.{is_full, longest_journal};
 use edit_history::MOST_PLACES;
 use line_engine::LONGEST_INPUT;
 use market_core::Market;
-use market_types::LastNumber;
+use market_types::{LastNumber, Opening};
 
 /// The most entries of a journal that is limited.
 const MOST_ENTRIES: u64 = MOST_PLACES as u64;
@@ -46,19 +46,11 @@ impl Extent {
     }
 }
 
-/// What the header of a journal tells: the numbers that the market is opened with, and how many entries may follow.
+/// What the header of a journal tells.
 #[derive(Clone, Copy, Debug, PartialEq, Eq)]
 pub struct Header {
-    /// Parallelism while no control lives.
-    pub base: u32,
-    /// How many workers there are at most.
-    pub hard: u32,
-    /// How many seats give commands.
-    pub seats: u8,
-    /// How many levels there are.
-    pub levels: u32,
-    /// The last number of an arena, a stamp and a control.
-    pub last: LastNumber,
+    /// What the market is opened with.
+    pub opening: Opening,
     /// How many entries the journal may have.
     pub extent: Extent,
 }
@@ -69,11 +61,7 @@ impl Header {
         ensures { result ≡ header_for extent market.now }
     {
         Header {
-            base: market.base(),
-            hard: market.hard(),
-            seats: market.seats(),
-            levels: market.levels(),
-            last: market.last(),
+            opening: market.opening(),
             extent,
         }
     }
@@ -83,7 +71,7 @@ impl Header {
         ensures { result ≡ fits_second self.now }
     {
         match self.extent {
-            Extent::Limited => self.last.get() == LastNumber::USUAL.get(),
+            Extent::Limited => self.opening.last.get() == LastNumber::USUAL.get(),
             Extent::Endless => false,
         }
     }

@@ -37,8 +37,14 @@ fn third_line(alloc: Global, header: &Header) -> Result<Vec<u8>, AllocError>
 fn second_value(alloc: Global, header: &Header) -> Result<Value, AllocError>
     ensures { IfOk result (λ value. view value ≡ second_data header.now) }
 {
-    let (base, hard) = (u64::from(header.base), u64::from(header.hard));
-    let (levels, seats) = (u64::from(header.levels), u64::from(header.seats));
+    let (base, hard) = (
+        u64::from(header.opening.base),
+        u64::from(header.opening.hard),
+    );
+    let (levels, seats) = (
+        u64::from(header.opening.levels),
+        u64::from(header.opening.seats),
+    );
     json!(in alloc; {"base": base, "hard": hard, "journal": 2u64, "levels": levels, "seats": seats})
 }
 
@@ -46,9 +52,15 @@ fn second_value(alloc: Global, header: &Header) -> Result<Value, AllocError>
 fn third_value(alloc: Global, header: &Header) -> Result<Value, AllocError>
     ensures { IfOk result (λ value. view value ≡ third_data header.now) }
 {
-    let (base, hard) = (u64::from(header.base), u64::from(header.hard));
-    let (levels, seats) = (u64::from(header.levels), u64::from(header.seats));
-    let last = u64::from(header.last.get());
+    let (base, hard) = (
+        u64::from(header.opening.base),
+        u64::from(header.opening.hard),
+    );
+    let (levels, seats) = (
+        u64::from(header.opening.levels),
+        u64::from(header.opening.seats),
+    );
+    let last = u64::from(header.opening.last.get());
     json!(in alloc; {"base": base, "hard": hard, "journal": 3u64, "last": last, "levels": levels, "seats": seats})
 }
 

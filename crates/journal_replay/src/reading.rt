@@ -8,7 +8,7 @@ ghost use Rattle.journal_replay.specs.Reading.{extent_of, header_in, header_of, 
 use crate::fields::Fields;
 use crate::header::{Extent, Header};
 use market_core::Market;
-use market_types::{Cmd, LastNumber, SeatNo};
+use market_types::{Cmd, LastNumber, Opening, SeatNo};
 use serde_json::Value;
 use std::alloc::{AllocError, Global};
 
@@ -133,15 +133,15 @@ fn read_header(value: &Value) -> Option<Header>
     let base = number_at(value, "base", 65_536)?;
     let hard = number_at(value, "hard", 65_535)?;
     let seats = number_at(value, "seats", 64)? as u8;
-    let extent = version.extent();
-    Some(Header {
+    let opening = Opening {
         base,
         hard,
         seats,
         levels,
         last,
-        extent,
-    })
+    };
+    let extent = version.extent();
+    Some(Header { opening, extent })
 }
 
 /// The market that a header opens, and how many entries the journal may have.
@@ -158,10 +158,8 @@ pub(crate) fn open_market(alloc: Global, value: &Value) -> Result<Option<Opened>
     let Some(header) = read_header(value) else {
         return Ok(None);
     };
-    let (base, hard) = (header.base, header.hard);
-    let (seats, levels, last) = (header.seats, header.levels, header.last);
     // A header's numbers are in their ranges, so that memory alone can lack.
-    let Ok(market) = Market::with_last(alloc, base, hard, seats, levels, last) else {
+    let Ok(market) = Market::with_opening(alloc, header.opening) else {
         return Err(AllocError);
     };
     let extent = header.extent;

@@ -139,9 +139,7 @@ pub fn journal(
     entries: u32,
     forged: bool,
 ) -> Result<Vec<u8>> {
-    let options = shape.options();
-    let (base, hard, last) = (options.base, options.hard, options.last);
-    let mut market = Market::with_last(alloc, base, hard, shape.seats, shape.levels, last)?;
+    let mut market = Market::with_opening(alloc, shape.opening())?;
     let mut journal = Vec::with_capacity(alloc, (entries as usize).saturating_mul(USUAL_LINE))?;
     push_header(alloc, &mut journal, &market)?;
     let mut texts = Texts {

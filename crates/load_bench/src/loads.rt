@@ -11,7 +11,7 @@ use anyhow::Result;
 use byte_devices::TestSource;
 use market_core::Market;
 use market_prog::{run_drive, run_journal, run_replay, run_script};
-use market_types::LastNumber;
+use market_types::{LastNumber, Opening};
 use std::alloc::Global;
 use std::sync::Wait;
 use std::thread::Threads;
@@ -112,9 +112,9 @@ fn work_scripts(
         let script = script(alloc, &mut author, shape.levels, size.count)?;
         let source = &mut TestSource::new(&script);
         let unread = if journals {
-            run_journal(alloc, shape.options(), source, digest)?
+            run_journal(alloc, shape.opening(), source, digest)?
         } else {
-            run_script(alloc, shape.options(), source, digest)?
+            run_script(alloc, shape.opening(), source, digest)?
         };
         digest.mix(unread);
         index = index.wrapping_add(1);
@@ -130,9 +130,7 @@ fn embed_one(
     calls: u32,
     digest: &mut Digest,
 ) -> Result<()> {
-    let options = shape.options();
-    let (base, hard, last) = (options.base, options.hard, options.last);
-    let mut market = Market::with_last(alloc, base, hard, shape.seats, shape.levels, last)?;
+    let mut market = Market::with_opening(alloc, shape.opening())?;
     for _ in 0..calls {
         let call = author.next_call();
         if call.seat.get() < market.seats() {
@@ -162,8 +160,11 @@ fn churn_one(
     calls: u32,
     digest: &mut Digest,
 ) -> Result<()> {
-    let base = shape.base;
-    let mut market = Market::with_last(alloc, base, 65_535, shape.seats, shape.levels, last)?;
+    let opening = Opening {
+        last,
+        ..shape.opening()
+    };
+    let mut market = Market::with_opening(alloc, opening)?;
     let mut churn = Churn::new(dice, shape);
     for _ in 0..calls {
         let call = churn.next_call();

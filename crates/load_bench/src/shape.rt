@@ -1,8 +1,7 @@
 //! The markets of the loads.
 ghost use Rattle.std.specs.Prelude.{◌<◌, ◌≤◌};
 
-use market_prog::MarketOptions;
-use market_types::LastNumber;
+use market_types::Opening;
 
 /// A market, and how many arenas live in it all the time.
 #[derive(Clone, Copy)]
@@ -107,13 +106,7 @@ pub const WORN_LAST: u32 = 1_000;
 
 impl Shape {
     /// What its market is opened with.
-    pub fn options(self) -> MarketOptions {
-        MarketOptions {
-            base: self.base,
-            hard: 65_535,
-            seats: self.seats,
-            levels: self.levels,
-            last: LastNumber::USUAL,
-        }
+    pub fn opening(self) -> Opening {
+        Opening::new(self.base, 65_535, self.seats, self.levels)
     }
 }

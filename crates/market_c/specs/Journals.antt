@@ -15,7 +15,7 @@ use Rattle.market_c.specs.declared.journal.MarketPart.{MarketPart}
 
 -- the header of the journal of a market on these terms
 abbrev pub header_of : Terms → Header
-header_of t = record { base = t.base; hard = t.hard; seats = t.seats; levels = t.levels; last = t.last; extent = Endless }
+header_of t = record { opening = t.opening; extent = Endless }
 
 -- the part ends the legal history that the seat has then seen, its lines are put to the journal's text, and what is told of it is so
 pub record IsCutInto (part : Part) (told : MarketPart) (s t : OfSeat) (u v : OfUnread) : Type 0 where
@@ -23,7 +23,7 @@ pub record IsCutInto (part : Part) (told : MarketPart) (s t : OfSeat) (u v : OfU
   pub cut : HasCut (who s.hand) (Some part) (who t.hand)
   pub legal : IsLegal (opening_of (who t.hand).terms) (who t.hand).seen
   pub ends : EndsWith (who t.hand).seen part.from part.entries.items
-  pub text : text_of v ≡ text_of u ++ entry_lines s.office.terms.levels part.entries.items
+  pub text : text_of v ≡ text_of u ++ entry_lines s.office.terms.opening.levels part.entries.items
   pub from : told.from ≡ part.from
   pub calls : told.calls ≡ length part.entries.items
 

@@ -33,11 +33,7 @@ fn header_on(terms: Terms) -> Header
     ensures exact { result ≡ header_of terms }
 {
     Header {
-        base: terms.base,
-        hard: terms.hard,
-        seats: terms.seats,
-        levels: terms.levels,
-        last: terms.last,
+        opening: terms.opening,
         extent: Extent::Endless,
     }
 }
@@ -59,7 +55,7 @@ fn cut_into(alloc: Global, seat: &mut Seat, unread: &mut Unread) -> Result<Marke
     ensures not { IfErr result (λ code. code ≢ pos 0) }
 {
     let terms = seat.terms();
-    let Ok(spare) = Vec::with_capacity(alloc, terms.seats as usize) else {
+    let Ok(spare) = Vec::with_capacity(alloc, terms.opening.seats as usize) else {
         return Err(NO_MEMORY);
     };
     match seat.try_cut(spare) {
@@ -68,7 +64,7 @@ fn cut_into(alloc: Global, seat: &mut Seat, unread: &mut Unread) -> Result<Marke
                 from: part.from,
                 calls: part.entries.len() as u64,
             };
-            unread.put(terms.levels, part);
+            unread.put(terms.opening.levels, part);
             Ok(told)
         }
         Cutting::Made(None) => Err(NO_PART),

@@ -10,7 +10,7 @@ use crate::code::{BAD_NUMBER, BAD_SEAT, NO_MEMORY, NO_SEAT_LEFT, OK, of_open_fau
 use crate::place::Place;
 use edit_history::{Keeping, Terms};
 use market_seat::{Seat, Unclosed, Unmerged};
-use market_types::LastNumber;
+use market_types::{LastNumber, Opening};
 use std::alloc::Global;
 use std_alloc::room::Vacant;
 
@@ -67,13 +67,16 @@ pub extern "C" fn market_raw_open(alloc: Global, place: &mut Place, terms: &Mark
     let Ok(room) = Vacant::<Seat, Global>::take(alloc) else {
         return NO_MEMORY;
     };
-    let terms = Terms {
+    let opening = Opening {
         base: terms.base,
         hard: terms.hard,
         seats,
-        places: terms.places,
         levels: terms.levels,
         last,
+    };
+    let terms = Terms {
+        opening,
+        places: terms.places,
         keeping,
     };
     match Seat::open(alloc, terms) {
@@ -162,10 +165,10 @@ pub extern "C" fn market_raw_close(
     totals: &mut MarketTotals,
 ) -> i32
     ensures closed { result ≡ pos 0 → IsSomeAnd place.old.held.seat (λ s. (c : Chronicled) × IsGivenBy (opening_of s.office.terms) c × (totals.new.calls ≡ length c.log)) }
-    ensures all { result ≡ pos 0 → IsSomeAnd place.old.held.seat (λ s. length (callers s) ≡ s.office.terms.seats) }
+    ensures all { result ≡ pos 0 → IsSomeAnd place.old.held.seat (λ s. length (callers s) ≡ s.office.terms.opening.seats) }
     ensures empty { result ≡ pos 0 → place.new.held.seat ≡ None }
     ensures none { place.old.held.seat ≡ None → result ≡ negsuc 1 }
-    ensures early { IfSome place.old.held.seat (λ s. length (callers s) ≢ s.office.terms.seats → place_of s.hand ≡ None → result ≡ pos 6) }
+    ensures early { IfSome place.old.held.seat (λ s. length (callers s) ≢ s.office.terms.opening.seats → place_of s.hand ≡ None → result ≡ pos 6) }
     ensures unclosed { result ≢ pos 0 → (place.new.held.seat ≡ place.old.held.seat) × (totals.new ≡ totals.old) }
 {
     let Some((seat, room)) = place.take(alloc) else {

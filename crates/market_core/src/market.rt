@@ -1,8 +1,8 @@
 //! The market, and what can be read of it.
 ghost use Rattle.std.specs.Prelude.{◌≡◌, ◌≤◌, ◌<◌, Some, is_some, length, slice_get, IfOk};
 ghost use Rattle.std.specs.List.{count_by};
-ghost use Rattle.market_types.specs.State.{Arena, opening, opening_to};
-ghost use Rattle.market_types.specs.Opening.{opened_market, opened_market_to, MemoryAside};
+ghost use Rattle.market_types.specs.State.{Arena, opening};
+ghost use Rattle.market_types.specs.Opening.{opened_market, opened_with, opening_with, numbers_of, MemoryAside};
 ghost use Rattle.market_types.specs.Allotment.{limit_of, bound_of};
 ghost use Rattle.market_types.specs.Step.{arena_at, limits_of};
 ghost use Rattle.allotment.specs.Levels.{IsLeveled};
@@ -12,11 +12,11 @@ mod allot;
 mod apply;
 mod order;
 
-use crate::opening::Opening;
+use crate::opening::Numbers;
 use allotment::{bound_is_given_out, no_carry_to_keep};
 use arena_store::Arenas;
 use control_set::ControlSet;
-use market_types::{ArenaId, LastNumber, LimitView, OpenFault, SeatNo};
+use market_types::{ArenaId, LastNumber, LimitView, OpenFault, Opening, SeatNo};
 use recall_hire::Roster;
 use std::alloc::Global;
 use std::marker::Model;
@@ -25,7 +25,7 @@ use std::marker::Model;
 /// seats, and its last and next numbers.
 #[derive(Drop)]
 pub struct Market {
-    opening: Opening,
+    opening: Numbers,
     arenas: Arenas,
     controls: ControlSet,
     roster: Roster,
@@ -60,27 +60,20 @@ impl Market {
         ensures exact { MemoryAside (opened_market base hard seats levels) result }
         ensures opened { IfOk result (λ market. market ≡ opening base hard seats levels) }
     {
-        Market::with_last(alloc, base, hard, seats, levels, LastNumber::USUAL)
+        Market::with_opening(alloc, Opening::new(base, hard, seats, levels))
     }
 
-    /// The same, but that this is the last number of an arena, a stamp and a control. Where none is named it is 1,048,576.
-    pub fn with_last(
-        alloc: Global,
-        base: u32,
-        hard: u32,
-        seats: u8,
-        levels: u32,
-        last: LastNumber,
-    ) -> Result<Self, OpenFault>
-        ensures exact { MemoryAside (opened_market_to base hard seats levels last) result }
-        ensures opened { IfOk result (λ market. market ≡ opening_to base hard seats levels last) }
+    /// The same with these numbers, the last number of an arena, a stamp and a control among them, which is otherwise 1,048,576.
+    pub fn with_opening(alloc: Global, numbers: Opening) -> Result<Self, OpenFault>
+        ensures exact { MemoryAside (opened_with numbers) result }
+        ensures opened { IfOk result (λ market. market ≡ opening_with numbers) }
     {
-        let opening = Opening::checked(base, hard, seats, levels, last)?;
-        let Ok(roster) = Roster::new(alloc, seats) else {
+        numbers.check()?;
+        let Ok(roster) = Roster::new(alloc, numbers.seats) else {
             return Err(OpenFault::Memory);
         };
         Ok(Market {
-            opening,
+            opening: Numbers::of(&numbers),
             arenas: Arenas::new(alloc),
             controls: ControlSet::new(alloc),
             roster,
@@ -88,6 +81,19 @@ impl Market {
             next_stamp: 1,
             nobody_needed: false,
         })
+    }
+
+    /// What it was opened with.
+    pub fn opening(&self) -> Opening
+        ensures { result ≡ numbers_of self.now }
+    {
+        Opening {
+            base: self.base(),
+            hard: self.hard(),
+            seats: self.seats(),
+            levels: self.levels(),
+            last: self.last(),
+        }
     }
 
     /// The value where no control lives, 1 to 65,536: the market's own limit on parallelism.

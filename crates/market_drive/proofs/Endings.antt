@@ -176,7 +176,7 @@ module _ (CanEnd : Ended → Type 0) (terms : Terms) (history : List Entry) wher
 
 -- the terms of an office with a plan's numbers
 abbrev pub terms_with : ℕ → ℕ → ℕ → ℕ → Terms
-terms_with base hard levels workers = record { base = base; hard = hard; seats = 1 + workers; places = 1048576; levels = levels; last = usual_last; keeping = Everything }
+terms_with base hard levels workers = record { opening = record { base = base; hard = hard; seats = 1 + workers; levels = levels; last = usual_last }; places = 1048576; keeping = Everything }
 
 pub terms_are : (p : Planned) (base hard levels workers : ℕ) → base ≡ p.base → hard ≡ p.hard → levels ≡ p.levels → terms_with base hard levels workers ≡ terms_of_plan p workers
 terms_are p base hard levels workers b h l = λ i. terms_with (b i) (h i) (l i) workers

@@ -46,7 +46,7 @@ WasLetThrough passed told d = passed d.number × told d.number
 
 -- the terms of the plan's office, with a seat for who gives the plan's commands and one for each of so many workers
 abbrev pub terms_of_plan : Planned → ℕ → Terms
-terms_of_plan p workers = record { base = p.base; hard = p.hard; seats = 1 + workers; places = 1048576; levels = p.levels; last = usual_last; keeping = Everything }
+terms_of_plan p workers = record { opening = record { base = p.base; hard = p.hard; seats = 1 + workers; levels = p.levels; last = usual_last }; places = 1048576; keeping = Everything }
 
 -- the caller of this seat came with its new pass, and ended so; its calls are all that the office's history has of the seat
 abbrev pub HasEndedAt : Terms → List Entry → ℕ → Ended → Type 0

@@ -28,7 +28,7 @@ use Rattle.market_desk.specs.Forgetting.{forgotten}
 use Rattle.market_lock.specs.declared.view.Cut.{Cut}
 use Rattle.market_lock.specs.declared.view.Known.{Known}
 use Rattle.market_lock.specs.declared.view.View.{View}
-use Rattle.market_lock.specs.declared.view.View.TheVariants.{Idle, Holder}
+use Rattle.market_lock.specs.declared.view.View.TheVariants.{Outside, Holder}
 use Rattle.market_lock.specs.Cutting.{cut_by, IsCutUp}
 use Rattle.market_lock.specs.Views.{opening_of, chronicle_from, chronicle_cut, seats_placed_after, shown, cut, same_cuts, next_cuts}
 use Rattle.market_lock.specs.Rule.{Follows}
@@ -302,9 +302,9 @@ module _ (k : Known) (number room : ℕ) (log : List Entry) (from : ℕ) (cuts :
   )
   cut_told None o = λ keeps roomy few. o.did.out.1 keeps (omega (arith, ap (seats_placed_after k.terms) (cut_log None o), roomy)) (omega (arith, few, ap length (cut_log None o)))
 
-  cut_few : (r : Option Part) → CutOff k number room r log from cuts e s → seats_placed_after k.terms e.log ≤ k.terms.seats
+  cut_few : (r : Option Part) → CutOff k number room r log from cuts e s → seats_placed_after k.terms e.log ≤ k.terms.opening.seats
   cut_few r o =
-      let seats : length (opening_of k.terms).seats ≡ k.terms.seats = length-replicate k.terms.seats None in
+      let seats : length (opening_of k.terms).seats ≡ k.terms.opening.seats = length-replicate k.terms.opening.seats None in
       omega (arith, o.did.few, seats, ap (seats_placed_after k.terms) (cut_log r o))
 
 -- ---- the three steps of a call
@@ -316,7 +316,7 @@ pub may_serve : (m0 m1 : M) (number a : ℕ) → IsTicket (known_of m0.0) number
 may_serve m0 m1 number a ticket t =
     let k : Known = known_of m0.0 in
     let d : Chronicled = chronicle_from k.terms t.0 t.1 in
-    let long : length d.start.seats ≡ k.terms.seats = length-replicate k.terms.seats None in
+    let long : length d.start.seats ≡ k.terms.opening.seats = length-replicate k.terms.opening.seats None in
     let room : number < length d.start.seats = omega (arith, long, ticket.small, ticket.number_is) in
     let own : of_seat number d.log ≡ k.mine = ap (λ n. of_seat n d.log) (sym ticket.number_is) ∙ t.5 in
     (d, t.3 ∙ ap (λ (v : View). (v, (0, d) ∷ [])) (sym (ap (λ (m : M). m.0) t.3)), (room, ticket.counted ∙ ap length (sym own)))
@@ -359,15 +359,15 @@ module _ (k : Known) (number : ℕ) (cmd : Cmd) (r : Result Reply CallFault) (a 
   pub may_give : HoldsDesk m (λ h log from. Follows h log from (same_cuts h log))
   may_give = subst (λ (x : M). HoldsDesk x (λ h log from. Follows h log from (same_cuts h log))) (sym given_back) (o.e.log, o.e.from, refl, follows k number cmd o.log o.from o.cuts o.e a b r o.served)
 
-  pub gave : (n : M) → HasGiven same_cuts m n → n ≡ (Idle (shown k o.e.log o.e.from o.cuts), [])
+  pub gave : (n : M) → HasGiven same_cuts m n → n ≡ (Outside (shown k o.e.log o.e.from o.cuts), [])
   gave n h =
       let same : h.0 ≡ o.e.log = ap (λ (x : M). (get_or x.1 0 (0, o.e)).1.log) (sym h.2 ∙ given_back) in
       let kept : h.1 ≡ o.e.from = ap (λ (x : M). (get_or x.1 0 (0, o.e)).1.from) (sym h.2 ∙ given_back) in
       let knew : known_of m.0 ≡ shown k o.log o.from o.cuts = ap (λ (x : M). known_of x.0) o.holds in
-      h.3 ∙ (λ i. (Idle (shown (knew i) (same i) (kept i) (knew i).cuts), []))
+      h.3 ∙ (λ i. (Outside (shown (knew i) (same i) (kept i) (knew i).cuts), []))
 
-  pub ticket_after : (n : M) → HasGiven same_cuts m n → (n ≡ (Idle (known_of n.0), [])) × IsTicket (known_of n.0) number b
-  ticket_after n h = subst (λ (x : M). (x ≡ (Idle (known_of x.0), [])) × IsTicket (known_of x.0) number b) (sym (gave n h)) (refl, keeps_ticket k number cmd o.log o.from o.cuts o.e a b r o.served)
+  pub ticket_after : (n : M) → HasGiven same_cuts m n → (n ≡ (Outside (known_of n.0), [])) × IsTicket (known_of n.0) number b
+  ticket_after n h = subst (λ (x : M). (x ≡ (Outside (known_of x.0), [])) × IsTicket (known_of x.0) number b) (sym (gave n h)) (refl, keeps_ticket k number cmd o.log o.from o.cuts o.e a b r o.served)
 
   pub extends_after : (n : M) → HasGiven same_cuts m n → (t u : TableId) → IfOk r (λ x. Extends (pass_of t k) cmd x (pass_of u (known_of n.0)))
   extends_after n h t u = subst (λ (x : M). IfOk r (λ y. Extends (pass_of t k) cmd y (pass_of u (known_of x.0)))) (sym (gave n h)) (extends k number cmd o.log o.from o.cuts o.e a b t u r o.served)
@@ -440,15 +440,15 @@ module _ (k : Known) (number room : ℕ) (r : Option Part) (s : ℕ) (m : M) (o 
   cut_may_give = subst (λ (x : M). HoldsDesk x (λ h log from. Follows h log from (next_cuts r h log))) (sym cut_given_back)
       (o.e.log, o.e.from, refl, subst (Follows (shown k o.log o.from o.cuts) o.e.log o.e.from) (sym cuts_are) (cut_follows k number room o.log o.from o.cuts o.e s r o.off))
 
-  cut_gave : (n : M) → HasGiven (next_cuts r) m n → n ≡ (Idle (shown k o.e.log o.e.from all_cuts), [])
+  cut_gave : (n : M) → HasGiven (next_cuts r) m n → n ≡ (Outside (shown k o.e.log o.e.from all_cuts), [])
   cut_gave n h =
       let same : h.0 ≡ o.e.log = ap (λ (x : M). (get_or x.1 0 (0, o.e)).1.log) (sym h.2 ∙ cut_given_back) in
       let kept : h.1 ≡ o.e.from = ap (λ (x : M). (get_or x.1 0 (0, o.e)).1.from) (sym h.2 ∙ cut_given_back) in
       let knew : known_of m.0 ≡ shown k o.log o.from o.cuts = ap (λ (x : M). known_of x.0) o.holds in
-      h.3 ∙ ((λ i. (Idle (shown (knew i) (same i) (kept i) (next_cuts r (knew i) (same i))), [])) ∙ ap (λ (cs : List Cut). (Idle (shown k o.e.log o.e.from cs), [])) cuts_are)
+      h.3 ∙ ((λ i. (Outside (shown (knew i) (same i) (kept i) (next_cuts r (knew i) (same i))), [])) ∙ ap (λ (cs : List Cut). (Outside (shown k o.e.log o.e.from cs), [])) cuts_are)
 
-  pub cut_ticket_after : (n : M) → HasGiven (next_cuts r) m n → (n ≡ (Idle (known_of n.0), [])) × IsTicket (known_of n.0) number s
-  cut_ticket_after n h = subst (λ (x : M). (x ≡ (Idle (known_of x.0), [])) × IsTicket (known_of x.0) number s) (sym (cut_gave n h)) (refl, cut_ticket k number room o.log o.from o.cuts o.e s r o.off)
+  pub cut_ticket_after : (n : M) → HasGiven (next_cuts r) m n → (n ≡ (Outside (known_of n.0), [])) × IsTicket (known_of n.0) number s
+  cut_ticket_after n h = subst (λ (x : M). (x ≡ (Outside (known_of x.0), [])) × IsTicket (known_of x.0) number s) (sym (cut_gave n h)) (refl, cut_ticket k number room o.log o.from o.cuts o.e s r o.off)
 
   pub cut_known_after : (n : M) → HasGiven (next_cuts r) m n → (t u : TableId) → HasCut (pass_of t k) r (pass_of u (known_of n.0))
   cut_known_after n h t u = subst (λ (x : M). HasCut (pass_of t k) r (pass_of u (known_of x.0))) (sym (cut_gave n h)) (cut_known k number room o.log o.from o.cuts o.e s t u r o.off)

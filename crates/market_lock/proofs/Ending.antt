@@ -49,11 +49,11 @@ pub record Ended (key : Terms) (ps qs : List OfPass) (desk : Chronicled) : Type 
   pub fits : (i : ℕ) (k : Known) → get_elem? kept i ≡ some k → Fitting key desk.log cuts k
   pub cut_up : IsCutUp key.keeping desk.log desk.from cuts
   pub parts : (weigh : Cut → ℕ) → parts_of_all weigh kept ≡ sum_by weigh cuts
-  pub all : length kept ≡ key.seats
-  pub strangers : (n : ℕ) → key.seats ≤ n → of_seat n desk.log ≡ []
+  pub all : length kept ≡ key.opening.seats
+  pub strangers : (n : ℕ) → key.opening.seats ≤ n → of_seat n desk.log ≡ []
 
 pub ended_by : (key : Terms) (id : ℕ) (m0 m1 m2 : M) (ps qs : List OfPass) (ws : List ℕ) (xs : List Chronicled) (desk : Chronicled)
-    → m0 ≡ (Closer key [], []) → IsClosing key m1 (kept_of m0.0 ++ taken_in ps) → IsClosing key m2 (kept_of m1.0 ++ taken_in qs) → length ps + length qs ≡ key.seats
+    → m0 ≡ (Closer key [], []) → IsClosing key m1 (kept_of m0.0 ++ taken_in ps) → IsClosing key m2 (kept_of m1.0 ++ taken_in qs) → length ps + length qs ≡ key.opening.seats
     → Final (Seen (Kept key) id m2.0) ws xs → get_elem? xs 0 ≡ some desk → Ended key ps qs desk
 ended_by key id m0 m1 m2 ps qs ws xs desk e0 e1 e2 all final got =
     let first : kept_of m0.0 ≡ [] = ap (λ (m : M). kept_of m.0) e0 in
@@ -61,7 +61,7 @@ ended_by key id m0 m1 m2 ps qs ws xs desk e0 e1 e2 all final got =
     let kept : List Known = taken_in ps ++ taken_in qs in
     let last : m2.0 ≡ Closer key kept = ap (λ (m : M). m.0) e2 ∙ ap (λ l. Closer key (l ++ taken_in qs)) second in
     let closed = subst (λ (v : View). Final (Seen (Kept key) id v) ws xs) last final in
-    let long : length kept ≡ key.seats = omega (arith, all, length-append (taken_in ps) (taken_in qs), long_taken ps, long_taken qs) in
+    let long : length kept ≡ key.opening.seats = omega (arith, all, length-append (taken_in ps) (taken_in qs), long_taken ps, long_taken qs) in
     let en = ends_it key id key kept ws xs (omega (arith, long)) closed in
     let log : List Entry = en.0 in
     let same : chronicle_from key log en.1 ≡ desk = some-injective (chronicle_from key log en.1) desk (ap (λ (l : List Chronicled). get_elem? l 0) (sym en.3) ∙ got) in
@@ -75,7 +75,7 @@ ended_by key id m0 m1 m2 ps qs ws xs desk e0 e1 e2 all final got =
       cut_up = subst (λ (x : Chronicled). IsCutUp key.keeping x.log x.from en.2) same en.6;
       parts = en.7;
       all = long;
-      strangers = subst (λ (x : Chronicled). (n : ℕ) → key.seats ≤ n → of_seat n x.log ≡ []) same en.8;
+      strangers = subst (λ (x : Chronicled). (n : ℕ) → key.opening.seats ≤ n → of_seat n x.log ≡ []) same en.8;
     }
 
 parts_added : (weigh : Cut → ℕ) (ks : List Known) → parts_of_all weigh ks ≡ added (parts_of weigh) ks
@@ -118,9 +118,9 @@ module _ (key : Terms) (ps qs : List OfPass) (desk : Chronicled) (o : Ended key 
   }
 
   -- it has as many seats as it was opened with
-  pub seats_kept : (market : State) → market ≡ market_of desk → HasNumbersOf desk.start market → length (market_of desk).seats ≡ key.seats
+  pub seats_kept : (market : State) → market ≡ market_of desk → HasNumbersOf desk.start market → length (market_of desk).seats ≡ key.opening.seats
   seats_kept market is numbers =
-      ap (λ (s : State). length s.seats) (sym is) ∙ (numbers.seats ∙ (ap (λ (s : State). length s.seats) started ∙ length-replicate key.seats None))
+      ap (λ (s : State). length s.seats) (sym is) ∙ (numbers.seats ∙ (ap (λ (s : State). length s.seats) started ∙ length-replicate key.opening.seats None))
 
 -- a legal history places a seat where the seat's own entries say
 abbrev pub OwnPlaces : Type 0
@@ -132,18 +132,18 @@ module _ (key : Terms) (ps : List OfPass) (qs : List OfPlaced) (desk : Chronicle
   -- the history has as many entries as the callers have together
   pub all_calls : length desk.log ≡ sum_by (λ (p : OfPass). length p.mine) ps + sum_by (λ (q : OfPlaced). length q.who.mine) qs
   all_calls =
-      let counted = entries_counted desk.log key.seats o.strangers in
-      let seats = all_seats (λ s. length (of_seat s desk.log)) o.kept key.seats (λ i k e. (o.fits i k e).2) o.once o.all in
+      let counted = entries_counted desk.log key.opening.seats o.strangers in
+      let seats = all_seats (λ s. length (of_seat s desk.log)) o.kept key.opening.seats (λ i k e. (o.fits i k e).2) o.once o.all in
       let own = added_same (λ k. length (of_seat k.seat desk.log)) (λ k. length k.mine) o.kept (λ i k e. ap length (o.fits i k e).1) in
       omega (arith, counted, seats, own, added_all (λ k. length k.mine) o.kept ps qs o.kept_is)
 
-  module _ (law : OwnPlaces) (legal : IsLegal desk.start desk.log) (long : length (market_of desk).seats ≡ key.seats)
+  module _ (law : OwnPlaces) (legal : IsLegal desk.start desk.log) (long : length (market_of desk).seats ≡ key.opening.seats)
       (none' : All (λ (p : OfPass). own_place p.mine ≡ None) ps) (some' : All (λ (q : OfPlaced). own_place q.who.mine ≡ Some q.arena) qs) where
     there : (i : ℕ) (k : Known) → get_elem? o.kept i ≡ some k → (k.seat < length (market_of desk).seats) × (place_of (market_of desk) k.seat ≡ own_place k.mine)
     there i k e =
         let f = o.fits i k e in
         let begun : IsLegal (opening_of key) desk.log = subst (λ (s : State). IsLegal s desk.log) (started key ps (whos qs) desk o) legal in
-        let at : place_of (state_after (opening_of key) (calls_of desk.log)) k.seat ≡ place_in k.seat desk.log = law key.base key.hard key.seats key.levels key.last k.seat desk.log begun f.2 in
+        let at : place_of (state_after (opening_of key) (calls_of desk.log)) k.seat ≡ place_in k.seat desk.log = law key.opening.base key.opening.hard key.opening.seats key.opening.levels key.opening.last k.seat desk.log begun f.2 in
         let moved : place_of (market_of desk) k.seat ≡ place_of (state_after (opening_of key) (calls_of desk.log)) k.seat =
         ap (λ (s : State). place_of (state_after s (calls_of desk.log)) k.seat) (started key ps (whos qs) desk o) in
         (omega (arith, long, f.2), moved ∙ (at ∙ ap own_place f.1))

@@ -18,9 +18,9 @@ use Rattle.market_lock.specs.Seen.{OfOffice}
 abbrev pub NeverFull : Type 0
 NeverFull = (c : Chronicled) (seat : ℕ) (cmd : Cmd) → c.from ≡ length c.log → length c.start.seats + 2 ≤ c.places → LacksPlaces c seat cmd → ⊥
 
-pub endless-by : NeverFull → (t : Terms) → t.keeping ≡ Nothing → t.seats + 2 ≤ t.places → IsEndless t
+pub endless-by : NeverFull → (t : Terms) → t.keeping ≡ Nothing → t.opening.seats + 2 ≤ t.places → IsEndless t
 endless-by law t keeps places log seat cmd few lacks =
-    let seats : length (opening_of t).seats ≡ t.seats = length-replicate t.seats None in
+    let seats : length (opening_of t).seats ≡ t.opening.seats = length-replicate t.opening.seats None in
     let from : forgotten t.keeping (length log) 0 ≡ length log = ap (λ (k : Keeping). forgotten k (length log) 0) keeps ∙ min-eq_left few in
     law (chronicle_of t log) seat cmd from (omega (arith, seats, places)) lacks
 

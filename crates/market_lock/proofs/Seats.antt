@@ -5,7 +5,7 @@ use lib.ListN.{get_elem?}
 use Rattle.atomic_table.proofs.Lists.{at_set}
 use Rattle.market_lock.specs.declared.view.Cut.{Cut}
 use Rattle.market_lock.specs.declared.view.View.{View}
-use Rattle.market_lock.specs.declared.view.View.TheVariants.{Opener, Idle, Holder, Closer, Spent}
+use Rattle.market_lock.specs.declared.view.View.TheVariants.{Opener, Outside, Holder, Closer, Spent}
 use Rattle.market_lock.specs.Rule.{seat_of, weight, parts_in, total, Apart, IsGone}
 use Rattle.market_lock.proofs.Fronts.{at_snoc}
 
@@ -63,7 +63,7 @@ module _ (weigh : Cut → ℕ) where
   -- a view that stands for no pass has no parts
   light : (v : View) → weight v ≡ 0 → parts_in weigh v ≡ 0
   light (Opener t n) e = refl
-  light (Idle k) e = absurd (omega (arith, e))
+  light (Outside k) e = absurd (omega (arith, e))
   light (Holder k) e = absurd (omega (arith, e))
   light (Closer t []) e = refl
   light (Closer t (k ∷ ks)) e = absurd (omega (arith, e))

@@ -19,7 +19,7 @@ use Rattle.market_desk.specs.Forgetting.{forgotten}
 use Rattle.market_lock.specs.declared.view.Cut.{Cut}
 use Rattle.market_lock.specs.declared.view.Known.{Known}
 use Rattle.market_lock.specs.declared.view.View.{View}
-use Rattle.market_lock.specs.declared.view.View.TheVariants.{Opener, Idle, Holder, Closer, Spent}
+use Rattle.market_lock.specs.declared.view.View.TheVariants.{Opener, Outside, Holder, Closer, Spent}
 use Rattle.market_lock.specs.Cutting.{cut_by, IsCutUp}
 use Rattle.market_lock.specs.Views.{known, shown, chronicle_from}
 use Rattle.market_lock.specs.Seen.{known_of}
@@ -41,7 +41,7 @@ module _ (terms : Terms) where
   -- while the word is 0 nobody is holder, so it may change with the holder
   free_fits : (made opener : ℕ) (log : List Entry) (cuts : List Cut) (n holder n' holder' j : ℕ) (v : View) → n ≡ 0 → Fits terms made opener log cuts n holder j v → Fits terms made opener log cuts n' holder' j v
   free_fits made opener log cuts n holder n' holder' j (Opener t m) is f = f
-  free_fits made opener log cuts n holder n' holder' j (Idle k) is f = f
+  free_fits made opener log cuts n holder n' holder' j (Outside k) is f = f
   free_fits made opener log cuts n holder n' holder' j (Holder k) is f = absurd (f.4 is)
   free_fits made opener log cuts n holder n' holder' j (Closer t kept) is f = f
   free_fits made opener log cuts n holder n' holder' j Spent is f = f
@@ -51,12 +51,12 @@ module _ (terms : Terms) where
   unmoved s id v cs r at = subst (λ (t : List ℕ × List View). Kept terms record { words = t.0; homes = s.homes; views = t.1 }) (λ i. (sym (set-get_or s.words 0 0) i, sym (set_again s.views id v at) i)) r
 
   -- the desk goes out
-  taken : (s : St) (r : Kept terms s) (id : ℕ) (k : Known) → get_elem? s.views id ≡ some (Idle k) → word s ≡ 0
+  taken : (s : St) (r : Kept terms s) (id : ℕ) (k : Known) → get_elem? s.views id ≡ some (Outside k) → word s ≡ 0
       → Kept terms record { words = set s.words 0 1; homes = set s.homes 0 none; views = set s.views id (Holder (shown k r.log r.from r.cuts)) }
   taken s r id k at is =
       let w : View = Holder (shown k r.log r.from r.cuts) in
       let one : get_or (set s.words 0 1) 0 0 ≡ 1 = let wide = r.one_word in get_or-set_same s.words 0 1 0 (omega arith) in
-      let knows : Knows terms r.made r.log r.cuts k = r.each id (Idle k) at in
+      let knows : Knows terms r.made r.log r.cuts k = r.each id (Outside k) at in
       record {
         log = r.log;
         from = r.from;
@@ -66,43 +66,43 @@ module _ (terms : Terms) where
         holder = id;
         one_word = length-set s.words 0 1 ∙ r.one_word;
         home = λ e. absurd (omega arith);
-        away = λ _. (shown k r.log r.from r.cuts, set_here s.views id w (there s.views id (Idle k) at));
+        away = λ _. (shown k r.log r.from r.cuts, set_here s.views id w (there s.views id (Outside k) at));
         each = each_set (Fits terms r.made r.opener r.log r.cuts (get_or (set s.words 0 1) 0 0) id) s.views id w
             (record { from = knows.from; below = knows.below; front = prefix_self r.log; own = refl; cut_front = prefix_self r.cuts; cut_own = refl }, refl, refl, refl, λ e. omega arith)
             (λ j v _ p. free_fits r.made r.opener r.log r.cuts (word s) r.holder (get_or (set s.words 0 1) 0 0) id j v is (r.each j v p));
         marks = each_set (λ _. Marks r.from) s.views id w refl (λ j v _ p. r.marks j v p);
-        apart = apart_set s.views id (Idle k) w at (λ n e. e) r.apart;
+        apart = apart_set s.views id (Outside k) w at (λ n e. e) r.apart;
         keeps = λ j t kept p. each_set (λ j v. v ≡ Closer t kept → (i : ℕ) (x : Known) → get_elem? kept i ≡ some x → Knows terms r.made r.log r.cuts x × IsGone (set s.views id w) x.seat) s.views id w
             (λ e. absurd cc)
-            (λ j v _ q e i x h. let old = r.keeps j t kept (q ∙ ap some e) i x h in (old.0, gone_set s.views id (Idle k) w x.seat at (λ n e. e) old.1)) j (Closer t kept) p refl;
+            (λ j v _ q e i x h. let old = r.keeps j t kept (q ∙ ap some e) i x h in (old.0, gone_set s.views id (Outside k) w x.seat at (λ n e. e) old.1)) j (Closer t kept) p refl;
         once = λ j t kept p. each_set (λ j v. v ≡ Closer t kept → Once kept) s.views id w (λ e. absurd cc) (λ j v _ q e. r.once j t kept (q ∙ ap some e)) j (Closer t kept) p refl;
         strangers = r.strangers;
-        counted = let sum = total_set weight s.views id (Idle k) w at in let old = r.counted in omega arith;
+        counted = let sum = total_set weight s.views id (Outside k) w at in let old = r.counted in omega arith;
         enough = r.enough;
         cut_up = r.cut_up;
         no_parts = r.no_parts;
-        parted = λ weigh. omega (arith, total_set (parts_in weigh) s.views id (Idle k) w at, r.parted weigh, ap (sum_by weigh) knows.cut_own);
+        parted = λ weigh. omega (arith, total_set (parts_in weigh) s.views id (Outside k) w at, r.parted weigh, ap (sum_by weigh) knows.cut_own);
       }
 
   -- a take, which wins or loses
-  pub takes_it : (slots id : ℕ) (m : M) (k : Known) → m ≡ (Idle k, []) → Allows (Kept terms) slots id m 0 (λ n. either (eqb n 0) 1 n) (Takes (step slots 0 0 1 none) m)
+  pub takes_it : (slots id : ℕ) (m : M) (k : Known) → m ≡ (Outside k, []) → Allows (Kept terms) slots id m 0 (λ n. either (eqb n 0) 1 n) (Takes (step slots 0 0 1 none) m)
   takes_it slots id m k is = subst (λ (m : M). Allows (Kept terms) slots id m 0 (λ n. either (eqb n 0) 1 n) (Takes (step slots 0 0 1 none) m)) (sym is) (λ s r wide at small. dite (ℕ_discrete (word s) 0)
       (λ free.
-      let knows : Knows terms r.made r.log r.cuts k = r.each id (Idle k) at in
+      let knows : Knows terms r.made r.log r.cuts k = r.each id (Outside k) at in
       let d : Chronicled = chronicle_from k.terms r.log r.from in
       let home : s.homes ≡ some d ∷ [] = r.home free ∙ ap (λ (t : Terms). some (chronicle_from t r.log r.from) ∷ []) (sym knows.from) in (
         Holder (shown k r.log r.from r.cuts),
         takes 0 d,
         ap (λ (l : List (Option Chronicled)). get_elem? l 0) home,
         subst (λ b. Kept terms (stepped s 0 (either b 1 (word s)) id [] (Holder (shown k r.log r.from r.cuts)) (takes 0 d))) (sym (eq-eqb (word s) 0 free)) (taken s r id k at free),
-        λ k' e. let same : k ≡ k' = ap (λ (x : M). known_of x.0) e in subst (λ (x : Known). Wins (Idle k, []) x (word s) (Holder (shown k r.log r.from r.cuts), (0, d) ∷ [])) same
-            ((λ _. (r.log, r.from, r.cuts, refl, knows.front, knows.own, r.marks id (Idle k) at, knows.cut_front, knows.cut_own, subst (λ (t : Terms). IsCutUp t.keeping r.log r.from r.cuts) (sym knows.from) r.cut_up)), λ ne. absurd (ne free)),
+        λ k' e. let same : k ≡ k' = ap (λ (x : M). known_of x.0) e in subst (λ (x : Known). Wins (Outside k, []) x (word s) (Holder (shown k r.log r.from r.cuts), (0, d) ∷ [])) same
+            ((λ _. (r.log, r.from, r.cuts, refl, knows.front, knows.own, r.marks id (Outside k) at, knows.cut_front, knows.cut_own, subst (λ (t : Terms). IsCutUp t.keeping r.log r.from r.cuts) (sym knows.from) r.cut_up)), λ ne. absurd (ne free)),
       ))
       (λ busy. (
-        Idle k,
+        Outside k,
         keeps,
         tt,
-        subst (λ b. Kept terms (stepped s 0 (either b 1 (word s)) id [] (Idle k) keeps)) (sym (ne_eqb (word s) 0 busy)) (unmoved s id (Idle k) [] r at),
+        subst (λ b. Kept terms (stepped s 0 (either b 1 (word s)) id [] (Outside k) keeps)) (sym (ne_eqb (word s) 0 busy)) (unmoved s id (Outside k) [] r at),
         λ k' e. ((λ z. absurd (busy z)), λ _. refl),
       )))
 
@@ -124,7 +124,7 @@ module _ (terms : Terms) where
       → IsPrefix cuts plus → ((x : ℕ) → x ≢ me.seat → cut_by x plus ≡ cut_by x cuts)
       → (v : View) → ((x : ℕ) → seat_of v ≡ some x → x ≢ me.seat) → Fits terms made opener log cuts n id j v → Fits terms made opener more plus n' holder' j v
   others_fit made opener log more cuts plus n id n' holder' j me ne front same parts alike (Opener t m) away f = f
-  others_fit made opener log more cuts plus n id n' holder' j me ne front same parts alike (Idle k) away f =
+  others_fit made opener log more cuts plus n id n' holder' j me ne front same parts alike (Outside k) away f =
       still_knows made log more cuts plus k front (same k.seat (away k.seat refl)) parts (alike k.seat (away k.seat refl)) f
   others_fit made opener log more cuts plus n id n' holder' j me ne front same parts alike (Holder k) away f = absurd (ne f.3)
   others_fit made opener log more cuts plus n id n' holder' j me ne front same parts alike (Closer t kept) away f = f
@@ -133,7 +133,7 @@ module _ (terms : Terms) where
   -- what another view knows of the last cut stays so, where there is a later one
   marks_after : (from more j id : ℕ) (v : View) → from ≤ more → ((k : Known) → v ≡ Holder k → ⊥) → Marks from v → Marks more v
   marks_after from more j id (Opener t m) later none' h = tt
-  marks_after from more j id (Idle k) later none' h = omega (arith, h, later)
+  marks_after from more j id (Outside k) later none' h = omega (arith, h, later)
   marks_after from more j id (Holder k) later none' h = absurd (none' k refl)
   marks_after from more j id (Closer t kept) later none' h = tt
   marks_after from more j id Spent later none' h = tt
@@ -143,9 +143,9 @@ module _ (terms : Terms) where
 
   -- the desk comes home
   given : (s : St) (r : Kept terms s) (id : ℕ) (k : Known) (log : List Entry) (from : ℕ) (cuts : List Cut) → length s.homes ≡ 1 → get_elem? s.views id ≡ some (Holder k) → Follows k log from cuts
-      → Kept terms record { words = set s.words 0 0; homes = set s.homes 0 (some (chronicle_from k.terms log from)); views = set s.views id (Idle (shown k log from cuts)) }
+      → Kept terms record { words = set s.words 0 0; homes = set s.homes 0 (some (chronicle_from k.terms log from)); views = set s.views id (Outside (shown k log from cuts)) }
   given s r id k log from cuts one at goes =
-      let w : View = Idle (shown k log from cuts) in
+      let w : View = Outside (shown k log from cuts) in
       let later : r.from ≤ from = let mark : k.from ≡ r.from = r.marks id (Holder k) at in omega (arith, mark, goes.later) in
       let f : Fits terms r.made r.opener r.log r.cuts (word s) r.holder id (Holder k) = r.each id (Holder k) at in
       let zero : get_or (set s.words 0 0) 0 0 ≡ 0 = let wide = r.one_word in get_or-set_same s.words 0 0 0 (omega arith) in
@@ -188,7 +188,7 @@ module _ (terms : Terms) where
   pub gives_it : (next : Known → List Entry → List Cut) (slots id : ℕ) (m : M) (k : Known) (log : List Entry) (from : ℕ) → slots ≡ 1 → m ≡ (Holder k, (0, chronicle_from k.terms log from) ∷ []) → Follows k log from (next k log)
       → Allows (Kept terms) slots id m 0 (λ _. 0) (λ _. GivesAs next (step slots 0 0 0 none) m 0)
   gives_it next slots id m k log from one is goes = subst (λ (m : M). Allows (Kept terms) slots id m 0 (λ _. 0) (λ _. GivesAs next (step slots 0 0 0 none) m 0)) (sym is) (λ s r wide at small. (
-    Idle (shown k log from (next k log)),
+    Outside (shown k log from (next k log)),
     gives,
     tt,
     given s r id k log from (next k log) (wide ∙ one) at goes,
@@ -196,7 +196,7 @@ module _ (terms : Terms) where
         let same : k ≡ k' = ap (λ (x : M). known_of x.0) e in
         let other : log ≡ log' = ap (λ (x : M). (get_or x.1 0 (0, chronicle_from k.terms log from)).1.log) e in
         let cut : from ≡ from' = ap (λ (x : M). (get_or x.1 0 (0, chronicle_from k.terms log from)).1.from) e in
-        λ i. (Idle (shown (same i) (other i) (cut i) (next (same i) (other i))), []),
+        λ i. (Outside (shown (same i) (other i) (cut i) (next (same i) (other i))), []),
   ))
 
   more_made : (made : ℕ) (log : List Entry) (cuts : List Cut) (k : Known) → Knows terms made log cuts k → Knows terms (made + 1) log cuts k
@@ -204,14 +204,14 @@ module _ (terms : Terms) where
 
   more_fits : (made opener : ℕ) (log : List Entry) (cuts : List Cut) (n holder j : ℕ) (v : View) → j ≢ opener → Fits terms made opener log cuts n holder j v → Fits terms (made + 1) opener log cuts n holder j v
   more_fits made opener log cuts n holder j (Opener t m) ne f = absurd (ne f.2)
-  more_fits made opener log cuts n holder j (Idle k) ne f = more_made made log cuts k f
+  more_fits made opener log cuts n holder j (Outside k) ne f = more_made made log cuts k f
   more_fits made opener log cuts n holder j (Holder k) ne f = (more_made made log cuts k f.0, f.1, f.2, f.3, f.4)
   more_fits made opener log cuts n holder j (Closer t kept) ne f = f
   more_fits made opener log cuts n holder j Spent ne f = tt
 
   fits_below : (made opener : ℕ) (log : List Entry) (cuts : List Cut) (n holder j m : ℕ) (v : View) → Fits terms made opener log cuts n holder j v → seat_of v ≡ some m → m < made
   fits_below made opener log cuts n holder j m (Opener t c) f e = absurd cc
-  fits_below made opener log cuts n holder j m (Idle k) f e = let same : k.seat ≡ m = some-injective k.seat m e in let b = f.below in omega arith
+  fits_below made opener log cuts n holder j m (Outside k) f e = let same : k.seat ≡ m = some-injective k.seat m e in let b = f.below in omega arith
   fits_below made opener log cuts n holder j m (Holder k) f e = let same : k.seat ≡ m = some-injective k.seat m e in let b = f.0.below in omega arith
   fits_below made opener log cuts n holder j m (Closer t kept) f e = absurd cc
   fits_below made opener log cuts n holder j m Spent f e = absurd cc
@@ -242,10 +242,10 @@ module _ (terms : Terms) where
 
   -- ---- a pass more
   module _ (t : Terms) (n : ℕ) where
-    pub splits_it : (id : ℕ) → n < terms.seats → Splits (Kept terms) id (Opener t n) (Opener t (n + 1)) (Idle (known t n [] 0 [] []))
+    pub splits_it : (id : ℕ) → n < terms.opening.seats → Splits (Kept terms) id (Opener t n) (Opener t (n + 1)) (Outside (known t n [] 0 [] []))
     splits_it id room s r at =
         let left : View = Opener t (n + 1) in
-        let right : View = Idle (known t n [] 0 [] []) in
+        let right : View = Outside (known t n [] 0 [] []) in
         let f : Fits terms r.made r.opener r.log r.cuts (word s) r.holder id (Opener t n) = r.each id (Opener t n) at in
         let vs : List View = set s.views id left in
         let below : (j m : ℕ) (v : View) → get_elem? s.views j ≡ some v → seat_of v ≡ some m → m < n = λ j m v p e. subst (λ (x : ℕ). m < x) (sym f.1) (number_below s r j m v p e) in
@@ -337,18 +337,18 @@ module _ (terms : Terms) where
   parts_last weigh [] k = omega arith
   parts_last weigh (x ∷ xs) k = let rest = parts_last weigh xs k in omega arith
 
-  pub joins_it : (id other : ℕ) (t : Terms) (kept : List Known) (k : Known) → Joins (Kept terms) id (Closer t kept) other (Idle k) (Closer t (kept ++ k ∷ [])) Spent
+  pub joins_it : (id other : ℕ) (t : Terms) (kept : List Known) (k : Known) → Joins (Kept terms) id (Closer t kept) other (Outside k) (Closer t (kept ++ k ∷ [])) Spent
   joins_it id other t kept k s r at ne there' =
       let w : View = Closer t (kept ++ k ∷ []) in
       let vs : List View = set s.views id w in
       let us : List View = set vs other Spent in
-      let old_there : get_elem? s.views other ≡ some (Idle k) = sym (set_else s.views id other w ne) ∙ there' in
+      let old_there : get_elem? s.views other ≡ some (Outside k) = sym (set_else s.views id other w ne) ∙ there' in
       let f : Fits terms r.made r.opener r.log r.cuts (word s) r.holder id (Closer t kept) = r.each id (Closer t kept) at in
-      let mine : Knows terms r.made r.log r.cuts k = r.each other (Idle k) old_there in
-      let gone : (n : ℕ) → IsGone s.views n → IsGone us n = λ n g. gone_set vs other (Idle k) Spent n there' (λ n e. absurd cc) (gone_set s.views id (Closer t kept) w n at (λ n e. absurd cc) g) in
+      let mine : Knows terms r.made r.log r.cuts k = r.each other (Outside k) old_there in
+      let gone : (n : ℕ) → IsGone s.views n → IsGone us n = λ n g. gone_set vs other (Outside k) Spent n there' (λ n e. absurd cc) (gone_set s.views id (Closer t kept) w n at (λ n e. absurd cc) g) in
       let now : IsGone us k.seat =
       each_set (λ j v. seat_of v ≢ some k.seat) vs other Spent (λ e. absurd cc)
-      (λ j v apart p. each_set (λ j v. j ≢ other → seat_of v ≢ some k.seat) s.views id w (λ _ e. absurd cc) (λ j v _ p apart e. apart (r.apart j other k.seat v (Idle k) p old_there e refl)) j v p apart) in
+      (λ j v apart p. each_set (λ j v. j ≢ other → seat_of v ≢ some k.seat) s.views id w (λ _ e. absurd cc) (λ j v _ p apart e. apart (r.apart j other k.seat v (Outside k) p old_there e refl)) j v p apart) in
       let fits : (j : ℕ) (v : View) → get_elem? vs j ≡ some v → Fits terms r.made r.opener r.log r.cuts (word s) r.holder j v = each_set (Fits terms r.made r.opener r.log r.cuts (word s) r.holder) s.views id w f (λ j v _ p. r.each j v p) in
       record {
         log = r.log;
@@ -366,7 +366,7 @@ module _ (terms : Terms) where
         );
         each = each_set (Fits terms r.made r.opener r.log r.cuts (word s) r.holder) vs other Spent tt (λ j v _ p. fits j v p);
         marks = each_set (λ _. Marks r.from) vs other Spent tt (λ j v _ p. each_set (λ _. Marks r.from) s.views id w tt (λ j v _ p. r.marks j v p) j v p);
-        apart = apart_set vs other (Idle k) Spent there' (λ n e. absurd cc) (apart_set s.views id (Closer t kept) w at (λ n e. absurd cc) r.apart);
+        apart = apart_set vs other (Outside k) Spent there' (λ n e. absurd cc) (apart_set s.views id (Closer t kept) w at (λ n e. absurd cc) r.apart);
         keeps = λ j u all p. each_set (λ j v. v ≡ Closer u all → (i : ℕ) (x : Known) → get_elem? all i ≡ some x → Knows terms r.made r.log r.cuts x × IsGone us x.seat) vs other Spent
             (λ e. absurd cc)
             (λ j v _ p. each_set (λ j v. v ≡ Closer u all → (i : ℕ) (x : Known) → get_elem? all i ≡ some x → Knows terms r.made r.log r.cuts x × IsGone us x.seat) s.views id w
@@ -378,20 +378,20 @@ module _ (terms : Terms) where
         once = λ j u all p. each_set (λ j v. v ≡ Closer u all → Once all) vs other Spent
             (λ e. absurd cc)
             (λ j v _ p. each_set (λ j v. v ≡ Closer u all → Once all) s.views id w
-            (λ e. let same : kept ++ k ∷ [] ≡ all = cc in subst Once same (once_snoc kept k (r.once id t kept at) (λ i x q is. (r.keeps id t kept at i x q).1 other (Idle k) old_there (ap some (sym is)))))
+            (λ e. let same : kept ++ k ∷ [] ≡ all = cc in subst Once same (once_snoc kept k (r.once id t kept at) (λ i x q is. (r.keeps id t kept at i x q).1 other (Outside k) old_there (ap some (sym is)))))
             (λ j v _ q e. r.once j u all (q ∙ ap some e)) j v p) j (Closer u all) p refl;
         strangers = r.strangers;
-        counted = let one = total_set weight s.views id (Closer t kept) w at in let two = total_set weight vs other (Idle k) Spent there' in let old = r.counted in let more = length-append kept (k ∷ []) in omega arith;
+        counted = let one = total_set weight s.views id (Closer t kept) w at in let two = total_set weight vs other (Outside k) Spent there' in let old = r.counted in let more = length-append kept (k ∷ []) in omega arith;
         enough = r.enough;
         cut_up = r.cut_up;
         no_parts = r.no_parts;
-        parted = λ weigh. omega (arith, total_set (parts_in weigh) s.views id (Closer t kept) w at, total_set (parts_in weigh) vs other (Idle k) Spent there', r.parted weigh, parts_last weigh kept k);
+        parted = λ weigh. omega (arith, total_set (parts_in weigh) s.views id (Closer t kept) w at, total_set (parts_in weigh) vs other (Outside k) Spent there', r.parted weigh, parts_last weigh kept k);
       }
 
   -- ---- the end
-  pub ends_it : (id : ℕ) (t : Terms) (kept : List Known) (ws : List ℕ) (xs : List Chronicled) → terms.seats ≤ length kept → Final (Seen (Kept terms) id (Closer t kept)) ws xs
+  pub ends_it : (id : ℕ) (t : Terms) (kept : List Known) (ws : List ℕ) (xs : List Chronicled) → terms.opening.seats ≤ length kept → Final (Seen (Kept terms) id (Closer t kept)) ws xs
       → (log : List Entry) × (from : ℕ) × (cuts : List Cut) × (xs ≡ chronicle_from terms log from ∷ []) × Once kept × ((i : ℕ) (k : Known) → get_elem? kept i ≡ some k → Fitting terms log cuts k)
-      × IsCutUp terms.keeping log from cuts × ((weigh : Cut → ℕ) → parts_of_all weigh kept ≡ sum_by weigh cuts) × ((n : ℕ) → terms.seats ≤ n → of_seat n log ≡ [])
+      × IsCutUp terms.keeping log from cuts × ((weigh : Cut → ℕ) → parts_of_all weigh kept ≡ sum_by weigh cuts) × ((n : ℕ) → terms.opening.seats ≤ n → of_seat n log ≡ [])
   ends_it id t kept ws xs all (s, r, same_words, long, values) =
       let k = r.0 in let at = r.1 in
       let free : word s ≡ 0 = dite (ℕ_discrete (word s) 0) (λ z. z) (λ busy. let h = k.away busy in

@@ -12,13 +12,13 @@ use Rattle.edit_history.specs.declared.terms.Terms.{Terms}
 use Rattle.market_lock.specs.declared.view.Cut.{Cut}
 use Rattle.market_lock.specs.declared.view.Known.{Known}
 use Rattle.market_lock.specs.declared.view.View.{View}
-use Rattle.market_lock.specs.declared.view.View.TheVariants.{Idle, Holder, Closer}
+use Rattle.market_lock.specs.declared.view.View.TheVariants.{Outside, Holder, Closer}
 use Rattle.market_lock.specs.Cutting.{cut_by, IsCutUp}
 use Rattle.market_lock.specs.Views.{opening_of, shown, known, chronicle_from, seats_placed_after}
 use Rattle.market_lock.specs.Seen.{known_of, OfPass, OfPlaced}
 
-abbrev pub IsIdle : Me Chronicled View → Type 0
-IsIdle m = m ≡ (Idle (known_of m.0), [])
+abbrev pub IsOutside : Me Chronicled View → Type 0
+IsOutside m = m ≡ (Outside (known_of m.0), [])
 
 -- it has the desk, with a history that begins with all that it had seen
 abbrev pub HasTaken : Me Chronicled View → Me Chronicled View → Type 0
@@ -37,7 +37,7 @@ HoldsDesk m P = (log : List Entry) × (from : ℕ) × (m ≡ (Holder (known_of m
 -- it has given the desk back, and what was cut out since is `next` of what it knew
 abbrev pub HasGiven : (Known → List Entry → List Cut) → Me Chronicled View → Me Chronicled View → Type 0
 HasGiven next m n = let k = known_of m.0 in
-    (log : List Entry) × (from : ℕ) × (m ≡ (Holder k, (0, chronicle_from k.terms log from) ∷ [])) × (n ≡ (Idle (shown k log from (next k log)), []))
+    (log : List Entry) × (from : ℕ) × (m ≡ (Holder k, (0, chronicle_from k.terms log from) ∷ [])) × (n ≡ (Outside (shown k log from (next k log)), []))
 
 -- who knows l, and knew k before, has a part that ends its history, of which no entry is kept then; or it has none, and could not have one by a spare with so much room
 abbrev pub HasPart : Known → Known → ℕ → Option Part → Type 0
@@ -51,7 +51,7 @@ pub record IsSeenCut (k l : Known) (room : ℕ) (r : Option Part) : Type 0 where
   pub seat : l.seat ≡ k.seat
   pub legal : IsLegal (opening_of k.terms) l.seen
   pub later : k.from ≤ l.from
-  pub few : seats_placed_after k.terms l.seen ≤ k.terms.seats
+  pub few : seats_placed_after k.terms l.seen ≤ k.terms.opening.seats
   pub told : HasPart k l room r
 
 abbrev pub kept_of : View → List Known

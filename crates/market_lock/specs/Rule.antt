@@ -11,7 +11,7 @@ use Rattle.edit_history.specs.declared.terms.Terms.{Terms}
 use Rattle.market_lock.specs.declared.view.Cut.{Cut}
 use Rattle.market_lock.specs.declared.view.Known.{Known}
 use Rattle.market_lock.specs.declared.view.View.{View}
-use Rattle.market_lock.specs.declared.view.View.TheVariants.{Opener, Idle, Holder, Closer, Spent}
+use Rattle.market_lock.specs.declared.view.View.TheVariants.{Opener, Outside, Holder, Closer, Spent}
 use Rattle.market_lock.specs.Cutting.{cut_by, IsCutUp}
 use Rattle.market_lock.specs.Views.{shown, same_cuts, more_cuts, terms_of, chronicle_from}
 
@@ -26,13 +26,13 @@ pub record Knows (terms : Terms) (made : ℕ) (log : List Entry) (cuts : List Cu
 
 -- the seat number of a live view
 abbrev pub seat_of : View → Option ℕ
-seat_of (Idle k) = some k.seat
+seat_of (Outside k) = some k.seat
 seat_of (Holder k) = some k.seat
 seat_of v = none
 
 -- for how many passes a view stands
 abbrev pub weight : View → ℕ
-weight (Idle k) = 1
+weight (Outside k) = 1
 weight (Holder k) = 1
 weight (Closer t kept) = length kept
 weight v = 0
@@ -46,7 +46,7 @@ parts_of_all weigh [] = 0
 parts_of_all weigh (k ∷ ks) = parts_of weigh k + parts_of_all weigh ks
 
 abbrev pub parts_in : (Cut → ℕ) → View → ℕ
-parts_in weigh (Idle k) = parts_of weigh k
+parts_in weigh (Outside k) = parts_of weigh k
 parts_in weigh (Holder k) = parts_of weigh k
 parts_in weigh (Closer t kept) = parts_of_all weigh kept
 parts_in weigh v = 0
@@ -60,14 +60,14 @@ module _ (terms : Terms) (made opener : ℕ) (log : List Entry) (cuts : List Cut
   -- what holds of the view of the seat j
   abbrev pub Fits : ℕ → View → Type 0
   Fits j (Opener t n) = (t ≡ terms) × (n ≡ made) × (j ≡ opener)
-  Fits j (Idle k) = Knows terms made log cuts k
+  Fits j (Outside k) = Knows terms made log cuts k
   Fits j (Holder k) = Knows terms made log cuts k × (k.seen ≡ log) × (k.cuts ≡ cuts) × (j ≡ holder) × (word ≢ 0)
   Fits j (Closer t kept) = t ≡ terms
   Fits j Spent = Unit {0}
 
 -- a caller knows of no later cut than the last, and who has the desk knows of that one
 abbrev pub Marks : ℕ → View → Type 0
-Marks from (Idle k) = k.from ≤ from
+Marks from (Outside k) = k.from ≤ from
 Marks from (Holder k) = k.from ≡ from
 Marks from v = Unit {0}
 
@@ -109,7 +109,7 @@ pub record Kept (terms : Terms) (s : State Chronicled View) : Type 0 where
   pub no_parts : (n : ℕ) → made ≤ n → cut_by n cuts ≡ []
   pub parted : (weigh : Cut → ℕ) → total (parts_in weigh) s.views ≡ sum_by weigh cuts
   pub counted : total weight s.views ≡ made
-  pub enough : made ≤ terms.seats
+  pub enough : made ≤ terms.opening.seats
 
 -- a take by who knew k found the desk at home, with a history that goes on from what was seen; or nothing changed
 abbrev pub Wins : Me Chronicled View → Known → ℕ → Me Chronicled View → Type 0
@@ -119,11 +119,11 @@ Wins m k r n =
     × (r ≢ 0 → n ≡ m)
 
 abbrev pub Takes : Step Chronicled → Me Chronicled View → ℕ → Me Chronicled View → Type 0
-Takes st m r n = (k : Known) → m ≡ (Idle k, []) → Wins m k r n
+Takes st m r n = (k : Known) → m ≡ (Outside k, []) → Wins m k r n
 
 -- who gives the desk back has seen the history that it gives back, and what was cut out of it: `next` of what it knew
 abbrev pub GivesAs : (Known → List Entry → List Cut) → Step Chronicled → Me Chronicled View → ℕ → Me Chronicled View → Type 0
-GivesAs next st m r n = (k : Known) (log : List Entry) (from : ℕ) → m ≡ (Holder k, (0, chronicle_from k.terms log from) ∷ []) → n ≡ (Idle (shown k log from (next k log)), [])
+GivesAs next st m r n = (k : Known) (log : List Entry) (from : ℕ) → m ≡ (Holder k, (0, chronicle_from k.terms log from) ∷ []) → n ≡ (Outside (shown k log from (next k log)), [])
 
 -- nothing more was cut out
 abbrev pub Gives : Step Chronicled → Me Chronicled View → ℕ → Me Chronicled View → Type 0
@@ -148,4 +148,4 @@ pub record Follows (k : Known) (log : List Entry) (from : ℕ) (cuts : List Cut)
 
 -- what was kept is true of the history
 abbrev pub Fitting : Terms → List Entry → List Cut → Known → Type 0
-Fitting terms log cuts k = IsPrefix k.seen log × (of_seat k.seat log ≡ k.mine) × (k.seat < terms.seats) × IsPrefix k.cuts cuts × (cut_by k.seat cuts ≡ cut_by k.seat k.cuts)
+Fitting terms log cuts k = IsPrefix k.seen log × (of_seat k.seat log ≡ k.mine) × (k.seat < terms.opening.seats) × IsPrefix k.cuts cuts × (cut_by k.seat cuts ≡ cut_by k.seat k.cuts)

@@ -14,7 +14,7 @@ use Rattle.edit_history.specs.declared.terms.Terms.{Terms}
 use Rattle.market_lock.specs.declared.view.Cut.{Cut}
 use Rattle.market_lock.specs.declared.view.Known.{Known}
 use Rattle.market_lock.specs.declared.view.View.{View}
-use Rattle.market_lock.specs.declared.view.View.TheVariants.{Idle, Holder}
+use Rattle.market_lock.specs.declared.view.View.TheVariants.{Outside, Holder}
 use Rattle.market_lock.specs.Cutting.{cut_by, IsCutUp}
 use Rattle.market_lock.specs.Views.{known, cut, no_terms, opening_of, chronicle_of}
 
@@ -98,7 +98,7 @@ pub record AllParts (keeping : Keeping) (history : List Entry) (from : ℕ) (pas
 -- ---- inside
 
 abbrev pub known_of : View → Known
-known_of (Idle k) = k
+known_of (Outside k) = k
 known_of (Holder k) = k
 known_of v = known no_terms 0 [] 0 [] []
 
@@ -112,7 +112,7 @@ office_of t terms = record { table = t; terms = terms }
 -- has counted its entries
 pub record IsTicket (k : Known) (number calls : ℕ) : Type 0 where
   pub number_is : k.seat ≡ number
-  pub small : k.seat < k.terms.seats
+  pub small : k.seat < k.terms.opening.seats
   pub legal : IsLegal (opening_of k.terms) k.seen
   pub own : of_seat k.seat k.seen ≡ k.mine
   pub cut_up : IsCutUp k.terms.keeping k.seen k.from k.cuts

@@ -2,7 +2,8 @@
 use Rattle.std.specs.Prelude.{ℕ, ◌+◌, ◌≤◌, List, [], ◌∷◌, ◌++◌, length, drop, Option, Some, None}
 use Rattle.market_types.specs.declared.command.Cmd.{Cmd}
 use Rattle.market_types.specs.declared.reply.Entry.{Entry}
-use Rattle.market_types.specs.State.{State, opening_to}
+use Rattle.market_types.specs.State.{State}
+use Rattle.market_types.specs.Opening.{opening_with}
 use Rattle.market_types.specs.History.{of_seat, calls_of, state_after}
 use Rattle.edit_history.specs.Chronicled.{Chronicled, most_forgotten}
 use Rattle.edit_history.specs.Places.{placed, LacksPlaces}
@@ -13,11 +14,11 @@ use Rattle.edit_history.specs.declared.terms.Terms.{Terms}
 use Rattle.market_lock.specs.declared.view.Cut.{Cut}
 use Rattle.market_lock.specs.declared.view.Known.{Known}
 use Rattle.market_lock.specs.declared.view.View.{View}
-use Rattle.market_lock.specs.declared.view.View.TheVariants.{Opener, Idle, Closer, Spent}
+use Rattle.market_lock.specs.declared.view.View.TheVariants.{Opener, Outside, Closer, Spent}
 
 -- the market as it was opened
 abbrev pub opening_of : Terms → State
-opening_of t = opening_to t.base t.hard t.seats t.levels t.last
+opening_of t = opening_with t.opening
 
 -- the chronicle of an office after this history, whose market it has made, and of which it keeps the entries from this one on
 abbrev pub chronicle_from : Terms → List Entry → ℕ → Chronicled
@@ -40,7 +41,7 @@ abbrev pub seats_placed_after : Terms → List Entry → ℕ
 seats_placed_after t log = placed (state_after (opening_of t) (calls_of log))
 
 abbrev pub no_terms : Terms
-no_terms = record { base = 0; hard = 0; seats = 0; places = 0; levels = 0; last = 0; keeping = Everything }
+no_terms = record { opening = record { base = 0; hard = 0; seats = 0; levels = 0; last = 0 }; places = 0; keeping = Everything }
 
 abbrev pub known : Terms → ℕ → List Entry → ℕ → List Cut → List Entry → Known
 known terms seat seen from cuts mine = record { terms = terms; seat = seat; seen = seen; from = from; cuts = cuts; mine = mine }
@@ -71,12 +72,12 @@ one_more v = v
 
 -- the next pass, which has seen nothing and called nothing
 abbrev pub next_pass : View → View
-next_pass (Opener t made) = Idle (known t made [] 0 [] [])
+next_pass (Opener t made) = Outside (known t made [] 0 [] [])
 next_pass v = Spent
 
 -- who takes passes back keeps what one of them knew
 abbrev pub with_pass : Terms → List Known → View → View
-with_pass t kept (Idle k) = Closer t (kept ++ k ∷ [])
+with_pass t kept (Outside k) = Closer t (kept ++ k ∷ [])
 with_pass t kept w = Closer t kept
 
 abbrev pub joined : View → View → View

@@ -29,7 +29,7 @@ use edit_history::{
     CallFault, Chronicle, Keeping, Part, Terms, a_forgetful_chronicle_is_never_full,
     own_entries_place_a_seat,
 };
-use market_types::{ArenaId, Cmd, Entry, LastNumber, OpenFault, Reply, SeatNo};
+use market_types::{ArenaId, Cmd, Entry, OpenFault, Opening, Reply, SeatNo};
 use std::alloc::Global;
 use std::marker::Model;
 use std::sync::Wait;
@@ -67,10 +67,10 @@ impl Office {
     pub fn on_terms(alloc: Global, terms: Terms) -> Result<(Self, Vec<Pass>), OpenFault>
         ensures exact { MemoryAside (opened_by terms) (kept_by result) }
         ensures terms { IfOk result (λ o. o.0.terms ≡ terms) }
-        ensures one_for_each { IfOk result (λ o. length o.1.items ≡ terms.seats) }
-        ensures passes { IfOk result (λ o. (k : ℕ) → k < terms.seats → slice_get o.1.items k ≡ Some (fresh o.0 k)) }
+        ensures one_for_each { IfOk result (λ o. length o.1.items ≡ terms.opening.seats) }
+        ensures passes { IfOk result (λ o. (k : ℕ) → k < terms.opening.seats → slice_get o.1.items k ≡ Some (fresh o.0 k)) }
         ensures own { IfOk result (λ o. All (λ (p : OfPass). p.table ≡ o.0.table) o.1.items) }
-        ensures endless { terms.keeping ≡ Nothing → terms.seats + 2 ≤ terms.places → IfOk result (λ o. IsEndless o.0.terms) }
+        ensures endless { terms.keeping ≡ Nothing → terms.opening.seats + 2 ≤ terms.places → IfOk result (λ o. IsEndless o.0.terms) }
     {
         a_forgetful_chronicle_is_never_full();
         let chronicle = Chronicle::on_terms(alloc, terms)?;
@@ -93,12 +93,8 @@ impl Office {
         ensures own { IfOk result (λ o. All (λ (p : OfPass). p.table ≡ o.0.table) o.1.items) }
     {
         let terms = Terms {
-            base,
-            hard,
-            seats,
+            opening: Opening::new(base, hard, seats, levels),
             places,
-            levels,
-            last: LastNumber::USUAL,
             keeping: Keeping::Everything,
         };
         Self::on_terms(alloc, terms)
@@ -122,12 +118,8 @@ impl Office {
         ensures own { IfOk result (λ o. All (λ (p : OfPass). p.table ≡ o.0.table) o.1.items) }
     {
         let terms = Terms {
-            base,
-            hard,
-            seats,
+            opening: Opening::new(base, hard, seats, levels),
             places,
-            levels,
-            last: LastNumber::USUAL,
             keeping: Keeping::InParts,
         };
         Self::on_terms(alloc, terms)
@@ -151,12 +143,8 @@ impl Office {
         ensures endless { IfOk result (λ o. IsEndless o.0.terms) }
     {
         let terms = Terms {
-            base,
-            hard,
-            seats,
+            opening: Opening::new(base, hard, seats, levels),
             places: u32::from(seats) + 2,
-            levels,
-            last: LastNumber::USUAL,
             keeping: Keeping::Nothing,
         };
         Self::on_terms(alloc, terms)
@@ -171,11 +159,11 @@ impl Office {
         requires chronicle { chronicle ≡ chronicle_of terms.now [] }
         ensures terms { IfOk result (λ o. o.0.terms ≡ terms.now) }
         ensures fault { IfErr result (λ fault. fault ≡ Memory) }
-        ensures one_for_each { IfOk result (λ o. length o.1.items ≡ terms.now.seats) }
-        ensures passes { IfOk result (λ o. (k : ℕ) → k < terms.now.seats → slice_get o.1.items k ≡ Some (fresh o.0 k)) }
+        ensures one_for_each { IfOk result (λ o. length o.1.items ≡ terms.now.opening.seats) }
+        ensures passes { IfOk result (λ o. (k : ℕ) → k < terms.now.opening.seats → slice_get o.1.items k ≡ Some (fresh o.0 k)) }
         ensures own { IfOk result (λ o. All (λ (p : OfPass). p.table ≡ o.0.table) o.1.items) }
     {
-        let seats = terms.seats;
+        let seats = terms.opening.seats;
         let Ok(mut passes) = Vec::<Pass>::with_capacity(alloc, seats as usize) else {
             drop(chronicle);
             return Err(OpenFault::Memory);
@@ -408,7 +396,7 @@ impl Office {
         ensures in_parts { OnSome result (pass.old.terms.keeping ≡ InParts) }
         ensures room { OnSome result (seats_placed_after pass.old.terms pass.new.seen ≤ vec_capacity spare) }
         ensures enough { pass.old.terms.keeping ≡ InParts → seats_placed_after pass.old.terms pass.new.seen ≤ vec_capacity spare → length pass.new.seen ≤ most_forgotten → IsSome result }
-        ensures served { pass.old.terms.keeping ≡ InParts → pass.old.terms.seats ≤ vec_capacity spare → length pass.new.seen ≤ most_forgotten → IsSome result }
+        ensures served { pass.old.terms.keeping ≡ InParts → pass.old.terms.opening.seats ≤ vec_capacity spare → length pass.new.seen ≤ most_forgotten → IsSome result }
     {
         let mut emptied = spare;
         emptied.clear();
@@ -430,7 +418,7 @@ impl Office {
         ensures in_parts { IfMade result (λ answer. OnSome answer (pass.old.terms.keeping ≡ InParts)) }
         ensures room { IfMade result (λ answer. OnSome answer (seats_placed_after pass.old.terms pass.new.seen ≤ vec_capacity spare)) }
         ensures enough { IfMade result (λ answer. pass.old.terms.keeping ≡ InParts → seats_placed_after pass.old.terms pass.new.seen ≤ vec_capacity spare → length pass.new.seen ≤ most_forgotten → IsSome answer) }
-        ensures served { IfMade result (λ answer. pass.old.terms.keeping ≡ InParts → pass.old.terms.seats ≤ vec_capacity spare → length pass.new.seen ≤ most_forgotten → IsSome answer) }
+        ensures served { IfMade result (λ answer. pass.old.terms.keeping ≡ InParts → pass.old.terms.opening.seats ≤ vec_capacity spare → length pass.new.seen ≤ most_forgotten → IsSome answer) }
         ensures busy { IfBusy result (λ _. pass.new ≡ pass.old) }
         ensures spare { IfBusy result (λ back. (back.items ≡ []) × (vec_capacity back ≡ vec_capacity spare)) }
     {
@@ -446,7 +434,7 @@ impl Office {
     pub fn close(self, passes: Vec<Pass>, placed: Vec<Placed>) -> Closed
         requires own { All (λ (p : OfPass). p.table ≡ self.table) passes.items }
         requires own_placed { All (λ (p : OfPlaced). p.who.table ≡ self.table) placed.items }
-        requires all { vec_len passes + vec_len placed ≡ self.terms.seats }
+        requires all { vec_len passes + vec_len placed ≡ self.terms.opening.seats }
         ensures headline { IsGivenBy (opening_of self.terms) result.chronicle }
         ensures whole { result.chronicle ≡ chronicle_cut self.terms result.chronicle.log result.chronicle.from }
         ensures passes { All (Met result.chronicle.log) passes.items }

@@ -41,7 +41,7 @@ pub(crate) fn furnish(
 pub(crate) fn deal(table: &Shelf, seat: &mut Place, number: SeatNo) -> Pass
     requires table { (seat.old.table_id ≡ table.now.shared.table_id) × (table.now.shared.table_id.words ≡ 1) }
     requires seat { seat.old.me ≡ (Opener table.now.shared.key number, []) }
-    requires number { number < table.now.shared.key.seats }
+    requires number { number < table.now.shared.key.opening.seats }
     ensures table { seat.new.table_id ≡ seat.old.table_id }
     ensures seat { seat.new.me ≡ (Opener table.now.shared.key (number + 1), []) }
     ensures pass { result ≡ fresh (office_of table.now.shared.table_id table.now.shared.key) number }

@@ -14,7 +14,7 @@ ghost use Rattle.market_lock.specs.Views.{opening_of, seats_placed_after, same_c
 ghost use Rattle.market_lock.specs.Rule.{Follows};
 ghost use Rattle.market_lock.specs.Seen.{Extends, IsSamePass, Looks, OthersCut, HasCut};
 ghost use Rattle.market_lock.specs.Moves.{Fails};
-ghost use Rattle.market_lock.specs.Held.{IsIdle, HasTaken, HasDesk, HoldsDesk, HasGiven};
+ghost use Rattle.market_lock.specs.Held.{IsOutside, HasTaken, HasDesk, HoldsDesk, HasGiven};
 ghost use Rattle.market_lock.specs.Serving.{Serves, MayServe, Cuts};
 
 use crate::attempt::Attempt;
@@ -42,14 +42,14 @@ pub(crate) struct Ticket {
 
 impl Model for Ticket {
     ghost use Rattle.std.specs.Prelude.{◌≡◌, []};
-    ghost use Rattle.market_lock.specs.declared.view.View.TheVariants.{Idle};
+    ghost use Rattle.market_lock.specs.declared.view.View.TheVariants.{Outside};
     ghost use Rattle.market_lock.specs.Seen.{OfPass, known_of, pass_of, IsTicket};
 
     ghost Value = { OfPass };
 
     ghost view = { λ t. pass_of t.seat.table_id (known_of t.seat.me.0) };
 
-    ghost invariant = { λ t. (t.seat.me ≡ (Idle (known_of t.seat.me.0), [])) × IsTicket (known_of t.seat.me.0) t.number t.calls };
+    ghost invariant = { λ t. (t.seat.me ≡ (Outside (known_of t.seat.me.0), [])) × IsTicket (known_of t.seat.me.0) t.number t.calls };
 }
 
 /// Waits for so many pauses, and says how many it should be next time: twice as many, up to a bound. Who waits does not look at
@@ -69,7 +69,7 @@ fn wait_a_while(pauses: u32) -> u32 {
 /// Takes the desk, if it is at home, and says whether it was.
 fn take(table: &Shelf, seat: &mut Place) -> bool
     requires table { (seat.old.table_id ≡ table.now.shared.table_id) × (table.now.shared.table_id.words ≡ 1) }
-    requires seat { IsIdle seat.old.me }
+    requires seat { IsOutside seat.old.me }
     ensures table { seat.new.table_id ≡ seat.old.table_id }
     ensures taken { result ≡ true → HasTaken seat.old.me seat.new.me }
     ensures away { result ≡ false → seat.new.me ≡ seat.old.me }
@@ -219,7 +219,7 @@ impl Ticket {
         ensures in_parts { IfMade result (λ answer. OnSome answer (self.old.terms.keeping ≡ InParts)) }
         ensures room { IfMade result (λ answer. OnSome answer (seats_placed_after self.old.terms self.new.seen ≤ vec_capacity spare)) }
         ensures enough { IfMade result (λ answer. self.old.terms.keeping ≡ InParts → seats_placed_after self.old.terms self.new.seen ≤ vec_capacity spare → length self.new.seen ≤ most_forgotten → IsSome answer) }
-        ensures served { IfMade result (λ answer. self.old.terms.keeping ≡ InParts → self.old.terms.seats ≤ vec_capacity spare → length self.new.seen ≤ most_forgotten → IsSome answer) }
+        ensures served { IfMade result (λ answer. self.old.terms.keeping ≡ InParts → self.old.terms.opening.seats ≤ vec_capacity spare → length self.new.seen ≤ most_forgotten → IsSome answer) }
         ensures busy { IfBusy result (λ _. self.new ≡ self.old) }
         ensures spare { IfBusy result (λ back. back ≡ spare) }
     {
@@ -246,7 +246,7 @@ impl Ticket {
         ensures in_parts { OnSome result (self.old.terms.keeping ≡ InParts) }
         ensures room { OnSome result (seats_placed_after self.old.terms self.new.seen ≤ vec_capacity spare) }
         ensures enough { self.old.terms.keeping ≡ InParts → seats_placed_after self.old.terms self.new.seen ≤ vec_capacity spare → length self.new.seen ≤ most_forgotten → IsSome result }
-        ensures served { self.old.terms.keeping ≡ InParts → self.old.terms.seats ≤ vec_capacity spare → length self.new.seen ≤ most_forgotten → IsSome result }
+        ensures served { self.old.terms.keeping ≡ InParts → self.old.terms.opening.seats ≤ vec_capacity spare → length self.new.seen ≤ most_forgotten → IsSome result }
     {
         let mut spare = spare;
         let mut pauses = FEWEST_PAUSES;

@@ -26,7 +26,7 @@ pub(crate) enum View {
     /// It deals the passes, so many up to now.
     Opener(Terms, usize),
     /// It waits outside.
-    Idle(Known),
+    Outside(Known),
     /// It has the desk.
     Holder(Known),
     /// It takes the passes back, and keeps what they knew.

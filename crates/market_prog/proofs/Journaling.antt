@@ -1,5 +1,5 @@
 -- A script's journal is its lines, taken and recorded, and then the text of their history.
-use Rattle.std.proofs.Common.{◌≡◌, ℕ, ◌≤◌, ◌++◌, ◌||◌, ◌==◌, cond, nat_lt, IfOk, inl, inr, List, [], ◌∷◌, length, Bool, true, false, Option, Result, Ok, Err, arith, true≢false, refl, sym, ap, ◌∙◌, subst}
+use Rattle.std.proofs.Common.{◌≡◌, ℕ, ◌≤◌, ◌++◌, ◌||◌, ◌==◌, cond, nat_lt, inl, inr, List, [], ◌∷◌, length, Bool, true, false, Option, Result, Ok, Err, arith, refl, sym, ap, ◌∙◌, subst}
 use Rattle.std.specs.Io.KnownBytes.{Consumes, Appends}
 use Rattle.std.proofs.KnownBytes.{Appends-trans, Appends-nil, Consumes-nil}
 use Rattle.byte_devices.specs.Devices.{WritesFront}
@@ -14,8 +14,9 @@ use Rattle.edit_history.specs.declared.fault.CallFault.TheVariants.{Memory as Ca
 use Rattle.journal_replay.specs.Journal.{journal_text}
 use Rattle.market_types.specs.declared.reply.OpenFault.{OpenFault}
 use Rattle.market_types.specs.declared.reply.OpenFault.TheVariants.{BadBase, BadHard, BadSeats, BadLevels}
-use Rattle.market_types.specs.Opening.{opened_market_to, MemoryAside}
-use Rattle.market_types.specs.State.{State, opening_to}
+use Rattle.market_types.specs.declared.opening.Opening.{Opening}
+use Rattle.market_types.specs.Opening.{MemoryAside, opened_with, opening_with}
+use Rattle.market_types.specs.State.{State}
 use Rattle.market_types.specs.Script.{told}
 use Rattle.line_engine.specs.Lines.{Line, lines_of}
 use Rattle.line_engine.specs.Rule.{replies_to}
@@ -156,15 +157,14 @@ abbrev opened_in_order : Bool → Bool → Bool → Bool → State → Result St
 opened_in_order a b c d s = cond a (Err BadBase) (cond b (Err BadHard) (cond c (Err BadSeats) (cond d (Err BadLevels) (Ok s))))
 
 -- the terms of a script's chronicle
-abbrev pub script_terms : ℕ → ℕ → ℕ → ℕ → ℕ → Terms
-script_terms base hard seats levels last =
-    record { base = base; hard = hard; seats = seats; places = 1048576; levels = levels; last = last; keeping = Everything }
+abbrev pub script_terms : Opening → Terms
+script_terms o = record { opening = o; places = 1048576; keeping = Everything }
 
-opened-both : (base hard seats levels last : ℕ) → opened_by (script_terms base hard seats levels last) ≡ chronicle_on (opened_market_to base hard seats levels last)
-opened-both base hard seats levels last = go (base == 0 || nat_lt 65536 base) (hard == 0 || nat_lt 65535 hard) (seats == 0 || nat_lt 64 seats) (levels == 0 || nat_lt 8 levels)
+opened-both : (o : Opening) → opened_by (script_terms o) ≡ chronicle_on (opened_with o)
+opened-both o = go (o.base == 0 || nat_lt 65536 o.base) (o.hard == 0 || nat_lt 65535 o.hard) (o.seats == 0 || nat_lt 64 o.seats) (o.levels == 0 || nat_lt 8 o.levels)
   where
     s : State
-    s = opening_to base hard seats levels last
+    s = opening_with o
 
     go : (a b c d : Bool) → cond a (Err BadBase) (cond b (Err BadHard) (cond c (Err BadSeats) (cond d (Err BadLevels) (Ok (unwritten s))))) ≡ chronicle_on (opened_in_order a b c d s)
     go true b c d = refl
@@ -179,26 +179,5 @@ due-start (Ok s) r (inr e) = inr (e.0, ap start_of e.1)
 due-start (Err fault) r (inl e) = inl (ap start_of e)
 due-start (Err fault) r (inr e) = inr (e.0, ap start_of e.1)
 
-pub opened-exact : (base hard seats levels last : ℕ) (r : Result Chronicled OpenFault) → MemoryAside (opened_by (script_terms base hard seats levels last)) r
-    → MemoryAside (opened_market_to base hard seats levels last) (start_of r)
-opened-exact base hard seats levels last r h =
-    due-start (opened_market_to base hard seats levels last) r (subst (λ (due : Result Chronicled OpenFault). MemoryAside due r) (opened-both base hard seats levels last) h)
-
-opened-ok : (a b c d : Bool) (s : State) (r : Result Chronicled OpenFault) → MemoryAside (chronicle_on (opened_in_order a b c d s)) r → IfOk r (λ x. x ≡ unwritten s)
-opened-ok a b c d s (Err fault) h = tt
-opened-ok true b c d s (Ok x) (inl e) = absurd (cc)
-opened-ok true b c d s (Ok x) (inr e) = absurd (true≢false (sym e.0))
-opened-ok false true c d s (Ok x) (inl e) = absurd (cc)
-opened-ok false true c d s (Ok x) (inr e) = absurd (true≢false (sym e.0))
-opened-ok false false true d s (Ok x) (inl e) = absurd (cc)
-opened-ok false false true d s (Ok x) (inr e) = absurd (true≢false (sym e.0))
-opened-ok false false false true s (Ok x) (inl e) = absurd (cc)
-opened-ok false false false true s (Ok x) (inr e) = absurd (true≢false (sym e.0))
-opened-ok false false false false s (Ok x) (inl e) = cc
-opened-ok false false false false s (Ok x) (inr e) = absurd (let same = e.1 in cc)
-
-pub opened-is : (base hard seats levels last : ℕ) (r : Result Chronicled OpenFault) → MemoryAside (opened_by (script_terms base hard seats levels last)) r
-    → IfOk r (λ x. x ≡ unwritten (opening_to base hard seats levels last))
-opened-is base hard seats levels last r h =
-    opened-ok (base == 0 || nat_lt 65536 base) (hard == 0 || nat_lt 65535 hard) (seats == 0 || nat_lt 64 seats) (levels == 0 || nat_lt 8 levels) (opening_to base hard seats levels last) r
-    (subst (λ (due : Result Chronicled OpenFault). MemoryAside due r) (opened-both base hard seats levels last) h)
+pub opened-exact : (o : Opening) (r : Result Chronicled OpenFault) → MemoryAside (opened_by (script_terms o)) r → MemoryAside (opened_with o) (start_of r)
+opened-exact o r h = due-start (opened_with o) r (subst (λ (due : Result Chronicled OpenFault). MemoryAside due r) (opened-both o) h)

@@ -1,4 +1,3 @@
-pub mod Options
 pub mod Words
 pub mod Passed
 pub mod Command

@@ -11,7 +11,7 @@ use Rattle.market_prog.specs.declared.words.Choice.TheVariants.{Script, Replay, 
 use Rattle.market_prog.specs.declared.chart.ChartOptions.{ChartOptions}
 use Rattle.market_prog.specs.declared.words.ScriptTask.{ScriptTask}
 use Rattle.market_prog.specs.declared.words.ScriptTask.TheVariants.{Answer, Journal, Explain}
-use Rattle.market_prog.specs.declared.options.MarketOptions.{MarketOptions}
+use Rattle.market_types.specs.declared.opening.Opening.{Opening}
 use Rattle.market_prog.specs.declared.words.ScriptOptions.{ScriptOptions}
 use Rattle.market_prog.specs.declared.words.ReplayOptions.{ReplayOptions}
 use Rattle.market_prog.specs.declared.words.DriveOptions.{DriveOptions}
@@ -100,7 +100,7 @@ pub record IsNumberOf (name : Text) (high : ℕ) (rows : List Row) (n : ℕ) : T
   pub most : n ≤ high
 
 -- the market's options are those of these matches
-pub record IsMarketOf (rows : List Row) (options : MarketOptions) : Type 0 where
+pub record IsMarketOf (rows : List Row) (options : Opening) : Type 0 where
   pub base : IsNumberOf (codes "base") 65536 rows options.base
   pub hard : IsNumberOf (codes "hard") 65535 rows options.hard
   pub seats : IsNumberOf (codes "seats") 64 rows options.seats

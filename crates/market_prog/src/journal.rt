@@ -2,33 +2,27 @@
 ghost use Rattle.std.specs.Prelude.{◌≡◌, ◌↔◌, true, false, IsOk, IsErr, Err, OnOk, IfOk, IfErr};
 ghost use Rattle.std.specs.Io.KnownBytes.{IsAtEnd};
 ghost use Rattle.market_types.specs.declared.reply.OpenFault.{OpenFault};
-ghost use Rattle.market_types.specs.Opening.{MemoryAside};
+ghost use Rattle.market_types.specs.Opening.{MemoryAside, opened_with, opening_with};
 ghost use Rattle.market_prog.specs.Journal.{Journals, StopsJournaling, unwritten};
-ghost use Rattle.market_prog.specs.Options.{opening_of, opened_of};
 ghost use Rattle.market_prog.specs.Recording.{start_of};
 
 use crate::fault::RunFault;
-use crate::options::MarketOptions;
 use crate::recording::RecordingSession;
 use byte_devices::{Sink, Source};
 use edit_history::{Chronicle, Keeping, MOST_PLACES, Terms};
 use journal_replay::write_journal;
 use line_engine::{silence, take_lines};
-use market_types::OpenFault;
+use market_types::{OpenFault, Opening};
 use std::alloc::Global;
 
 /// A market with an empty history.
-fn open_chronicle(alloc: Global, options: MarketOptions) -> Result<Chronicle, OpenFault>
-    ensures exact { MemoryAside (opened_of options) (start_of result) }
-    ensures opened { IfOk result (λ chronicle. chronicle ≡ unwritten (opening_of options)) }
+fn open_chronicle(alloc: Global, options: Opening) -> Result<Chronicle, OpenFault>
+    ensures exact { MemoryAside (opened_with options) (start_of result) }
+    ensures opened { IfOk result (λ chronicle. chronicle ≡ unwritten (opening_with options)) }
 {
     let terms = Terms {
-        base: options.base,
-        hard: options.hard,
-        seats: options.seats,
+        opening: options,
         places: MOST_PLACES,
-        levels: options.levels,
-        last: options.last,
         keeping: Keeping::Everything,
     };
     Chronicle::on_terms(alloc, terms)
@@ -45,7 +39,7 @@ fn open_chronicle(alloc: Global, options: MarketOptions) -> Result<Chronicle, Op
 /// `HistoryFull`, running out of memory `Memory`. Nothing is written before the whole script is read.
 pub fn run_journal<R: Source, W: Sink>(
     alloc: Global,
-    options: MarketOptions,
+    options: Opening,
     source: &mut R,
     sink: &mut W,
 ) -> Result<u64, RunFault>
@@ -54,17 +48,17 @@ pub fn run_journal<R: Source, W: Sink>(
     requires sink_working { W.failed sink.old ≡ false }
 
     // The whole script is read, and its journal is written.
-    ensures journals { IfOk result (λ unread. Journals (opening_of options) (R.left source.old) (R.left source.new) (W.taken sink.old) (W.taken sink.new) unread) }
+    ensures journals { IfOk result (λ unread. Journals (opening_with options) (R.left source.old) (R.left source.new) (W.taken sink.old) (W.taken sink.new) unread) }
     ensures end { OnOk result (R.ended source.new ≡ true) }
     ensures whole { OnOk result (IsAtEnd (R.left source.new)) }
     ensures working { OnOk result ((R.failed source.new ≡ false) × (W.failed sink.new ≡ false)) }
 
     // After a write or memory fault a prefix of the journal is written, after any other nothing is.
-    ensures stops { IsOk (opened_of options) → IfErr result (λ fault. StopsJournaling (opening_of options) (R.left source.old) (R.left source.new) (W.taken sink.old) (W.taken sink.new) (R.failed source.new) (W.failed sink.new) fault) }
+    ensures stops { IsOk (opened_with options) → IfErr result (λ fault. StopsJournaling (opening_with options) (R.left source.old) (R.left source.new) (W.taken sink.old) (W.taken sink.new) (R.failed source.new) (W.failed sink.new) fault) }
 
     // Without a market nothing is read or written.
-    ensures opening { (fault : OpenFault) → (result ≡ Err (RunFault.Open fault)) ↔ (opened_of options ≡ Err fault) }
-    ensures untouched { IsErr (opened_of options) → (source.new ≡ source.old) × (sink.new ≡ sink.old) }
+    ensures opening { (fault : OpenFault) → (result ≡ Err (RunFault.Open fault)) ↔ (opened_with options ≡ Err fault) }
+    ensures untouched { IsErr (opened_with options) → (source.new ≡ source.old) × (sink.new ≡ sink.old) }
 {
     silence::<RecordingSession>();
     let chronicle = open_chronicle(alloc, options)?;

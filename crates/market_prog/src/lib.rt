@@ -22,6 +22,6 @@ pub use engine::run_script;
 pub use explain::explain_script;
 pub use fault::{RunFault, status_of_run};
 pub use journal::run_journal;
-pub use options::MarketOptions;
+pub use options::USUAL_MARKET;
 pub use replay::{run_replay, status_of_replay};
 pub use words::{Choice, DriveOptions, ReplayOptions, ScriptOptions, ScriptTask, read_words};

@@ -7,9 +7,8 @@ ghost use Rattle.market_prog.specs.Passed.{HasChartNumbers, HasNumber, HasMarket
 
 use crate::chart::ChartOptions;
 use crate::help;
-use crate::options::MarketOptions;
 use clap::{Arg, ArgAction, ArgMatches, Command, Error};
-use market_types::{ArenaId, LastNumber};
+use market_types::{ArenaId, LastNumber, Opening};
 use std::alloc::{AllocError, Global};
 
 /// What `market --version` tells.
@@ -46,7 +45,7 @@ pub enum ScriptTask {
 #[derive(Clone, Copy, Debug, PartialEq, Eq)]
 pub struct ScriptOptions {
     /// The market that it speaks to.
-    pub market: MarketOptions,
+    pub market: Opening,
     /// `--progress`: how much is read is told meanwhile, also where standard error is no terminal.
     pub progress: bool,
 }
@@ -363,14 +362,14 @@ fn market_command<'a>(alloc: Global) -> Result<Command<'a>, AllocError>
 }
 
 /// The market's options in matches that clap has passed.
-fn market_options(matches: &ArgMatches<'_>) -> MarketOptions
+fn market_options(matches: &ArgMatches<'_>) -> Opening
     requires { HasMarketNumbers (rows_of (found_of matches.now)) }
     ensures { IsMarketOf (rows_of (found_of matches.now)) result }
 {
     let Some(last) = LastNumber::new(LAST.number(matches)) else {
         unreachable!()
     };
-    MarketOptions {
+    Opening {
         base: BASE.number(matches),
         hard: HARD.number(matches),
         seats: SEATS.number(matches) as u8,

@@ -3,18 +3,20 @@ ghost use Rattle.std.specs.Prelude.{◌≡◌};
 
 use crate::{Answer, Asked, Cutting, Kept, Seat, Unclosed, Unmerged, WhyNot};
 use edit_history::{Keeping, Terms};
-use market_types::{ArenaId, Cmd, LastNumber, Level};
+use market_types::{ArenaId, Cmd, LastNumber, Level, Opening};
 use std::alloc::Global;
 use std::process::Abort;
 use std::rt::HostRuntime;
 
 const TERMS: Terms = Terms {
-    base: 8,
-    hard: 64,
-    seats: 2,
+    opening: Opening {
+        base: 8,
+        hard: 64,
+        seats: 2,
+        levels: 3,
+        last: LastNumber::USUAL,
+    },
     places: 100,
-    levels: 3,
-    last: LastNumber::USUAL,
     keeping: Keeping::Everything,
 };
 

@@ -77,7 +77,7 @@ impl Hand {
         ensures in_parts { IfCut result (λ answer. OnSome answer ((who self.old).terms.keeping ≡ InParts)) }
         ensures room { IfCut result (λ answer. OnSome answer (seats_placed_after (who self.old).terms (who self.new).seen ≤ vec_capacity spare)) }
         ensures enough { IfCut result (λ answer. (who self.old).terms.keeping ≡ InParts → seats_placed_after (who self.old).terms (who self.new).seen ≤ vec_capacity spare → length (who self.new).seen ≤ most_forgotten → IsSome answer) }
-        ensures served { IfCut result (λ answer. (who self.old).terms.keeping ≡ InParts → (who self.old).terms.seats ≤ vec_capacity spare → length (who self.new).seen ≤ most_forgotten → IsSome answer) }
+        ensures served { IfCut result (λ answer. (who self.old).terms.keeping ≡ InParts → (who self.old).terms.opening.seats ≤ vec_capacity spare → length (who self.new).seen ≤ most_forgotten → IsSome answer) }
         ensures uncut { IfUncut result (λ back. (self.new ≡ self.old) × (vec_capacity back ≡ vec_capacity spare)) }
         ensures unfit { is_unfit_to_cut result ≡ is_some (place_of self.old) }
     {

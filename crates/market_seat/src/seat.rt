@@ -55,7 +55,7 @@ impl Seat {
         ensures exact { MemoryAside (opened_by terms) (kept_by_seat result) }
         ensures terms { IfOk result (λ s. s.office.terms ≡ terms) }
         ensures free { IfOk result (λ s. place_of s.hand ≡ None) }
-        ensures all { IfOk result (λ s. length s.spare + 1 ≡ terms.seats) }
+        ensures all { IfOk result (λ s. length s.spare + 1 ≡ terms.opening.seats) }
         ensures fresh { IfOk result (λ s. All (IsFresh s.office) (callers s)) }
     {
         let (office, mut passes) = Office::on_terms(alloc, Terms { ..terms })?;
@@ -166,11 +166,11 @@ impl Seat {
         ensures parts { IfOk result (λ closed. AllParts self.office.terms.keeping closed.chronicle.log closed.chronicle.from (callers self) []) }
         ensures calls { IfOk result (λ closed. closed.calls ≡ length closed.chronicle.log) }
         ensures calls_made { IfOk result (λ closed. closed.calls ≡ sum_by (λ (p : OfPass). length p.mine) (callers self)) }
-        ensures all { IfOk result (λ _. length (callers self) ≡ self.office.terms.seats) }
+        ensures all { IfOk result (λ _. length (callers self) ≡ self.office.terms.opening.seats) }
         ensures unplaced { IfOk result (λ closed. closed.workers ≡ 0) }
         ensures err { IfErr result (λ refused. refused.seat ≡ self) }
         ensures placed { IfErr result (λ refused. refused.why ≡ StillPlaced → is_some (place_of self.hand) ≡ true) }
-        ensures others { length (callers self) ≢ self.office.terms.seats → IfErr result (λ refused. refused.why ≡ (if is_some (place_of self.hand) then StillPlaced else OthersOut)) }
+        ensures others { length (callers self) ≢ self.office.terms.opening.seats → IfErr result (λ refused. refused.why ≡ (if is_some (place_of self.hand) then StillPlaced else OthersOut)) }
     {
         let Seat {
             office,
@@ -193,7 +193,7 @@ impl Seat {
                 });
             }
         };
-        let why = if spare.len() + 1 != terms.seats as usize {
+        let why = if spare.len() + 1 != terms.opening.seats as usize {
             WhyNot::OthersOut
         } else if spare.reserve(1).is_err() {
             WhyNot::Memory
@@ -257,7 +257,7 @@ impl Seat {
         ensures in_parts { IfCut result (λ answer. OnSome answer ((who self.old.hand).terms.keeping ≡ InParts)) }
         ensures room { IfCut result (λ answer. OnSome answer (seats_placed_after (who self.old.hand).terms (who self.new.hand).seen ≤ vec_capacity spare)) }
         ensures enough { IfCut result (λ answer. (who self.old.hand).terms.keeping ≡ InParts → seats_placed_after (who self.old.hand).terms (who self.new.hand).seen ≤ vec_capacity spare → length (who self.new.hand).seen ≤ most_forgotten → IsSome answer) }
-        ensures served { IfCut result (λ answer. (who self.old.hand).terms.keeping ≡ InParts → (who self.old.hand).terms.seats ≤ vec_capacity spare → length (who self.new.hand).seen ≤ most_forgotten → IsSome answer) }
+        ensures served { IfCut result (λ answer. (who self.old.hand).terms.keeping ≡ InParts → (who self.old.hand).terms.opening.seats ≤ vec_capacity spare → length (who self.new.hand).seen ≤ most_forgotten → IsSome answer) }
         ensures uncut { IfUncut result (λ back. (self.new ≡ self.old) × (vec_capacity back ≡ vec_capacity spare)) }
         ensures unfit { is_unfit_to_cut result ≡ is_some (place_of self.old.hand) }
     {

@@ -5,9 +5,9 @@ use crate::endless::Hashes;
 use crate::work::{new_sink, work_script};
 use byte_devices::TestSource;
 use market_prog::{
-    MarketOptions, RunFault, ScriptTask, run_replay, run_script, status_of_replay, status_of_run,
+    RunFault, ScriptTask, USUAL_MARKET, run_replay, run_script, status_of_replay, status_of_run,
 };
-use market_types::OpenFault;
+use market_types::{OpenFault, Opening};
 use std::rt::HostRuntime;
 
 const HIRED: &[u8] = b"0 open 8 1 normal\n0 request 1 3 0\n0 show 1\n";
@@ -35,7 +35,7 @@ fn replies_that_are_due_are_written_before_each_read(rt: HostRuntime) {
                 .in_pieces_of(size)
                 .failing_after(good as u64);
             let mut sink = new_sink(&rt, rt.alloc());
-            let told = run_script(rt.alloc(), MarketOptions::USUAL, &mut source, &mut sink);
+            let told = run_script(rt.alloc(), USUAL_MARKET, &mut source, &mut sink);
             let wanted = if good < reads {
                 Err(RunFault::Read)
             } else {
@@ -52,13 +52,7 @@ fn replies_that_are_due_are_written_before_each_read(rt: HostRuntime) {
 fn a_script_without_end_is_too_long(rt: HostRuntime) {
     for task in [ScriptTask::Answer, ScriptTask::Journal, ScriptTask::Explain] {
         let mut sink = new_sink(&rt, rt.alloc());
-        let told = work_script(
-            rt.alloc(),
-            task,
-            MarketOptions::USUAL,
-            &mut Hashes,
-            &mut sink,
-        );
+        let told = work_script(rt.alloc(), task, USUAL_MARKET, &mut Hashes, &mut sink);
         same(&rt, told, Err(RunFault::TooLong));
         same(&rt, status_of_run(&told), 3);
         holds(&rt, sink.taken().is_empty());
@@ -80,9 +74,9 @@ fn a_journal_without_end_is_too_long(rt: HostRuntime) {
 fn a_market_that_cannot_be_opened_reads_nothing(rt: HostRuntime) {
     for task in [ScriptTask::Answer, ScriptTask::Journal, ScriptTask::Explain] {
         for levels in [0, 9] {
-            let options = MarketOptions {
+            let options = Opening {
                 levels,
-                ..MarketOptions::USUAL
+                ..USUAL_MARKET
             };
             let mut source = TestSource::new(HIRED);
             let mut sink = new_sink(&rt, rt.alloc());

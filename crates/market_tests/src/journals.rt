@@ -4,8 +4,8 @@ use crate::asserts::{holds, same};
 use crate::endless::{LineCount, Repeated};
 use crate::work::new_sink;
 use byte_devices::TestSource;
-use market_prog::{MarketOptions, RunFault, run_journal, status_of_run};
-use market_types::LastNumber;
+use market_prog::{RunFault, USUAL_MARKET, run_journal, status_of_run};
+use market_types::{LastNumber, Opening};
 use std::rt::HostRuntime;
 
 /// The fourth control has no number.
@@ -22,9 +22,9 @@ fn a_journal_tells_another_last_number(rt: HostRuntime) {
     let Some(last) = LastNumber::new(3) else {
         panic!(&rt; "no last number");
     };
-    let options = MarketOptions {
+    let options = Opening {
         last,
-        ..MarketOptions::USUAL
+        ..USUAL_MARKET
     };
     let mut source = TestSource::new(b"0 control 9\n0 control 9\n0 control 9\n0 control 9\n");
     let mut sink = new_sink(&rt, rt.alloc());
@@ -38,7 +38,7 @@ fn a_journal_tells_another_last_number(rt: HostRuntime) {
 fn a_history_with_a_call_too_many_is_full(rt: HostRuntime) {
     let mut source = Repeated::new(b"0 limit\n", b"0 limit\n", 1_048_576);
     let mut sink = new_sink(&rt, rt.alloc());
-    let told = run_journal(rt.alloc(), MarketOptions::USUAL, &mut source, &mut sink);
+    let told = run_journal(rt.alloc(), USUAL_MARKET, &mut source, &mut sink);
     same(&rt, told, Err(RunFault::HistoryFull));
     same(&rt, status_of_run(&told), 3);
     holds(&rt, sink.taken().is_empty());
@@ -49,7 +49,7 @@ fn a_history_with_a_call_too_many_is_full(rt: HostRuntime) {
 fn a_history_has_1_048_576_calls_at_most(rt: HostRuntime) {
     let mut source = Repeated::new(b"0 limit\n", b"0 limit\n", 1_048_575);
     let mut sink = LineCount::new();
-    let told = run_journal(rt.alloc(), MarketOptions::USUAL, &mut source, &mut sink);
+    let told = run_journal(rt.alloc(), USUAL_MARKET, &mut source, &mut sink);
     same(&rt, told, Ok(0));
     same(&rt, sink.lines(), 1_048_577);
 }

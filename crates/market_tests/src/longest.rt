@@ -6,7 +6,7 @@ use crate::asserts::{holds, same};
 use crate::endless::Repeated;
 use crate::work::{new_sink, work_script};
 use byte_devices::{TestSink, TestSource};
-use market_prog::{DriveEnd, MarketOptions, RunFault, ScriptTask, run_drive, run_replay};
+use market_prog::{DriveEnd, RunFault, ScriptTask, USUAL_MARKET, run_drive, run_replay};
 use std::alloc::{AllocError, Global};
 use std::process::Abort;
 use std::rt::HostRuntime;
@@ -68,7 +68,7 @@ fn written_of(
 {
     let mut source = before_hashes(SCRIPT, pieces);
     let mut sink = new_sink(rt, alloc);
-    let options = MarketOptions::USUAL;
+    let options = USUAL_MARKET;
     same(
         rt,
         work_script(alloc, task, options, &mut source, &mut sink),
@@ -189,7 +189,7 @@ fn a_long_line_and_one_that_is_not_utf8_are_unread(rt: HostRuntime) {
     ] {
         let mut source = TestSource::new(&text);
         let mut sink = new_sink(&rt, rt.alloc());
-        let options = MarketOptions::USUAL;
+        let options = USUAL_MARKET;
         same(
             &rt,
             work_script(rt.alloc(), task, options, &mut source, &mut sink),

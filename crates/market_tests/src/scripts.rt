@@ -2,8 +2,8 @@
 use crate::asserts::{holds, same};
 use crate::work::new_sink;
 use byte_devices::TestSource;
-use market_prog::{MarketOptions, run_script};
-use market_types::LastNumber;
+use market_prog::{USUAL_MARKET, run_script};
+use market_types::{LastNumber, Opening};
 use std::alloc::Global;
 use std::process::Abort;
 use std::rt::HostRuntime;
@@ -12,7 +12,7 @@ use std::rt::HostRuntime;
 fn answers_of(
     rt: &impl Abort,
     alloc: Global,
-    options: MarketOptions,
+    options: Opening,
     script: &[u8],
     replies: &[u8],
     unread: u64,
@@ -27,7 +27,7 @@ fn answers_of(
 
 /// The same of a usual market.
 fn answers(rt: &impl Abort, alloc: Global, script: &[u8], replies: &[u8], unread: u64) {
-    answers_of(rt, alloc, MarketOptions::USUAL, script, replies, unread);
+    answers_of(rt, alloc, USUAL_MARKET, script, replies, unread);
 }
 
 /// The same of a market whose arenas, stamps and controls are numbered to 3.
@@ -35,9 +35,9 @@ fn answers_to_three(rt: &impl Abort, alloc: Global, script: &[u8], replies: &[u8
     let Some(last) = LastNumber::new(3) else {
         panic!(rt; "no last number");
     };
-    let options = MarketOptions {
+    let options = Opening {
         last,
-        ..MarketOptions::USUAL
+        ..USUAL_MARKET
     };
     answers_of(rt, alloc, options, script, replies, 0);
 }
@@ -78,7 +78,7 @@ fn a_line_of_more_than_256_bytes_is_unread(rt: HostRuntime) {
     for size in [1, 100, 256] {
         let mut source = TestSource::new(&long).in_pieces_of(size);
         let mut sink = new_sink(&rt, rt.alloc());
-        let told = run_script(rt.alloc(), MarketOptions::USUAL, &mut source, &mut sink);
+        let told = run_script(rt.alloc(), USUAL_MARKET, &mut source, &mut sink);
         holds(&rt, told == Ok(1) && sink.taken() == b"unread\n".as_slice());
         drop(sink);
     }

@@ -6,7 +6,7 @@ use crate::asserts::{holds, same};
 use crate::work::new_sink;
 use byte_devices::{DeviceFault, Refusal, Sink, Source, TestSink, TestSource};
 use market_prog::{
-    MarketOptions, RunFault, explain_script, run_drive, run_journal, run_replay, run_script,
+    RunFault, USUAL_MARKET, explain_script, run_drive, run_journal, run_replay, run_script,
 };
 use std::alloc::Global;
 use std::process::Abort;
@@ -177,7 +177,7 @@ impl Engine {
         requires source_begins { source.old.source.ended ≡ false }
         requires sink_working { sink.old.sink.failed ≡ false }
     {
-        let usual = MarketOptions::USUAL;
+        let usual = USUAL_MARKET;
         match self {
             Engine::Run => run_script(alloc, usual, source, sink).err(),
             Engine::Journal => run_journal(alloc, usual, source, sink).err(),

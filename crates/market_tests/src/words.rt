@@ -1,10 +1,10 @@
 //! Command lines, and what is said of them.
 use crate::asserts::same;
 use market_prog::{
-    ChartOptions, Choice, DriveOptions, MarketOptions, ReplayOptions, ScriptOptions, ScriptTask,
+    ChartOptions, Choice, DriveOptions, ReplayOptions, ScriptOptions, ScriptTask, USUAL_MARKET,
     read_words,
 };
-use market_types::{ArenaId, LastNumber};
+use market_types::{ArenaId, LastNumber, Opening};
 use std::alloc::Global;
 use std::process::Abort;
 use std::rt::HostRuntime;
@@ -18,18 +18,18 @@ fn choose(rt: &impl Abort, alloc: Global, words: &[&str], due: Choice) {
 }
 
 /// That task, of a script that speaks to this market.
-fn script(task: ScriptTask, market: MarketOptions) -> Choice {
+fn script(task: ScriptTask, market: Opening) -> Choice {
     let progress = false;
     Choice::Script(task, ScriptOptions { market, progress })
 }
 
 #[test]
 fn options_are_read_or_default(rt: HostRuntime) {
-    let due = script(ScriptTask::Answer, MarketOptions::USUAL);
+    let due = script(ScriptTask::Answer, USUAL_MARKET);
     choose(&rt, rt.alloc(), &["market", "run"], due);
-    let due = script(ScriptTask::Journal, MarketOptions::USUAL);
+    let due = script(ScriptTask::Journal, USUAL_MARKET);
     choose(&rt, rt.alloc(), &["market", "run", "--journal"], due);
-    let due = script(ScriptTask::Explain, MarketOptions::USUAL);
+    let due = script(ScriptTask::Explain, USUAL_MARKET);
     choose(&rt, rt.alloc(), &["market", "explain"], due);
     let due = Choice::Replay(ReplayOptions { progress: false });
     choose(&rt, rt.alloc(), &["market", "replay"], due);
@@ -37,7 +37,7 @@ fn options_are_read_or_default(rt: HostRuntime) {
 
 /// That task, of a script that speaks to the usual market and of which progress is told.
 fn told(task: ScriptTask) -> Choice {
-    let market = MarketOptions::USUAL;
+    let market = USUAL_MARKET;
     let progress = true;
     Choice::Script(task, ScriptOptions { market, progress })
 }
@@ -67,21 +67,21 @@ fn progress_is_asked_for(rt: HostRuntime) {
 #[test]
 fn an_option_is_read_beside_the_usual_ones(rt: HostRuntime) {
     let words = ["market", "explain", "--base", "3"];
-    let three = MarketOptions {
+    let three = Opening {
         base: 3,
-        ..MarketOptions::USUAL
+        ..USUAL_MARKET
     };
     choose(&rt, rt.alloc(), &words, script(ScriptTask::Explain, three));
 }
 
 /// A market whose arenas are numbered to there.
-fn with_last(rt: &impl Abort, last: u32) -> MarketOptions {
+fn with_last(rt: &impl Abort, last: u32) -> Opening {
     let Some(last) = LastNumber::new(last) else {
         panic!(rt; "no last number");
     };
-    MarketOptions {
+    Opening {
         last,
-        ..MarketOptions::USUAL
+        ..USUAL_MARKET
     }
 }
 
@@ -98,7 +98,7 @@ fn the_greatest_numbers_are_read(rt: HostRuntime) {
         "--levels=8",
         "--last=4294967294",
     ];
-    let most = MarketOptions {
+    let most = Opening {
         base: 65_536,
         hard: 65_535,
         seats: 64,

@@ -2,7 +2,8 @@
 ghost use Rattle.std.specs.Prelude.{◌≡◌, false};
 
 use byte_devices::{Sink, Source, TestSink};
-use market_prog::{MarketOptions, RunFault, ScriptTask, explain_script, run_journal, run_script};
+use market_prog::{RunFault, ScriptTask, explain_script, run_journal, run_script};
+use market_types::Opening;
 use std::alloc::Global;
 use std::process::Abort;
 
@@ -20,7 +21,7 @@ pub(crate) fn new_sink(rt: &impl Abort, alloc: Global) -> TestSink
 pub(crate) fn work_script<R: Source, W: Sink>(
     alloc: Global,
     task: ScriptTask,
-    options: MarketOptions,
+    options: Opening,
     source: &mut R,
     sink: &mut W,
 ) -> Result<u64, RunFault>

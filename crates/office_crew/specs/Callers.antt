@@ -23,4 +23,4 @@ may_ask (Working _) _ = true
 
 -- the terms with so many seats, as an office keeps them
 abbrev pub terms_of : crew.MeetingTerms → ℕ → office.Terms
-terms_of t seats = record { base = t.base; hard = t.hard; seats = seats; places = t.places; levels = t.levels; last = t.last; keeping = t.keeping }
+terms_of t seats = record { opening = record { base = t.base; hard = t.hard; seats = seats; levels = t.levels; last = t.last }; places = t.places; keeping = t.keeping }

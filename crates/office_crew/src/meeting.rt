@@ -15,7 +15,7 @@ use crate::caller::{Caller, Task};
 use crate::member::{Member, Room, let_others_work, work_at_once, work_in_turn};
 use edit_history::{Keeping, Terms};
 use market_lock::{Closed, Office, Pass, Placed};
-use market_types::{LastNumber, OpenFault};
+use market_types::{LastNumber, OpenFault, Opening};
 use std::alloc::{AllocError, Global};
 use std::marker::Brand;
 use std::sync::Wait;
@@ -65,7 +65,7 @@ fn sent_home<O, T>(
     tasks: Vec<T>,
 ) -> Unmet<O, T>
     requires own { All (λ (p : OfPass). p.table ≡ office.table) passes.items }
-    requires all { vec_len passes ≡ office.terms.seats }
+    requires all { vec_len passes ≡ office.terms.opening.seats }
     ensures memory { result.fault ≡ OpenFault.Memory }
     ensures same { (result.openers ≡ openers) × (result.tasks ≡ tasks) }
 {
@@ -199,8 +199,8 @@ pub(crate) fn met<B: Room + Send, O: Task + Send, T: Task + Send, R: Threads + W
 ) -> Result<Meeting<O, T>, Unmet<O, T>>
     requires office { office.table ≡ B.table }
     requires own { All (λ (p : OfPass). p.table ≡ office.table) passes.items }
-    requires unused { (k : ℕ) → k < office.terms.seats → slice_get passes.items k ≡ Some (fresh office k) }
-    requires all { (vec_len passes ≡ office.terms.seats) × (vec_len openers + vec_len tasks ≡ office.terms.seats) }
+    requires unused { (k : ℕ) → k < office.terms.opening.seats → slice_get passes.items k ≡ Some (fresh office k) }
+    requires all { (vec_len passes ≡ office.terms.opening.seats) × (vec_len openers + vec_len tasks ≡ office.terms.opening.seats) }
     requires few { vec_len openers + vec_len tasks ≤ 64 }
     ensures headline { IfOk result (λ meeting. IsGivenBy (opening_of office.terms) meeting.closed.chronicle) }
     ensures whole { IfOk result (λ meeting. meeting.closed.chronicle ≡ chronicle_cut office.terms meeting.closed.chronicle.log meeting.closed.chronicle.from) }
@@ -265,13 +265,16 @@ pub fn meet<O: Task + Send, T: Task + Send, R: Threads + Wait + Sync>(
     ensures refused { IfErr result (λ unmet. (unmet.fault ≡ OpenFault.Memory) ⊎ (opened_by (terms_of terms (vec_len openers + vec_len tasks)) ≡ Err unmet.fault)) }
     ensures unmet { IfErr result (λ unmet. (unmet.openers ≡ openers) × (unmet.tasks ≡ tasks)) }
 {
-    let terms = Terms {
+    let opening = Opening {
         base: terms.base,
         hard: terms.hard,
         seats: (openers.len() + tasks.len()) as u8,
-        places: terms.places,
         levels: terms.levels,
         last: terms.last,
+    };
+    let terms = Terms {
+        opening,
+        places: terms.places,
         keeping: terms.keeping,
     };
     match Office::on_terms(alloc, terms) {

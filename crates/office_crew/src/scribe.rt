@@ -67,7 +67,7 @@ impl Scribe {
         ensures all { OnOk result (self.new.written ≡ self.new.pass.seen) }
         ensures unwritten { OnErr result (self.new.written ≡ self.old.written) }
         ensures missed { IfErr result (λ missed. HasMissed self.old.written self.new.pass.seen missed) }
-        ensures served { self.old.pass.terms.keeping ≡ InParts → self.old.pass.terms.seats ≤ vec_capacity spare → length self.new.pass.seen ≤ most_forgotten → IfErr result (λ missed. IsElsewhere self.old.written self.new.pass.seen missed) }
+        ensures served { self.old.pass.terms.keeping ≡ InParts → self.old.pass.terms.opening.seats ≤ vec_capacity spare → length self.new.pass.seen ≤ most_forgotten → IfErr result (λ missed. IsElsewhere self.old.written self.new.pass.seen missed) }
     {
         let Some(part) = office.cut(rt, &mut self.pass, spare) else {
             return Err(Missed::NoPart);

@@ -5,7 +5,7 @@ use crate::asserts::{holds, same};
 use crate::charts::draw;
 use byte_devices::{TestSink, TestSource};
 use journal_replay::Verdict;
-use market_prog::{MarketOptions, RunFault, explain_script, run_journal, run_replay, run_script};
+use market_prog::{RunFault, USUAL_MARKET, explain_script, run_journal, run_replay, run_script};
 use std::alloc::Global;
 use std::process::Abort;
 use std::rt::HostRuntime;
@@ -61,9 +61,9 @@ impl Engine {
         let mut source = TestSource::new(SCRIPT).in_pieces_of(20);
         let mut sink = new_sink(rt, alloc);
         let told = match self {
-            Engine::Run => run_script(alloc, MarketOptions::USUAL, &mut source, &mut sink),
-            Engine::Journal => run_journal(alloc, MarketOptions::USUAL, &mut source, &mut sink),
-            Engine::Explain => explain_script(alloc, MarketOptions::USUAL, &mut source, &mut sink),
+            Engine::Run => run_script(alloc, USUAL_MARKET, &mut source, &mut sink),
+            Engine::Journal => run_journal(alloc, USUAL_MARKET, &mut source, &mut sink),
+            Engine::Explain => explain_script(alloc, USUAL_MARKET, &mut source, &mut sink),
         };
         (told, sink)
     }

@@ -1,7 +1,8 @@
 //! The words of a command line.
 use crate::asserts::{holds, same};
 use clap::error::ErrorKind;
-use market_prog::{Choice, MarketOptions, ScriptOptions, ScriptTask, read_words};
+use market_prog::{Choice, ScriptOptions, ScriptTask, USUAL_MARKET, read_words};
+use market_types::Opening;
 use std::rt::HostRuntime;
 
 #[test]
@@ -18,9 +19,9 @@ fn a_refused_growth_leaves_words_to_be_read(rt: HostRuntime) {
         }
     };
     let nine_seats = ScriptOptions {
-        market: MarketOptions {
+        market: Opening {
             seats: 9,
-            ..MarketOptions::USUAL
+            ..USUAL_MARKET
         },
         progress: false,
     };

@@ -113,7 +113,7 @@ fn join_at_once<R: Wait + Abort>(rt: &R, alloc: Global, office: &Office, pass: P
 /// One seat opens an arena that asks for a worker, and cuts these two entries out; the other visits it.
 fn each_at_once<R: Wait + Abort>(rt: &R, alloc: Global, office: Office, passes: Vec<Pass>) -> Closed
     requires own { All (λ (p : OfPass). p.table ≡ office.table) passes.items }
-    requires two { (vec_len passes ≡ 2) × (office.terms.seats ≡ 2) }
+    requires two { (vec_len passes ≡ 2) × (office.terms.opening.seats ≡ 2) }
 {
     let mut passes = passes;
     let Some(second) = passes.pop() else {

@@ -55,7 +55,7 @@ fn worked<R: Wait>(
     placed: Vec<Placed>,
 ) -> Closed
     requires own { All (λ (p : OfPass). p.table ≡ office.table) passes.items }
-    requires three { (vec_len passes ≡ 3) × (office.terms.seats ≡ 3) }
+    requires three { (vec_len passes ≡ 3) × (office.terms.opening.seats ≡ 3) }
     requires room { (vec_len placed ≡ 0) × (0 < vec_capacity placed) }
 {
     let mut passes = passes;
@@ -151,7 +151,7 @@ fn visited<R: Wait>(
     placed: Vec<Placed>,
 ) -> Closed
     requires own { All (λ (p : OfPass). p.table ≡ office.table) passes.items }
-    requires two { (vec_len passes ≡ 2) × (office.terms.seats ≡ 2) }
+    requires two { (vec_len passes ≡ 2) × (office.terms.opening.seats ≡ 2) }
     requires nobody { vec_len placed ≡ 0 }
 {
     let mut passes = passes;
@@ -246,7 +246,7 @@ fn freed<R: Wait>(rt: &R, office: &Office, caller: Result<Placed, Pass>) -> Pass
 /// Two workers come to an arena, the entries are cut out, and both leave.
 fn cut_between<R: Wait>(rt: &R, alloc: Global, office: Office, passes: Vec<Pass>) -> Closed
     requires own { All (λ (p : OfPass). p.table ≡ office.table) passes.items }
-    requires three { (vec_len passes ≡ 3) × (office.terms.seats ≡ 3) }
+    requires three { (vec_len passes ≡ 3) × (office.terms.opening.seats ≡ 3) }
 {
     let mut passes = passes;
     let Some(third) = passes.pop() else {

@@ -44,7 +44,7 @@ fn misses<R: Wait + Abort>(
 /// Two scribes on one office: the second is told that its part begins behind the first one's.
 fn two_scribes<R: Wait + Abort>(rt: &R, alloc: Global, office: Office, passes: Vec<Pass>) -> Closed
     requires own { All (λ (p : OfPass). p.table ≡ office.table) passes.items }
-    requires two { (vec_len passes ≡ 2) × (office.terms.seats ≡ 2) }
+    requires two { (vec_len passes ≡ 2) × (office.terms.opening.seats ≡ 2) }
 {
     let mut passes = passes;
     let Some(second) = passes.pop() else {

@@ -1,6 +1,6 @@
 use Rattle.std.proofs.Common.{rules, ◌≡◌, [], Option, sym, subst}
 use Rattle.edit_history.specs.declared.part.Part.{Part}
-use Rattle.market_lock.specs.declared.view.View.TheVariants.{Idle}
+use Rattle.market_lock.specs.declared.view.View.TheVariants.{Outside}
 use Rattle.market_lock.specs.declared.view.Known.{Known}
 use Rattle.market_lock.specs.Views.{more_cuts, next_cuts, shown}
 use Rattle.market_lock.specs.Rule.{Follows}
@@ -19,4 +19,4 @@ pub returns-in-Some-clause-seat : goal.returns-in-Some-clause-seat
 returns-in-Some-clause-seat c =
     let h = c.requires.desk in
     let k : Known = known_of c.args.seat.now.me.0 in
-    (h.0, h.1, h.2, subst (λ (r : Option Part). c.store.new.seat.me ≡ (Idle (shown k h.0 h.1 (next_cuts r k h.0)), [])) (sym c.in-Some.is) (c.store.ensures.2 k h.0 h.1 h.2))
+    (h.0, h.1, h.2, subst (λ (r : Option Part). c.store.new.seat.me ≡ (Outside (shown k h.0 h.1 (next_cuts r k h.0)), [])) (sym c.in-Some.is) (c.store.ensures.2 k h.0 h.1 h.2))

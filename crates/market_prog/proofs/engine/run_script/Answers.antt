@@ -1,6 +1,6 @@
 use Rattle.std.proofs.Common.{ap, ◌∙◌, Err}
 use Rattle.std.proofs.lemmas.Result.{err_from_is_err_and}
-use Rattle.market_prog.specs.Options.{opening_of}
+use Rattle.market_types.specs.Opening.{opening_with}
 use Rattle.market_prog.proofs.Runs.{run-answers, run-stops, run-prompt, read-fault}
 use Rattle.market_prog.proofs.engine.run_script.Goals as goal
 
@@ -10,7 +10,7 @@ returns-in_err-session-clause-stops g c = λ opened.
     let a = c.args in
     let begun = c.new in
     let ran = c.take_lines.new in
-    rw (p.1, p.2) (run-stops _ begun.result.market (opening_of a.options) begun.result.unread (g.R.Source.left a.source.now) (g.R.Source.left ran.source) (g.W.Sink.taken a.sink.now) (g.W.Sink.taken ran.sink) (g.R.Source.failed ran.source) (g.W.Sink.failed ran.sink)
+    rw (p.1, p.2) (run-stops _ begun.result.market (opening_with a.options) begun.result.unread (g.R.Source.left a.source.now) (g.R.Source.left ran.source) (g.W.Sink.taken a.sink.now) (g.W.Sink.taken ran.sink) (g.R.Source.failed ran.source) (g.W.Sink.failed ran.sink)
     c.in_err-session.field-0.0 (begun.ensures.market ∙ c.in_ok-market.ensures.opened) begun.ensures.unread c.in_err-session.ensures.stops)
 
 pub returns-in_err-session-clause-prompt : goal.returns-in_err-session-clause-prompt
@@ -21,7 +21,7 @@ returns-in_err-session-clause-prompt g c e =
     let ran = c.take_lines.new in
     let told = rw (p.1, p.2) at e in
     let read = read-fault c.in_err-session.field-0.0 (cc) in
-    run-prompt begun.result.market (opening_of a.options) begun.result.unread (g.R.Source.left a.source.now) (g.R.Source.left ran.source) (g.W.Sink.taken a.sink.now) (g.W.Sink.taken ran.sink)
+    run-prompt begun.result.market (opening_with a.options) begun.result.unread (g.R.Source.left a.source.now) (g.R.Source.left ran.source) (g.W.Sink.taken a.sink.now) (g.W.Sink.taken ran.sink)
     (begun.ensures.market ∙ c.in_ok-market.ensures.opened) begun.ensures.unread (c.in_err-session.ensures.prompt (ap Err read))
 
 pub returns-clause-answers : goal.returns-clause-answers
@@ -29,5 +29,5 @@ returns-clause-answers g c =
     let a = c.args in
     let begun = c.new in
     let ran = c.take_lines.new in
-    rw c.unread.ensures (run-answers begun.result.market (opening_of a.options) begun.result.unread _ (g.R.Source.left a.source.now) (g.R.Source.left ran.source) (g.W.Sink.taken a.sink.now) (g.W.Sink.taken ran.sink)
+    rw c.unread.ensures (run-answers begun.result.market (opening_with a.options) begun.result.unread _ (g.R.Source.left a.source.now) (g.R.Source.left ran.source) (g.W.Sink.taken a.sink.now) (g.W.Sink.taken ran.sink)
     (begun.ensures.market ∙ c.in_ok-market.ensures.opened) begun.ensures.unread c.in_ok-session.ensures.all)

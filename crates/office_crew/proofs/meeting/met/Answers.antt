@@ -19,11 +19,11 @@ returns-clause-opened g c =
     let terms = c.args.office.terms in
     let first = c.work_in_order-first.result.0.items in
     let others = c.work_in_order-first.result.1.items in
-    let long : length c.args.passes.items ≡ terms.seats = search rules in
+    let long : length c.args.passes.items ≡ terms.opening.seats = search rules in
     let gone : length c.seated-2.new.passes.items ≡ 0 = search rules in
     let seats =
     seats_are c.args.office c.args.passes.items c.seated.new.passes.items c.seated-2.new.passes.items c.args.openers.items c.seated-2.new.tasks.items c.args.tasks.items c.seated.new.tasks.items c.seated-2.new.members.items c.seated.new.members.items
-    (λ k lt. c.requires.unused k (let l : k < terms.seats = omega arith in l)) c.seated-2.ensures.none_left gone c.seated.ensures.seated c.seated-2.ensures.seated in
+    (λ k lt. c.requires.unused k (let l : k < terms.opening.seats = omega arith in l)) c.seated-2.ensures.none_left gone c.seated.ensures.seated c.seated-2.ensures.seated in
     let met =
     callers_of_all (Met log) c.seated-2.new.passes.items c.gathered-2.new.passes.items c.gathered.new.passes.items c.in-Ok.field-0.placed.items c.gathered.new.placed.items c.gathered-2.new.placed.items others first
     c.gathered.ensures.free c.gathered-2.ensures.free c.gathered.ensures.working c.gathered-2.ensures.working c.close.ensures.passes c.close.ensures.placed in
@@ -37,11 +37,11 @@ returns-clause-worked g c =
     let terms = c.args.office.terms in
     let first = c.work_in_order-first.result.0.items in
     let others = c.work_in_order-first.result.1.items in
-    let long : length c.args.passes.items ≡ terms.seats = search rules in
+    let long : length c.args.passes.items ≡ terms.opening.seats = search rules in
     let gone : length c.seated-2.new.passes.items ≡ 0 = search rules in
     let seats =
     seats_are c.args.office c.args.passes.items c.seated.new.passes.items c.seated-2.new.passes.items c.args.openers.items c.seated-2.new.tasks.items c.args.tasks.items c.seated.new.tasks.items c.seated-2.new.members.items c.seated.new.members.items
-    (λ k lt. c.requires.unused k (let l : k < terms.seats = omega arith in l)) c.seated-2.ensures.none_left gone c.seated.ensures.seated c.seated-2.ensures.seated in
+    (λ k lt. c.requires.unused k (let l : k < terms.opening.seats = omega arith in l)) c.seated-2.ensures.none_left gone c.seated.ensures.seated c.seated-2.ensures.seated in
     let met =
     callers_of_all (Met log) c.seated-2.new.passes.items c.gathered-2.new.passes.items c.gathered.new.passes.items c.in-Ok.field-0.placed.items c.gathered.new.placed.items c.gathered-2.new.placed.items others first
     c.gathered.ensures.free c.gathered-2.ensures.free c.gathered.ensures.working c.gathered-2.ensures.working c.close.ensures.passes c.close.ensures.placed in

@@ -9,6 +9,6 @@ invariant-loop-number l =
     (l.seat.table_id ≡ l.table.shared.table_id)
     × (l.seat.me ≡ (Opener l.table.shared.key l.number, []))
     × (vec_len l.passes ≡ l.number)
-    × (vec_capacity l.passes ≡ l.fn.terms.seats)
+    × (vec_capacity l.passes ≡ l.fn.terms.opening.seats)
     × ((k : ℕ) → k < l.number → slice_get l.passes.items k ≡ Some (fresh (office_of l.table.shared.table_id l.table.shared.key) k))
     × All (λ (p : OfPass). p.table ≡ l.table.shared.table_id) l.passes.items

@@ -146,5 +146,5 @@ returns-clause-served c =
     let o = cut_off_by old c.take.new.seat.me c.cut_off-part.new.seat.me c.self.inside.number room r c.self.inside.calls c.self.invariant.1 (c.take.ensures.taken c.if-not-take.false) c.cut_off-part.ensures.view c.cut_off-part.ensures.desk in
     let told = cut_after (known_of old.0) c.self.inside.number room r c.self.inside.calls c.cut_off-part.new.seat.me o c.give_cut.new.seat.me c.give_cut.ensures.seat c.self.inside.seat.table_id c.give_cut.new.seat.table_id in
     let l = known_of c.give_cut.new.seat.me.0 in
-    subst (λ (p : OfPass). p.terms.keeping ≡ InParts → p.terms.seats ≤ room → length l.seen ≤ most_forgotten → IsSome r) c.self.view_is
+    subst (λ (p : OfPass). p.terms.keeping ≡ InParts → p.terms.opening.seats ≤ room → length l.seen ≤ most_forgotten → IsSome r) c.self.view_is
     (λ keeps roomy few. let placed = told.0.few in told_enough (known_of old.0) l room r told.0.told keeps (omega (arith, placed, roomy)) few)
