@@ -27,7 +27,7 @@ tested P true x l h = ((λ _. h.0), h.1)
 tested P false x l h = ((λ e. absurd (true≢false (sym e))), h)
 
 -- what holds of those that pass a test
-each_tested : {A : Type 0} (P : A → Type 0) (test : A → Bool) (xs : List A) → AllByRecursion P (filter test xs) → AllByRecursion (λ x. test x ≡ true → P x) xs
+pub each_tested : {A : Type 0} (P : A → Type 0) (test : A → Bool) (xs : List A) → AllByRecursion P (filter test xs) → AllByRecursion (λ x. test x ≡ true → P x) xs
 each_tested P test [] a = tt
 each_tested P test (x ∷ xs) a = let h = tested P (test x) x (filter test xs) a in (h.0, each_tested P test xs h.1)
 
@@ -35,7 +35,7 @@ passing : {A : Type 0} (P : A → Type 0) (b : Bool) (x : A) (l : List A) → P 
 passing P true x l p h = (p, h)
 passing P false x l p h = h
 
-each_passing : {A : Type 0} (P : A → Type 0) (test : A → Bool) (xs : List A) → AllByRecursion P xs → AllByRecursion P (filter test xs)
+pub each_passing : {A : Type 0} (P : A → Type 0) (test : A → Bool) (xs : List A) → AllByRecursion P xs → AllByRecursion P (filter test xs)
 each_passing P test [] a = tt
 each_passing P test (x ∷ xs) a = passing P (test x) x (filter test xs) a.0 (each_passing P test xs a.1)
 
@@ -95,11 +95,11 @@ module _ {J : Type 0} where
   places_before p [] x ys h = ((let e = h.0 in omega arith), tt)
   places_before p (y ∷ xs) x ys h = let more = places_before (p + 1) xs x ys h.1 in let e = h.0 in let le = more.0 in (omega arith, (omega arith, more.1))
 
-  given_each : (Q : Fed J → Type 0) (ps : List (ℕ × Fed J)) → AllByRecursion (λ (p : ℕ × Fed J). Q p.1) ps → AllByRecursion Q (given ps)
+  pub given_each : (Q : Fed J → Type 0) (ps : List (ℕ × Fed J)) → AllByRecursion (λ (p : ℕ × Fed J). Q p.1) ps → AllByRecursion Q (given ps)
   given_each Q [] a = tt
   given_each Q (p ∷ ps) a = (a.0, given_each Q ps a.1)
 
-  each_given : (Q : Fed J → Type 0) (ps : List (ℕ × Fed J)) → AllByRecursion Q (given ps) → AllByRecursion (λ (p : ℕ × Fed J). Q p.1) ps
+  pub each_given : (Q : Fed J → Type 0) (ps : List (ℕ × Fed J)) → AllByRecursion Q (given ps) → AllByRecursion (λ (p : ℕ × Fed J). Q p.1) ps
   each_given Q [] a = tt
   each_given Q (p ∷ ps) a = (a.0, each_given Q ps a.1)
 

@@ -7,3 +7,4 @@ pub mod Gathered
 pub mod Full
 pub mod Parts
 pub mod Settled
+pub mod Later

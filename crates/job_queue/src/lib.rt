@@ -7,16 +7,18 @@
 //! job that none took.
 //!
 //! Behind it lies `crossbeam_queue`'s bounded queue under a rule of this crate. `rule` says what holds between any two steps,
-//! `dealing` and `settling` are the two ends.
+//! `dealing` and `settling` are the two ends, and `law` says what follows of any order of pushes and pops.
 #![tactic(auto)]
 
 mod dealing;
+mod law;
 mod pass;
 mod queue;
 mod rule;
 mod settling;
 mod view;
 
+pub use law::what_is_left_was_stored_later;
 pub use pass::{Feeder, Taker};
 pub use queue::JobQueue;
 pub use view::Fed;
