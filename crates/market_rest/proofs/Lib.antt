@@ -1,0 +1,4 @@
+pub mod Apart
+pub mod Rest
+pub mod Alike
+pub mod Alone

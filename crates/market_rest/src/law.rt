@@ -1,0 +1,41 @@
+//! What a market at rest is, and what hangs on one arena alone. These functions do nothing: what they ensure holds wherever they are
+//! called.
+ghost use Rattle.std.specs.Prelude.{◌≡◌, ◌<◌, ℕ, List, None, All};
+ghost use Rattle.market_types.specs.declared.command.Call.{Call};
+ghost use Rattle.market_types.specs.State.{State, opening_to};
+ghost use Rattle.market_types.specs.Allotment.{active, allotment_of, limit_of, mandatory_pick, need, total_request};
+ghost use Rattle.market_types.specs.History.{state_after};
+ghost use Rattle.market_types.specs.Reading.{Fits};
+ghost use Rattle.market_rest.specs.Alike.{AreAlike, IsPlain, concerning};
+
+use allotment::bound_is_given_out;
+
+/// After any calls at a market that was just opened: where nobody is placed and no arena is in need, none asks for workers, if any may
+/// be active; where none may be, none that asks for some has enqueued work. So while all workers are out a Join is answered 'idle' only
+/// where there is nothing for them to do.
+pub fn a_market_at_rest_asks_for_nothing()
+    ensures some { (base hard seats levels last : ℕ) (calls : List Call) → All (λ (c : Call). Fits c.cmd) calls
+        → let s = state_after (opening_to base hard seats levels last) calls in
+        ((n : ℕ) → active s n ≡ 0) → need s ≡ None → 0 < limit_of s → total_request s.arenas ≡ 0 }
+    ensures none { (s : State) → ((n : ℕ) → active s n ≡ 0) → need s ≡ None → limit_of s ≡ 0 → mandatory_pick s ≡ None }
+{
+    bound_is_given_out();
+}
+
+/// What an arena may use and asks for, and the limit, hang on the Opens, the controls and the Requests at that arena alone, as long as
+/// nothing is closed, moved, resized or taken away: without all other calls they are the same.
+pub fn an_arena_asks_for_what_was_asked_at_it()
+    ensures { (a : ℕ) (s t : State) (calls : List Call) → All (λ (c : Call). IsPlain c.cmd) calls → AreAlike a s t → AreAlike a (state_after s calls) (state_after t (concerning a calls)) }
+{}
+
+/// After calls by which nothing is closed, moved, resized or taken away: where nobody is placed and no arena is in need, an arena would
+/// be allotted no worker either if none were asked for at any other, however many seats there were.
+pub fn a_market_at_rest_serves_no_arena_alone()
+    ensures { (a base hard seats others levels last : ℕ) (calls : List Call) → All (λ (c : Call). Fits c.cmd) calls → All (λ (c : Call). IsPlain c.cmd) calls
+        → let s = state_after (opening_to base hard seats levels last) calls in
+        ((n : ℕ) → active s n ≡ 0) → need s ≡ None
+        → allotment_of (state_after (opening_to base hard others levels last) (concerning a calls)) a ≡ 0 }
+{
+    a_market_at_rest_asks_for_nothing();
+    an_arena_asks_for_what_was_asked_at_it();
+}
