@@ -75,6 +75,7 @@ def main():
     compare_program("README.md", "first_market")
     compare_program("docs/EMBEDDING.md", "first_history")
     compare_program("docs/EMBEDDING.md", "first_threads")
+    compare_program("docs/EMBEDDING.md", "first_scribe")
     compared = passed_over = 0
     for page in PAGES:
         for first, block in blocks_of(page):
