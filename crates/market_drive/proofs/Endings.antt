@@ -29,15 +29,15 @@ use Rattle.worker_main.specs.declared.station.Station.{Station}
 use Rattle.worker_main.specs.declared.report.Ended.{Ended}
 use Rattle.worker_main.specs.declared.report.Ended.TheVariants.{GateShut, NoStation, Call}
 use Rattle.worker_main.specs.declared.report.Ended.TheVariants as ended
-use Rattle.worker_main.specs.Books.{IfNoStation}
+use Rattle.worker_main.specs.Books.{IfIdle, IfNoStation}
 use Rattle.worker_main.proofs.Calls.{called, full_earlier, if_idle_then, placed_later}
 use Rattle.market_drive.specs.Arenas.{AreNumbered}
-use Rattle.market_drive.specs.Causes.{AreEnds, AreEndsFrom, CanEndAt, CanEndIn, HasEndedAt, HasEndedSo, IsOpenedBy, still, terms_of_plan}
+use Rattle.market_drive.specs.Causes.{AreEnds, AreEndsFrom, AreTurnsIn, CanEndAt, CanEndIn, HasEndedAt, HasEndedSo, IsOpenedBy, terms_of_plan}
 use Rattle.market_drive.specs.Driving.{HasCause, HasCauseIn, IsOfText, IsOfficeOf}
 use Rattle.market_drive.specs.Ending.{IsDueTo, end_fault}
 use Rattle.market_drive.specs.Jobs.{HaveRequestsOf}
 use Rattle.market_drive.specs.Making.{commands_of}
-use Rattle.market_drive.specs.Opening.{HasGiven}
+use Rattle.market_drive.specs.Opening.{AreStill, HasGiven, HasTakenTurns}
 use Rattle.market_drive.specs.Reports.{OfReports, end_for, ends_of}
 use Rattle.market_drive.specs.declared.fault.DriveFault.{DriveFault}
 use Rattle.market_drive.specs.declared.fault.DriveFault.TheVariants.{BadPlan, Unservable, Unfinished, Doubled, Missing, Memory}
@@ -95,8 +95,18 @@ some_later CanEnd (Some e) p q r cmd reply on h = (h.0, ended_later p q r cmd re
 
 -- ---- what the ends of a meeting come to
 
-abbrev pub WorkerWorks : (Ended → Type 0) → Option Ended → OfPass → Option Ended → OfPass → Type 0
-WorkerWorks CanEnd before p after q = before ≡ None → IsSomeAnd after (λ e. CanEnd e × HasEndedSo p q e)
+abbrev pub WorkerWorks : (Ended → Type 0) → (ℕ → List Entry → Type 0) → Option Ended → OfPass → Option Ended → OfPass → Type 0
+WorkerWorks CanEnd Turns before p after q =
+    before ≡ None → IsSomeAnd after (λ e. CanEnd e × HasEndedSo p q e) × (p.seen ≡ [] → IsSomeAnd after (HasTakenTurns Turns p q))
+
+-- the turns of a worker that came with a new pass are all that the history has of its seat
+turned_at : (Turns : ℕ → List Entry → Type 0) (history : List Entry) (seat : ℕ) (p q : OfPass) (e : Ended) → p.seat ≡ seat → p.mine ≡ [] → q.seat ≡ p.seat → of_seat q.seat history ≡ q.mine → HasTakenTurns Turns p q e → IfIdle e (Turns seat (of_seat seat history))
+turned_at Turns history seat p q e at new same met h =
+    if_idle_then e
+    (λ t.
+    let all : of_seat seat history ≡ t.0 = ap (λ n. of_seat n history) (sym (same ∙ at)) ∙ (met ∙ (t.1 ∙ ap (λ l. l ++ t.0) new)) in
+    subst (Turns seat) (sym all) (subst (λ n. Turns n t.0) at t.2))
+    h
 
 abbrev pub OpenerWorks : Opener → OfPass → Opener → OfPass → Type 0
 OpenerWorks before p after q = IfNone after.fault (HasGiven before.cmds.now p q) × (before.fault ≡ None → IfSome after.fault (λ fault. HasEndedSo p q (Call fault)))
@@ -104,16 +114,18 @@ OpenerWorks before p after q = IfNone after.fault (HasGiven before.cmds.now p q)
 abbrev pub OpenerLets : Opener → Bool → Type 0
 OpenerLets o b = b ≡ is_none o.fault
 
-module _ (CanEnd : Ended → Type 0) (terms : Terms) (history : List Entry) where
-  all_ended : (seat : ℕ) (xs ys : List (Option Ended)) → AllByRecursion (λ (w : Option Ended). w ≡ None) xs → HaveWorked (WorkerWorks CanEnd) terms history seat xs ys → AreEndsFrom CanEnd terms history seat (ends_of ys) × (length (ends_of ys) ≡ length ys)
+module _ (CanEnd : Ended → Type 0) (Turns : ℕ → List Entry → Type 0) (terms : Terms) (history : List Entry) where
+  all_ended : (seat : ℕ) (xs ys : List (Option Ended)) → AllByRecursion (λ (w : Option Ended). w ≡ None) xs → HaveWorked (WorkerWorks CanEnd Turns) terms history seat xs ys → AreEndsFrom CanEnd Turns terms history seat (ends_of ys) × (length (ends_of ys) ≡ length ys)
   all_ended seat [] [] a h = (tt, refl)
   all_ended seat [] (y ∷ ys) a h = absurd h
   all_ended seat (x ∷ xs) [] a h = absurd h
-  all_ended seat (x ∷ xs) (None ∷ ys) a h = absurd (h.0.3 a.0)
+  all_ended seat (x ∷ xs) (None ∷ ys) a h = absurd (h.0.3 a.0).0
   all_ended seat (x ∷ xs) (Some e ∷ ys) a h =
-      let w = h.0.3 a.0 in
+      let w = (h.0.3 a.0).0 in
+      let new = h.0.2 in
+      let turned = turned_at Turns history seat h.0.0 h.0.1 e new.1 new.3 h.0.4.2 h.0.5.1 ((h.0.3 a.0).1 new.2) in
       let rest = all_ended (seat + 1) xs ys a.1 h.1 in
-      (((w.0, (h.0.0, h.0.1, h.0.2, h.0.4, h.0.5, w.1)), rest.0), ap suc rest.1)
+      (((w.0, (h.0.0, h.0.1, new, h.0.4, h.0.5, w.1, turned)), rest.0), ap suc rest.1)
 
   none_ended : (xs : List (Option Ended)) → AllByRecursion (λ (w : Option Ended). w ≡ None) xs → ends_of xs ≡ []
   none_ended [] a = refl
@@ -125,18 +137,18 @@ module _ (CanEnd : Ended → Type 0) (terms : Terms) (history : List Entry) wher
   tells_none o None is lets = ap (λ x. ends_of (end_for x ∷ [])) is
   tells_none o (Some fault) is lets = cc
 
-  tells_one : (x o : Opener) (f : Option CallFault) → x.fault ≡ None → o.fault ≡ f → false ≡ is_none f → HaveWorked OpenerWorks terms history 0 (x ∷ []) (o ∷ []) → (fault : CallFault) × (faults_of (o ∷ []) ≡ Call fault ∷ []) × HasEndedAt terms history 0 (Call fault)
+  tells_one : (x o : Opener) (f : Option CallFault) → x.fault ≡ None → o.fault ≡ f → false ≡ is_none f → HaveWorked OpenerWorks terms history 0 (x ∷ []) (o ∷ []) → (fault : CallFault) × (faults_of (o ∷ []) ≡ Call fault ∷ []) × HasEndedAt Turns terms history 0 (Call fault)
   tells_one x o None new is lets h = cc
   tells_one x o (Some fault) new is lets h =
       let w = subst (λ y. IfSome y (λ z. HasEndedSo h.0.0 h.0.1 (Call z))) is (h.0.3.1 new) in
-      (fault, ap (λ y. ends_of (end_for y ∷ [])) is, (h.0.0, h.0.1, h.0.2, h.0.4, h.0.5, w))
+      (fault, ap (λ y. ends_of (end_for y ∷ [])) is, (h.0.0, h.0.1, h.0.2, h.0.4, h.0.5, w, tt))
 
   none_failed : (os : List Opener) → length os ≡ 1 → All (λ (o : Opener). OpenerLets o true) os → faults_of (reverse os) ≡ []
   none_failed [] one all = absurd (omega arith)
   none_failed (o ∷ []) one all = tells_none o o.fault refl (All-head (λ (x : Opener). OpenerLets x true) o [] all)
   none_failed (o ∷ x ∷ os) one all = absurd (omega arith)
 
-  one_failed : (xs os : List Opener) (o : Opener) → All (λ (x : Opener). x.fault ≡ None) xs → length os ≡ 1 → HaveWorked OpenerWorks terms history 0 xs os → Contains os o → OpenerLets o false → (fault : CallFault) × (faults_of (reverse os) ≡ Call fault ∷ []) × HasEndedAt terms history 0 (Call fault)
+  one_failed : (xs os : List Opener) (o : Opener) → All (λ (x : Opener). x.fault ≡ None) xs → length os ≡ 1 → HaveWorked OpenerWorks terms history 0 xs os → Contains os o → OpenerLets o false → (fault : CallFault) × (faults_of (reverse os) ≡ Call fault ∷ []) × HasEndedAt Turns terms history 0 (Call fault)
   one_failed xs [] o new one h at lets = absurd (omega arith)
   one_failed [] (z ∷ []) o new one h at lets = absurd h
   one_failed (x ∷ []) (z ∷ []) o new one h (zero, lt, is) lets = tells_one x z z.fault (All-head (λ (y : Opener). y.fault ≡ None) x [] new) refl (lets ∙ ap (λ (y : Opener). is_none y.fault) (sym is)) h
@@ -144,32 +156,32 @@ module _ (CanEnd : Ended → Type 0) (terms : Terms) (history : List Entry) wher
   one_failed (x ∷ y ∷ xs) (z ∷ []) o new one h at lets = absurd h.1
   one_failed xs (z ∷ w ∷ os) o new one h at lets = absurd (omega arith)
 
-  -- one opener that told no fault gave all its commands
-  gave_all : (cmds : List Cmd) (x o : Opener) (f : Option CallFault) → x.cmds.now ≡ cmds → o.fault ≡ f → true ≡ is_none f → HaveWorked OpenerWorks terms history 0 (x ∷ []) (o ∷ []) → IsOpenedBy (still cmds) history
-  gave_all cmds x o (Some fault) own is lets h = cc
-  gave_all cmds x o None own is lets h =
+  -- one opener that told no fault gave all its commands, and no other, where none of them moves a seat
+  gave_all : (cmds : List Cmd) (x o : Opener) (f : Option CallFault) → AreStill cmds → x.cmds.now ≡ cmds → o.fault ≡ f → true ≡ is_none f → HaveWorked OpenerWorks terms history 0 (x ∷ []) (o ∷ []) → IsOpenedBy cmds history
+  gave_all cmds x o (Some fault) quiet own is lets h = cc
+  gave_all cmds x o None quiet own is lets h =
       let p = h.0.0 in
       let q = h.0.1 in
       let given = subst (λ y. IfNone y (HasGiven x.cmds.now p q)) is h.0.3.0 in
       let mine : q.mine ≡ given.0 = given.1 ∙ ap (λ l. l ++ given.0) h.0.2.3 in
       let all : of_seat 0 history ≡ given.0 = ap (λ n. of_seat n history) (sym (h.0.4.2 ∙ h.0.2.1)) ∙ (h.0.5.1 ∙ mine) in
-      ap (λ (l : List Entry). still (map (λ (e : Entry). e.call.cmd) l)) all ∙ (given.2 ∙ ap still own)
+      ap (λ (l : List Entry). map (λ (e : Entry). e.call.cmd) l) all ∙ (given.3 (subst AreStill (sym own) quiet) ∙ own)
 
-  are_opened : (cmds : List Cmd) (xs os : List Opener) → All (λ (x : Opener). x.cmds.now ≡ cmds) xs → length os ≡ 1 → All (λ (o : Opener). OpenerLets o true) os → HaveWorked OpenerWorks terms history 0 xs os → IsOpenedBy (still cmds) history
-  are_opened cmds xs [] own one lets h = absurd (omega arith)
-  are_opened cmds [] (o ∷ []) own one lets h = absurd h
-  are_opened cmds (x ∷ []) (o ∷ []) own one lets h = gave_all cmds x o o.fault (All-head (λ (y : Opener). y.cmds.now ≡ cmds) x [] own) refl (All-head (λ (y : Opener). OpenerLets y true) o [] lets) h
-  are_opened cmds (x ∷ y ∷ xs) (o ∷ []) own one lets h = absurd h.1
-  are_opened cmds xs (o ∷ z ∷ os) own one lets h = absurd (omega arith)
+  are_opened : (cmds : List Cmd) (xs os : List Opener) → AreStill cmds → All (λ (x : Opener). x.cmds.now ≡ cmds) xs → length os ≡ 1 → All (λ (o : Opener). OpenerLets o true) os → HaveWorked OpenerWorks terms history 0 xs os → IsOpenedBy cmds history
+  are_opened cmds xs [] quiet own one lets h = absurd (omega arith)
+  are_opened cmds [] (o ∷ []) quiet own one lets h = absurd h
+  are_opened cmds (x ∷ []) (o ∷ []) quiet own one lets h = gave_all cmds x o o.fault quiet (All-head (λ (y : Opener). y.cmds.now ≡ cmds) x [] own) refl (All-head (λ (y : Opener). OpenerLets y true) o [] lets) h
+  are_opened cmds (x ∷ y ∷ xs) (o ∷ []) quiet own one lets h = absurd h.1
+  are_opened cmds xs (o ∷ z ∷ os) quiet own one lets h = absurd (omega arith)
 
-  pub meeting_ends : (n : ℕ) (cmds : List Cmd) (xs os : List Opener) (workers ws : List (Option Ended)) (told : List Ended) → length os ≡ 1 → length ws ≡ n → All (λ (x : Opener). x.cmds.now ≡ cmds) xs → All (λ (x : Opener). x.fault ≡ None) xs → All (λ (w : Option Ended). w ≡ None) workers
-      → HaveWorked OpenerWorks terms history 0 xs os → HasFollowed OpenerLets os (HaveWorked (WorkerWorks CanEnd) terms history 1 workers ws) (ws ≡ workers)
-      → told ≡ faults_of (reverse os) ++ ends_of ws → AreEnds CanEnd terms (still cmds) history n told
-  meeting_ends n cmds xs os workers ws told one many own new fresh opened (inl h) is =
+  pub meeting_ends : (n : ℕ) (cmds : List Cmd) (xs os : List Opener) (workers ws : List (Option Ended)) (told : List Ended) → AreStill cmds → length os ≡ 1 → length ws ≡ n → All (λ (x : Opener). x.cmds.now ≡ cmds) xs → All (λ (x : Opener). x.fault ≡ None) xs → All (λ (w : Option Ended). w ≡ None) workers
+      → HaveWorked OpenerWorks terms history 0 xs os → HasFollowed OpenerLets os (HaveWorked (WorkerWorks CanEnd Turns) terms history 1 workers ws) (ws ≡ workers)
+      → told ≡ faults_of (reverse os) ++ ends_of ws → AreEnds CanEnd Turns terms cmds history n told
+  meeting_ends n cmds xs os workers ws told quiet one many own new fresh opened (inl h) is =
       let all = all_ended 1 workers ws (recursion_from_All (λ (w : Option Ended). w ≡ None) workers fresh) h.1 in
       let e : told ≡ ends_of ws = is ∙ ap (λ l. l ++ ends_of ws) (none_failed os one h.0) in
-      inl (subst (AreEndsFrom CanEnd terms history 1) (sym e) all.0, ap length e ∙ (all.1 ∙ many), are_opened cmds xs os own one h.0 opened)
-  meeting_ends n cmds xs os workers ws told one many own new fresh opened (inr h) is =
+      inl (subst (AreEndsFrom CanEnd Turns terms history 1) (sym e) all.0, ap length e ∙ (all.1 ∙ many), are_opened cmds xs os quiet own one h.0 opened)
+  meeting_ends n cmds xs os workers ws told quiet one many own new fresh opened (inr h) is =
       let f = one_failed xs os h.0.0 new one opened h.0.1 h.0.2 in
       let nobody : ends_of ws ≡ [] = ap ends_of h.1 ∙ none_ended workers (recursion_from_All (λ (w : Option Ended). w ≡ None) workers fresh) in
       inr (f.0, is ∙ (ap (λ l. faults_of (reverse os) ++ l) nobody ∙ (append-nil (faults_of (reverse os)) ∙ f.1)), f.2)
@@ -197,12 +209,12 @@ no_fault call.Memory e = none-some Memory (sym e)
 no_fault call.HistoryFull e = none-some Unfinished (sym e)
 
 -- where all ended for want of work the market was opened
-pub idle_opened : (CanEnd : Ended → Type 0) (terms : Terms) (cmds : List Cmd) (history : List Entry) (workers : ℕ) (es : List Ended) → end_fault es ≡ None → AreEnds CanEnd terms cmds history workers es → IsOpenedBy cmds history
-idle_opened CanEnd terms cmds history workers es idle (inl h) = h.2
-idle_opened CanEnd terms cmds history workers es idle (inr h) = absurd (no_fault h.0 (ap end_fault (sym h.1) ∙ idle))
+pub idle_opened : (CanEnd : Ended → Type 0) (Turns : ℕ → List Entry → Type 0) (terms : Terms) (cmds : List Cmd) (history : List Entry) (workers : ℕ) (es : List Ended) → end_fault es ≡ None → AreEnds CanEnd Turns terms cmds history workers es → IsOpenedBy cmds history
+idle_opened CanEnd Turns terms cmds history workers es idle (inl h) = h.2
+idle_opened CanEnd Turns terms cmds history workers es idle (inr h) = absurd (no_fault h.0 (ap end_fault (sym h.1) ∙ idle))
 
 pub drive_cause : (refused : ℕ → ℕ → Type 0) (p : Planned) (workers : ℕ) (closed : Closed) (r : OfReports) (fault : DriveFault) → IsOfficeOf p workers closed → (r.torn ≡ true → fault ≡ Memory) → (r.torn ≡ false → IsDueTo p.jobs r.done r.ended fault)
-    → (r.torn ≡ false → AreEnds (CanEndIn p refused) (terms_of_plan p workers) (commands_of p) closed.chronicle.log workers r.ended) → HasCause refused p workers fault
+    → (r.torn ≡ false → AreEnds (CanEndIn p refused) (AreTurnsIn p) (terms_of_plan p workers) (commands_of p) closed.chronicle.log workers r.ended) → HasCause refused p workers fault
 drive_cause refused p workers closed r (BadPlan line) office torn due ends = tt
 drive_cause refused p workers closed r (Unservable a) office torn due ends = tt
 drive_cause refused p workers closed r (Doubled number) office torn due ends = tt

@@ -2,7 +2,7 @@
 use Rattle.std.proofs.Common.{◌≡◌, ◌<◌, ◌≤◌, subst, IfNone, ℕ, ◌+◌, true, false, true≢false, not, cond, List, [], ◌∷◌, ◌++◌, length, map, take, get_or, refl, ap, sym, ◌∙◌, append_assoc, append-nil, Result, Ok, Err, Option, Some, None, is_some}
 use Rattle.std.specs.List.{enumerate_from}
 use Rattle.std.proofs.lemmas.List.{map-append, take_all, take_more}
-use Rattle.std.proofs.lemmas.List.Elements.{filter-append}
+use Rattle.std.proofs.lemmas.List.Elements.{All-append, All-cons, All-nil, All-pop, filter-append}
 use Rattle.std.proofs.lemmas.Option.{none-some, same_Some}
 use Rattle.market_types.specs.declared.command.Cmd.{Cmd}
 use Rattle.market_types.specs.declared.command.Cmd.TheVariants as cmd
@@ -20,27 +20,36 @@ use Rattle.worker_main.specs.Steps.{HasGoneOn}
 use Rattle.worker_main.proofs.Calls.{called, goes_on}
 use Rattle.drive_plan.specs.declared.plan.PlannedArena.{PlannedArena}
 use Rattle.drive_plan.specs.Plans.{Planned}
-use Rattle.market_drive.specs.Causes.{still}
 use Rattle.market_drive.specs.Making.{asks, commands_of, founding, opens, requests}
-use Rattle.market_drive.specs.Opening.{HasGiven, fault_in}
+use Rattle.market_drive.specs.Opening.{AreStill, HasGiven, fault_in, still}
 
 still_more : (cmds : List Cmd) (k : ℕ) (c : Cmd) → k < length cmds → c ≡ get_or cmds k c → still (take (k + 1) cmds) ≡ still (take k cmds) ++ still (c ∷ [])
 still_more cmds k c low is =
     ap still (take_more cmds k c low ∙ (λ i. take k cmds ++ sym is i ∷ [])) ∙ filter-append (λ (x : Cmd). not (moves_seat x)) (take k cmds) (c ∷ [])
 
-still_append : (xs ys : List Cmd) → still (xs ++ ys) ≡ still xs ++ still ys
-still_append xs ys = filter-append (λ (x : Cmd). not (moves_seat x)) xs ys
+-- it moves no seat
+abbrev IsStill : Cmd → Type 0
+IsStill c = moves_seat c ≡ false
 
-still_map : {A : Type 0} (f : A → Cmd) (xs : List A) → ((x : A) → moves_seat (f x) ≡ false) → still (map f xs) ≡ map f xs
-still_map f [] none = refl
-still_map f (x ∷ xs) none = ap (λ b. cond (not b) (f x ∷ still (map f xs)) (still (map f xs))) (none x) ∙ ap (λ l. f x ∷ l) (still_map f xs none)
+still_map : {A : Type 0} (f : A → Cmd) (xs : List A) → ((x : A) → IsStill (f x)) → AreStill (map f xs)
+still_map f [] none = All-nil IsStill
+still_map f (x ∷ xs) none = All-cons IsStill (f x) (map f xs) (none x) (still_map f xs none)
 
 -- no command of a plan moves a seat
-pub still_commands : (p : Planned) → still (commands_of p) ≡ commands_of p
+pub still_commands : (p : Planned) → AreStill (commands_of p)
 still_commands p =
-    let first : still (founding p) ≡ founding p =
-    still_append (map cmd.Control p.controls) (map opens p.arenas) ∙ (λ i. still_map cmd.Control p.controls (λ x. refl) i ++ still_map opens p.arenas (λ x. refl) i) in
-    still_append (founding p) (requests p) ∙ (λ i. first i ++ still_map (λ (e : ℕ × PlannedArena). asks e.0 e.1) (enumerate_from 1 p.arenas) (λ x. refl) i)
+    let controls = map cmd.Control p.controls in
+    let arenas = map opens p.arenas in
+    All-append IsStill (founding p) (requests p)
+    (All-append IsStill controls arenas (still_map cmd.Control p.controls (λ x. refl)) (still_map opens p.arenas (λ x. refl)))
+    (still_map (λ (e : ℕ × PlannedArena). asks e.0 e.1) (enumerate_from 1 p.arenas) (λ x. refl))
+
+-- one command more
+front_more : (cmds : List Cmd) (k : ℕ) (c : Cmd) → k < length cmds → c ≡ get_or cmds k c → take (k + 1) cmds ≡ take k cmds ++ c ∷ []
+front_more cmds k c low is = take_more cmds k c low ∙ (λ i. take k cmds ++ sym is i ∷ [])
+
+still_front : (cmds : List Cmd) (k : ℕ) (c : Cmd) → take (k + 1) cmds ≡ take k cmds ++ c ∷ [] → AreStill (take (k + 1) cmds) → AreStill (take k cmds) × IsStill c
+still_front cmds k c is all = All-pop IsStill (take (k + 1) cmds) (take k cmds) (Some c) is all
 
 abbrev cmds_of : List Entry → List Cmd
 cmds_of added = map (λ (e : Entry). e.call.cmd) added
@@ -54,6 +63,9 @@ module _ (cmds : List Cmd) (k : ℕ) (c : Cmd) (p q r : OfPass) (low : k < lengt
         mine ∙ (ap (λ l. l ++ one ∷ []) before.1 ∙ append_assoc p.mine before.0 (one ∷ [])),
         ap still (map-append (λ (e : Entry). e.call.cmd) before.0 (one ∷ []))
             ∙ (filter-append (λ (x : Cmd). not (moves_seat x)) (cmds_of before.0) (c ∷ []) ∙ (ap (λ l. l ++ still (c ∷ [])) before.2 ∙ sym (still_more cmds k c low is))),
+        λ all.
+            let front = front_more cmds k c low is in
+            map-append (λ (e : Entry). e.call.cmd) before.0 (one ∷ []) ∙ (ap (λ l. l ++ c ∷ []) (before.3 (still_front cmds k c front all).0) ∙ sym front),
       )
 
   -- it was not asked, since it would move the seat
@@ -62,6 +74,7 @@ module _ (cmds : List Cmd) (k : ℕ) (c : Cmd) (p q r : OfPass) (low : k < lengt
     before.0,
     ap (λ (x : OfPass). x.mine) same ∙ before.1,
     before.2 ∙ (sym (append-nil (still (take k cmds))) ∙ (ap (λ b. still (take k cmds) ++ cond (not b) (c ∷ []) []) (sym moves) ∙ sym (still_more cmds k c low is))),
+    λ all. absurd (true≢false (sym moves ∙ (still_front cmds k c (front_more cmds k c low is) all).1)),
   )
 
 -- what is not asked would move the seat
@@ -118,4 +131,4 @@ given_all cmds k p q None all given = subst (λ l. HasGiven l p q) (take_all k c
 given_all cmds k p q (Some fault) all given = tt
 
 pub none_given : (p : OfPass) → HasGiven [] p p
-none_given p = ([], sym (append-nil p.mine), refl)
+none_given p = ([], sym (append-nil p.mine), refl, λ all. refl)

@@ -1,4 +1,4 @@
--- Which jobs are an arena's, and what its queue is like. No clause of a public call has these words (own).
+-- Which jobs are an arena's, and what its queue is like. No clause of a public call has these words but `AreNumbered` (own).
 use Rattle.std.specs.Prelude.{◌≡◌, ℕ, ◌+◌, ◌<◌, ◌==◌, max, List, length, slice_index_or}
 use Rattle.std.specs.List.{count_by}
 use Rattle.drive_plan.specs.declared.task.PlannedJob.{PlannedJob}

@@ -10,7 +10,7 @@ use Rattle.drive_plan.specs.declared.task.Done.{Done}
 use Rattle.drive_plan.specs.declared.reader.PlanFault.TheVariants as plan
 use Rattle.market_drive.specs.Servable.{IsUnservable, IsLeastUnservable}
 use Rattle.worker_main.specs.declared.report.Ended.{Ended}
-use Rattle.market_drive.specs.Causes.{AreEnds, CanEndIn, IsOpenedBy, terms_of_plan}
+use Rattle.market_drive.specs.Causes.{AreEnds, AreTurnsIn, CanEndIn, IsOpenedBy, terms_of_plan}
 use Rattle.market_drive.specs.Making.{commands_of}
 use Rattle.market_drive.specs.Ending.{end_fault}
 use Rattle.market_drive.specs.declared.fault.DriveFault.{DriveFault}
@@ -64,7 +64,7 @@ pub record HasEnded (refused : ℕ → ℕ → Type 0) (p : Planned) (workers : 
   pub closed : Closed
   pub office : IsOfficeOf p workers closed
   pub ended : List Ended
-  pub ends : AreEnds (CanEndIn p refused) (terms_of_plan p workers) (commands_of p) closed.chronicle.log workers ended
+  pub ends : AreEnds (CanEndIn p refused) (AreTurnsIn p) (terms_of_plan p workers) (commands_of p) closed.chronicle.log workers ended
   pub due_is : end_fault ended ≡ due
 
 -- what is told beside a fault: where it is unfinished, that a worker or the opening was broken off, and none for want of memory; where an

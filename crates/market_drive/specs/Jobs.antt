@@ -1,4 +1,5 @@
--- The jobs that a plan's queues are fed with, and what came out of them. No clause of a public call has these words (own).
+-- The jobs that a plan's queues are fed with, and what came out of them. No clause of a public call has these words but `HaveRequestsOf`
+-- (own).
 use Rattle.std.specs.Prelude.{◌≡◌, ℕ, ◌==◌, List, [], ◌++◌, map, slice_get, Option, Some, None, IsPermutation}
 use Rattle.std.specs.List.{enumerate_from, filter, flat_map, sum_by}
 use Rattle.job_queue.specs.Seen.{OfTaker, all_taken}

@@ -50,8 +50,8 @@ impl Task for Opener<'_> {
 
     ghost lets = { λ opener lets. lets ≡ is_none opener.fault };
 
-    /// Where it tells no fault, each of its commands was answered, but for those that would move its seat; where it tells a full
-    /// history, places were lacking.
+    /// Where it tells no fault, each of its commands was answered, but for those that would move its seat, and where none would, nothing
+    /// else was called; where it tells a full history, places were lacking.
     fn work<R: Wait>(
         &mut self,
         rt: &R,

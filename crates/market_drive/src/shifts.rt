@@ -2,6 +2,7 @@
 ghost use Rattle.std.specs.Prelude.{◌≡◌, ◌+◌, ◌<◌, ◌≤◌, ◌++◌, [], ℕ, List, None, Option, false, length, map, reverse, vec_len, vec_capacity, AllPairs, IfOk, IfSome};
 ghost use Rattle.std.specs.List.{All, sum_by};
 ghost use Rattle.market_types.specs.declared.command.Cmd.{Cmd as OfCmd};
+ghost use Rattle.market_types.specs.declared.reply.Entry.{Entry};
 ghost use Rattle.market_types.specs.State.{opening_to};
 ghost use Rattle.edit_history.specs.declared.keeping.Keeping.TheVariants.{Everything};
 ghost use Rattle.market_lock.specs.Headline.{IsGivenBy};
@@ -11,11 +12,13 @@ ghost use Rattle.market_drive.specs.declared.opener.Opener.{Opener};
 ghost use Rattle.market_drive.specs.Driving.{IsOfficeOf};
 ghost use Rattle.market_drive.specs.Jobs.{taken_by, taken_weight};
 ghost use Rattle.market_drive.specs.Racks.{IsFor, OfRack};
-ghost use Rattle.market_drive.specs.Causes.{AreEnds, CanEndAt, WasLetThrough, still, terms_of_plan};
+ghost use Rattle.market_drive.specs.Causes.{AreEnds, CanEndAt, WasLetThrough, terms_of_plan};
+ghost use Rattle.market_drive.specs.Opening.{AreStill};
 ghost use Rattle.market_drive.specs.Reports.{end_for, ends_of, shown, untold};
 ghost use Rattle.office_crew.specs.Callers.{terms_of};
 ghost use Rattle.market_drive.specs.Lines.{queues_at};
 ghost use Rattle.worker_main.specs.Stations.{HaveOwnArenas};
+ghost use Rattle.worker_main.specs.Turns.{AreTurnsOf};
 ghost use Rattle.worker_main.specs.declared.report.Ended.{Ended};
 
 use crate::opener::Opener;
@@ -48,6 +51,7 @@ fn man<'a, Y: Yard, G: Gate>(
     requires empty { workers.old.items ≡ [] }
     requires ends { (e : Ended) → CanEndAt stations.now (G.refused gate.now) e → Y.ends e }
     requires answers { (d : Done) → WasLetThrough (G.passed gate.now) (G.told gate.now) d → Y.answers d }
+    requires turns { (seat : ℕ) (calls : List Entry) → AreTurnsOf stations.now seat calls → Y.turns seat calls }
     ensures none { racks.new ≡ [] }
     ensures each { vec_len workers.new ≡ length racks.old }
     ensures fresh { All (λ (w : Option Ended). w ≡ None) workers.new.items }
@@ -134,7 +138,7 @@ fn work_together<Y: Yard + Send + Sync, G: Gate + Sync, R: Threads + Wait + Sync
     ensures calls { IfSome result.1 (λ closed. closed.calls ≡ length closed.chronicle.log) }
     ensures whole { terms.keeping ≡ Everything → IfSome result.1 (λ closed. closed.chronicle.from ≡ 0) }
     ensures places { IfSome result.1 (λ closed. closed.chronicle.places ≡ terms.places) }
-    ensures ends { (cmds : List OfCmd) → All (λ (o : Opener). o.cmds.now ≡ cmds) openers.entry.items → reports.new.torn ≡ false → IfSome result.1 (λ closed. AreEnds Y.ends (terms_of terms (1 + vec_len workers.entry)) (still cmds) closed.chronicle.log (vec_len workers.entry) reports.new.ended) }
+    ensures ends { (cmds : List OfCmd) → All (λ (o : Opener). o.cmds.now ≡ cmds) openers.entry.items → AreStill cmds → reports.new.torn ≡ false → IfSome result.1 (λ closed. AreEnds Y.ends Y.turns (terms_of terms (1 + vec_len workers.entry)) cmds closed.chronicle.log (vec_len workers.entry) reports.new.ended) }
     ensures answers { reports.new.torn ≡ false → All Y.answers reports.new.done }
     ensures shown { reports.new.torn ≡ false → (weigh : Job → ℕ) → sum_by weigh (shown reports.new) ≡ sum_by weigh (shown reports.old) + taken_weight weigh result.0 }
 {
@@ -187,10 +191,12 @@ pub(crate) fn work_shifts<Y: Yard + Send + Sync, G: Gate + Sync, R: Threads + Wa
     requires unused { (weigh : Job → ℕ) → taken_weight weigh racks ≡ 0 }
     requires ends { (e : Ended) → CanEndAt stations.now (G.refused gate.now) e → Y.ends e }
     requires answers { (d : Done) → WasLetThrough (G.passed gate.now) (G.told gate.now) d → Y.answers d }
+    requires turns { (seat : ℕ) (calls : List Entry) → AreTurnsOf stations.now seat calls → Y.turns seat calls }
+    requires still { AreStill cmds.now }
     ensures racks { All (IsFor Y.queues) result.racks }
     ensures each { length result.racks ≡ length racks }
     ensures office { IfSome result.closed (IsOfficeOf plan.now (length racks)) }
-    ensures ends { result.reports.torn ≡ false → IfSome result.closed (λ closed. AreEnds Y.ends (terms_of_plan plan.now (length racks)) (still cmds.now) closed.chronicle.log (length racks) result.reports.ended) }
+    ensures ends { result.reports.torn ≡ false → IfSome result.closed (λ closed. AreEnds Y.ends Y.turns (terms_of_plan plan.now (length racks)) cmds.now closed.chronicle.log (length racks) result.reports.ended) }
     ensures answers { result.reports.torn ≡ false → All Y.answers result.reports.done }
     ensures shown { result.reports.torn ≡ false → (weigh : Job → ℕ) → sum_by weigh (shown result.reports) ≡ taken_weight weigh result.racks }
 {

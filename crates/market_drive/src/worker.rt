@@ -1,13 +1,16 @@
 //! A worker of a plan, in a place that a thread can borrow.
-ghost use Rattle.std.specs.Prelude.{◌≡◌, ◌<◌, [], None, IsSomeAnd, All, AllPairs};
+ghost use Rattle.std.specs.Prelude.{◌≡◌, ◌<◌, ℕ, List, [], None, IsSomeAnd, All, AllPairs};
 ghost use Rattle.market_lock.specs.Seen.{IsSamePass};
 ghost use Rattle.office_crew.specs.Callers.{who_is};
 ghost use Rattle.market_drive.specs.Racks.{IsFor};
 ghost use Rattle.market_drive.specs.Lines.{queues_at};
 ghost use Rattle.market_drive.specs.Jobs.{HasShown, taken_by};
 ghost use Rattle.market_drive.specs.Causes.{CanEndAt, HasEndedSo, WasLetThrough};
+ghost use Rattle.market_drive.specs.Opening.{HasTakenTurns};
+ghost use Rattle.market_types.specs.declared.reply.Entry.{Entry};
 ghost use Rattle.drive_plan.specs.declared.task.Done.{Done as AnAnswer};
 ghost use Rattle.worker_main.specs.Stations.{HaveOwnArenas};
+ghost use Rattle.worker_main.specs.Turns.{AreTurnsOf};
 ghost use Rattle.worker_main.specs.declared.report.Ended.{Ended as AnEnd};
 
 use crate::racks::Rack;
@@ -23,9 +26,11 @@ use worker_main::{Ended, Gate, Report, Station, work};
 /// How often a worker asks a gate at most, before it gives up.
 const TURNS: u64 = 1_000_000;
 
-/// Names the queues of one plan, how its workers can end, and what is so of each of their answers.
+/// Names the queues of one plan, how its workers can end, which calls they made where they ended for want of work, and what is so of
+/// each of their answers.
 pub(crate) trait Yard {
-    ghost use Rattle.std.specs.Prelude.{List};
+    ghost use Rattle.std.specs.Prelude.{ℕ, List};
+    ghost use Rattle.market_types.specs.declared.reply.Entry.{Entry};
     ghost use Rattle.job_queue.specs.Seen.{QueueId};
     ghost use Rattle.worker_main.specs.declared.report.Ended.{Ended};
     ghost use Rattle.drive_plan.specs.declared.task.Done.{Done};
@@ -33,6 +38,8 @@ pub(crate) trait Yard {
     ghost queues: { List QueueId };
 
     ghost ends: { Ended → Type 0 };
+
+    ghost turns: { ℕ → List Entry → Type 0 };
 
     ghost answers: { Done → Type 0 };
 }
@@ -43,6 +50,8 @@ impl Yard for Brand {
     ghost queues = { [] };
 
     ghost ends = { λ _. Unit {0} };
+
+    ghost turns = { λ _ _. Unit {0} };
 
     ghost answers = { λ _. Unit {0} };
 }
@@ -59,9 +68,11 @@ pub(crate) struct Worker<'a, G: Gate, Y: Yard> {
 }
 
 impl<'a, G: Gate, Y: Yard> Model for Worker<'a, G, Y> {
-    ghost use Rattle.std.specs.Prelude.{◌≡◌, Option, IsSomeAnd, All, AllPairs};
+    ghost use Rattle.std.specs.Prelude.{◌≡◌, ℕ, List, Option, IsSomeAnd, All, AllPairs};
+    ghost use Rattle.market_types.specs.declared.reply.Entry.{Entry};
     ghost use Rattle.drive_plan.specs.declared.task.Done.{Done};
     ghost use Rattle.worker_main.specs.Stations.{HaveOwnArenas};
+    ghost use Rattle.worker_main.specs.Turns.{AreTurnsOf};
     ghost use Rattle.worker_main.specs.declared.report.Ended.{Ended};
     ghost use Rattle.market_drive.specs.Racks.{OfRack, IsFor};
     ghost use Rattle.market_drive.specs.Lines.{queues_at};
@@ -72,7 +83,7 @@ impl<'a, G: Gate, Y: Yard> Model for Worker<'a, G, Y> {
 
     ghost view = { λ w. w.ended };
 
-    ghost invariant = { λ w. IsSomeAnd w.rack (λ (r : OfRack). IsFor Y.queues r × HasShown r.takers w.done.items w.ended) × (queues_at w.stations.now ≡ Y.queues) × AllPairs HaveOwnArenas w.stations.now × ((e : Ended) → CanEndAt w.stations.now (G.refused w.gate.now) e → Y.ends e) × All Y.answers w.done.items × ((d : Done) → WasLetThrough (G.passed w.gate.now) (G.told w.gate.now) d → Y.answers d) };
+    ghost invariant = { λ w. IsSomeAnd w.rack (λ (r : OfRack). IsFor Y.queues r × HasShown r.takers w.done.items w.ended) × (queues_at w.stations.now ≡ Y.queues) × AllPairs HaveOwnArenas w.stations.now × ((e : Ended) → CanEndAt w.stations.now (G.refused w.gate.now) e → Y.ends e) × All Y.answers w.done.items × ((d : Done) → WasLetThrough (G.passed w.gate.now) (G.told w.gate.now) d → Y.answers d) × ((seat : ℕ) (calls : List Entry) → AreTurnsOf w.stations.now seat calls → Y.turns seat calls) };
 }
 
 /// What a worker leaves.
@@ -92,6 +103,7 @@ impl<'a, G: Gate, Y: Yard> Worker<'a, G, Y> {
         requires apart { AllPairs HaveOwnArenas stations.now }
         requires ends { (e : AnEnd) → CanEndAt stations.now (G.refused gate.now) e → Y.ends e }
         requires answers { (d : AnAnswer) → WasLetThrough (G.passed gate.now) (G.told gate.now) d → Y.answers d }
+        requires turns { (seat : ℕ) (calls : List Entry) → AreTurnsOf stations.now seat calls → Y.turns seat calls }
         ensures { result ≡ None }
     {
         Worker {
@@ -110,6 +122,7 @@ impl<'a, G: Gate, Y: Yard> Worker<'a, G, Y> {
         requires first { self.old ≡ None }
         ensures same { IsSamePass pass result }
         ensures ended { IsSomeAnd self.new (λ ended. Y.ends ended × HasEndedSo pass result ended) }
+        ensures turns { IsSomeAnd self.new (HasTakenTurns Y.turns pass result) }
     {
         let taken = self.rack.take();
         let Some(rack) = taken else { unreachable!() };
@@ -156,12 +169,14 @@ impl<'a, G: Gate, Y: Yard> Worker<'a, G, Y> {
 }
 
 impl<'a, G: Gate, Y: Yard> Task for Worker<'a, G, Y> {
-    ghost use Rattle.std.specs.Prelude.{◌≡◌, None, IsSomeAnd};
+    ghost use Rattle.std.specs.Prelude.{◌≡◌, [], None, IsSomeAnd};
     ghost use Rattle.market_drive.specs.Causes.{HasEndedSo};
+    ghost use Rattle.market_drive.specs.Opening.{HasTakenTurns};
 
-    ghost worked = { λ before p after q. before ≡ None → IsSomeAnd after (λ ended. Y.ends ended × HasEndedSo p q ended) };
+    ghost worked = { λ before p after q. before ≡ None → IsSomeAnd after (λ ended. Y.ends ended × HasEndedSo p q ended) × (p.seen ≡ [] → IsSomeAnd after (HasTakenTurns Y.turns p q)) };
 
-    /// Where it has not worked before, it ends in one of the ways in which its yard's workers can end.
+    /// Where it has not worked before, it ends in one of the ways in which its yard's workers can end. With a caller that has seen
+    /// nothing, which is not placed, it takes turns and makes no other call.
     fn work<R: Wait>(
         &mut self,
         rt: &R,
@@ -176,6 +191,8 @@ impl<'a, G: Gate, Y: Yard> Task for Worker<'a, G, Y> {
         match caller {
             Caller::Free(pass) => Caller::Free(self.work_with(rt, alloc, office, pass)),
             Caller::Working(placed) => {
+                // That a history places it tells that it has seen one.
+                let _ = placed.arena();
                 let pass = office.leave(rt, placed);
                 Caller::Free(self.work_with(rt, alloc, office, pass))
             }

@@ -2,10 +2,11 @@ use Rattle.std.proofs.Common.{◌≡◌, ◌∙◌, ℕ, IfSome, List, ap, arith
 use Rattle.std.proofs.lemmas.List.Sorted.{All-permutation}
 use Rattle.market_types.specs.declared.command.Cmd.{Cmd}
 use Rattle.market_lock.specs.declared.office.Closed.{Closed}
-use Rattle.market_drive.specs.Causes.{AreEnds, CanEndIn, IsOpenedBy, WasLetThrough, still, terms_of_plan}
+use Rattle.market_drive.specs.Causes.{AreEnds, AreTurnsIn, CanEndIn, IsOpenedBy, WasLetThrough, terms_of_plan}
 use Rattle.market_drive.specs.Driving.{IsOfficeOf}
 use Rattle.market_drive.specs.Jobs.{HaveRequestsOf}
 use Rattle.market_drive.specs.Making.{commands_of}
+use Rattle.market_drive.specs.Opening.{AreStill}
 use Rattle.market_drive.specs.declared.fault.DriveFault.TheVariants.{Memory}
 use Rattle.market_drive.proofs.Endings.{drive_cause, idle_opened, no_arena, not_torn}
 use Rattle.market_drive.proofs.Once.{ending}
@@ -27,6 +28,14 @@ work_shifts-racks-requires-clause-ends g c κs within e can =
     no_arena c.args.plan.now (g.G.Gate.refused c.args.gate.now) c.stations-stations.result.now e c.stations-stations.ensures.numbered
     (subst (HaveRequestsOf c.args.plan.now.arenas) (sym c.stations-stations.ensures.exact) c.in-Ok-line_up.ensures.requests) can
 
+pub work_shifts-racks-requires-clause-turns : goal.work_shifts-racks-requires-clause-turns
+work_shifts-racks-requires-clause-turns g c κs within seat calls are =
+    let stations = c.stations-stations in
+    (stations.result.now, stations.ensures.numbered, subst (HaveRequestsOf c.args.plan.now.arenas) (sym stations.ensures.exact) c.in-Ok-line_up.ensures.requests, are)
+
+pub work_shifts-racks-requires-clause-still : goal.work_shifts-racks-requires-clause-still
+work_shifts-racks-requires-clause-still g c κs within = subst AreStill (sym (c.deref.ensures.value ∙ c.in-Ok.ensures.exact)) (still_commands c.args.plan.now)
+
 pub returns-clause-cause : goal.returns-clause-cause
 returns-clause-cause g c =
     let shifts = c.work_shifts-racks in
@@ -40,10 +49,10 @@ returns-clause-cause g c =
     (λ torn. let is = c.in-Err.ensures.torn torn in (let e : c.in-Err.fault ≡ Memory = cc in e))
     c.in-Err.ensures.fault
     (λ whole.
-    let given : still c.deref.result.now ≡ commands_of plan = ap still (c.deref.ensures.value ∙ c.in-Ok.ensures.exact) ∙ still_commands plan in
-    subst (λ (l : List Cmd). AreEnds (CanEndIn plan refused) (terms_of_plan plan c.args.workers) l closed.chronicle.log c.args.workers shifts.result.reports.ended) given
-    (subst (λ (n : ℕ). AreEnds (CanEndIn plan refused) (terms_of_plan plan n) (still c.deref.result.now) closed.chronicle.log n shifts.result.reports.ended) each
-    (subst (λ o. IfSome o (λ (x : Closed). AreEnds (CanEndIn plan refused) (terms_of_plan plan many) (still c.deref.result.now) x.chronicle.log many shifts.result.reports.ended)) c.in-Some.is (shifts.ensures.ends whole))))
+    let given : c.deref.result.now ≡ commands_of plan = c.deref.ensures.value ∙ c.in-Ok.ensures.exact in
+    subst (λ (l : List Cmd). AreEnds (CanEndIn plan refused) (AreTurnsIn plan) (terms_of_plan plan c.args.workers) l closed.chronicle.log c.args.workers shifts.result.reports.ended) given
+    (subst (λ (n : ℕ). AreEnds (CanEndIn plan refused) (AreTurnsIn plan) (terms_of_plan plan n) c.deref.result.now closed.chronicle.log n shifts.result.reports.ended) each
+    (subst (λ o. IfSome o (λ (x : Closed). AreEnds (CanEndIn plan refused) (AreTurnsIn plan) (terms_of_plan plan many) c.deref.result.now x.chronicle.log many shifts.result.reports.ended)) c.in-Some.is (shifts.ensures.ends whole))))
 
 pub returns-in-Ok-gather-clause-opened : goal.returns-in-Ok-gather-clause-opened
 returns-in-Ok-gather-clause-opened g c =
@@ -52,11 +61,11 @@ returns-in-Ok-gather-clause-opened g c =
     let refused = g.G.Gate.refused c.args.gate.now in
     let closed = c.in-Some.closed in
     let many : ℕ = length c.in-Ok-line_up.racks in
-    let given : still c.deref.result.now ≡ commands_of plan = ap still (c.deref.ensures.value ∙ c.in-Ok.ensures.exact) ∙ still_commands plan in
+    let given : c.deref.result.now ≡ commands_of plan = c.deref.ensures.value ∙ c.in-Ok.ensures.exact in
     let whole = not_torn shifts.result.reports.torn (λ torn. let is = c.in-Ok-gather.ensures.torn torn in (let e : ⊥ = cc in e)) in
     subst (λ (l : List Cmd). IsOpenedBy l closed.chronicle.log) given
-    (idle_opened (CanEndIn plan refused) (terms_of_plan plan many) (still c.deref.result.now) closed.chronicle.log many shifts.result.reports.ended c.in-Ok-gather.ensures.ended
-    (subst (λ o. IfSome o (λ (x : Closed). AreEnds (CanEndIn plan refused) (terms_of_plan plan many) (still c.deref.result.now) x.chronicle.log many shifts.result.reports.ended)) c.in-Some.is (shifts.ensures.ends whole)))
+    (idle_opened (CanEndIn plan refused) (AreTurnsIn plan) (terms_of_plan plan many) c.deref.result.now closed.chronicle.log many shifts.result.reports.ended c.in-Ok-gather.ensures.ended
+    (subst (λ o. IfSome o (λ (x : Closed). AreEnds (CanEndIn plan refused) (AreTurnsIn plan) (terms_of_plan plan many) c.deref.result.now x.chronicle.log many shifts.result.reports.ended)) c.in-Some.is (shifts.ensures.ends whole)))
 
 pub returns-in-Ok-gather-clause-gate : goal.returns-in-Ok-gather-clause-gate
 returns-in-Ok-gather-clause-gate g c =
