@@ -111,7 +111,7 @@ readied place t stands b r =
       hire = added place (shown (λ (v : ArenaView). v.hire) r.arena t) (roomed b r.hire);
     }
 
-readied-row : (b : Bool) (most : ℕ) (moments : List State) (s t : State) (a : ℕ) (stood : Option ℕ) → 0 < most
+pub readied-row : (b : Bool) (most : ℕ) (moments : List State) (s t : State) (a : ℕ) (stood : Option ℕ) → 0 < most
     → nat_le (most * width_of most (length moments)) (length moments) ≡ b → stood ≡ level_at a t
     → readied (length moments / width_of most (suc (length moments))) t stood b (row_of most moments s a) ≡ row_of most (moments ++ t ∷ []) t a
 readied-row b most moments s t a stood some full is =
@@ -170,7 +170,7 @@ abbrev pub charted : ℕ → ℕ → Drawn → Charted
 charted most moments lines = record { most = most; moments = moments; lines = lines }
 
 -- where an arena stands after an answered command
-stood-after : (s t : State) (seat : ℕ) (cmd : Cmd) (reply : Reply) → step s seat cmd ≡ (reply, t) → (a : ℕ) → stands_after a (level_at a s) cmd reply ≡ level_at a t
+pub stood-after : (s t : State) (seat : ℕ) (cmd : Cmd) (reply : Reply) → step s seat cmd ≡ (reply, t) → (a : ℕ) → stands_after a (level_at a s) cmd reply ≡ level_at a t
 stood-after s t seat cmd reply answered a =
     sym (ap (λ (o : Outcome). stands_after a (level_at a s) cmd o.0) answered) ∙ sym (stands s seat cmd a) ∙ ap (λ (o : Outcome). level_at a o.1) answered
 

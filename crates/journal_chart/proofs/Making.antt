@@ -1,26 +1,30 @@
 -- The chart of a journal's entries from one on to another, entry by entry.
-use Rattle.std.proofs.Common.{◌≡◌, ℕ, zero, suc, ◌+◌, ◌-◌, ◌<◌, ◌≤◌, Bool, true, false, cond, nat_le, nat_lt, List, [], ◌∷◌, ◌++◌, length, take, drop, Option, None, Some, option_and_then, option_map, refl, sym, ap, ◌∙◌, arith, inl, inr, append-nil, append_assoc}
+use Rattle.std.proofs.Common.{◌≡◌, ℕ, zero, suc, ◌+◌, ◌-◌, ◌<◌, ◌≤◌, true, false, nat_le, nat_lt, List, [], ◌∷◌, ◌++◌, length, take, drop, Option, None, Some, option_and_then, option_map, refl, sym, ap, ◌∙◌, subst, arith, inl, inr, append-nil, append_assoc}
 use Rattle.std.proofs.lemmas.Bool.{cases_Bool}
 use Rattle.std.proofs.lemmas.Bool.Decides.{nat_tests}
+use Rattle.std.specs.List.{All}
+use Rattle.std.proofs.lemmas.List.Elements.{All-nil}
 use Rattle.std.proofs.lemmas.List.{length_push, drop_all, drop-append-le}
 use Rattle.market_types.specs.declared.command.Call.{Call}
 use Rattle.market_types.specs.declared.command.Cmd.{Cmd}
 use Rattle.market_types.specs.declared.reply.Entry.{Entry}
 use Rattle.market_types.specs.declared.reply.Reply.{Reply}
-use Rattle.market_types.specs.State.{State}
+use Rattle.market_types.specs.State.{Arena, State}
 use Rattle.market_types.specs.Step.{Outcome, step}
 use Rattle.market_types.specs.History.{IsLegal, calls_of, state_after}
-use Rattle.journal_replay.specs.declared.header.Extent.{Extent}
 use Rattle.journal_replay.specs.declared.header.Header.{Header}
 use Rattle.journal_replay.specs.declared.verdict.Verdict.{Verdict}
-use Rattle.journal_replay.specs.Reading.{header_in, header_of, opened_by}
+use Rattle.journal_replay.specs.Reading.{header_in, opened_by}
 use Rattle.journal_replay.specs.Verdicts.{json_by}
 use Rattle.journal_replay.specs.Watched.{Watched, Watches, seen_all}
-use Rattle.journal_chart.specs.Numbers.{Charted, chart_of, chart_between, moments_of}
+use Rattle.journal_chart.specs.Numbers.{Charted, chart_of, moments_of}
+use Rattle.journal_chart.specs.declared.row.Known.{Known}
 use Rattle.journal_chart.specs.Steps.{Making, made_more, next_chart, passed_chart}
-use Rattle.journal_chart.specs.Journals.{Charts, IsChartOf}
+use Rattle.journal_chart.specs.Journals.{Charts}
+use Rattle.journal_chart.proofs.Bounds.{Once, Whole}
 use Rattle.journal_chart.proofs.Charts.{chart-passed}
-use Rattle.journal_chart.proofs.Still.{EndsIn, chart-next, ends-dropped}
+use Rattle.journal_chart.proofs.Kept.{Fine, fine-step}
+use Rattle.journal_chart.proofs.Next.{Knows, known_at, known_chart, next-known}
 
 -- a header opens a market without arenas
 module _ {D O : Type 0} (read : D → Option Header) (opened : Header → O) (market : O → State) (empty : (h : Header) → (market (opened h)).arenas ≡ []) where
@@ -42,14 +46,24 @@ made-still (e ∷ history) s m full =
     let still : made_more m o.1 e.call.cmd e.reply ≡ m = rw full refl in
     ap (seen_all made_more o.1 history) still ∙ made-still history o.1 m full
 
-module _ (most : ℕ) (arenas : List ℕ) (before to : ℕ) (some : 0 < most) where
+module _ (whole : Whole) (most : ℕ) (arenas : List ℕ) (before to : ℕ) (some : 0 < most) where
   -- the chart in the making after these moments
-  abbrev making : List State → State → ℕ → Making
-  making ms s seen = record { before = before; to = to; seen = seen; chart = chart_of most arenas (drop before ms) s }
+  abbrev making : List State → State → ℕ → List Known → Making
+  making ms s seen ks = record { before = before; to = to; seen = seen; chart = chart_of most arenas (drop before ms) s; known = ks }
 
-  made-one : (s t : State) (seat : ℕ) (cmd : Cmd) (reply : Reply) (ms : List State) → step s seat cmd ≡ (reply, t) → EndsIn s ms → length ms < to
-      → made_more (making ms s (length ms)) t cmd reply ≡ making (ms ++ t ∷ []) t (length ms + 1)
-  made-one s t seat cmd reply ms answered last inside =
+  -- what was known of the arenas is told by the last moment that is drawn
+  knows-more : (s t : State) (ms : List State) → before ≤ length ms → Knows t arenas (drop before (ms ++ t ∷ [])) (known_at t arenas)
+  knows-more s t ms long = inr (drop before ms, (drop-append-le before ms (t ∷ []) long, refl))
+
+  -- the moments after one entry more, and what is then known
+  record Made (s t : State) (cmd : Cmd) (reply : Reply) (ms : List State) (ks : List Known) : Type 0 where
+    ks' : List Known
+    knows : Knows t arenas (drop before (ms ++ t ∷ [])) ks'
+    is : made_more (making ms s (length ms) ks) t cmd reply ≡ making (ms ++ t ∷ []) t (length ms + 1) ks'
+
+  made-one : (s t : State) (seat : ℕ) (cmd : Cmd) (reply : Reply) (ms : List State) (ks : List Known) → step s seat cmd ≡ (reply, t) → Fine t
+      → Knows s arenas (drop before ms) ks → length ms < to → Made s t cmd reply ms ks
+  made-one s t seat cmd reply ms ks answered fine knows inside =
       let open_ : nat_le to (length ms) ≡ false = grind (arith, nat_tests) in
       elim (cases_Bool (nat_lt (length ms) before)) [
         | inl early ↦
@@ -58,51 +72,70 @@ module _ (most : ℕ) (arenas : List ℕ) (before to : ℕ) (some : 0 < most) wh
             let still : drop before (ms ++ t ∷ []) ≡ [] = drop_all before (ms ++ t ∷ []) (omega (arith, length_push ms t)) in
             let chart : passed_chart cmd reply (chart_of most arenas (drop before ms) s) ≡ chart_of most arenas (drop before (ms ++ t ∷ [])) t =
             chart-passed most arenas (drop before ms) s t seat cmd reply answered ∙ ap (λ l. chart_of most arenas l t) (none ∙ sym still) in
-            rw (open_, early) (λ i. record { before = before; to = to; seen = length ms + 1; chart = chart i })
+            record {
+              ks' = ks;
+              knows = inl still;
+              is = rw (open_, early) (λ i. record { before = before; to = to; seen = length ms + 1; chart = chart i; known = ks });
+            }
         | inr late ↦
             let long : before ≤ length ms = grind (arith, nat_tests) in
-            let chart : next_chart t cmd reply (chart_of most arenas (drop before ms) s) ≡ chart_of most arenas (drop before (ms ++ t ∷ [])) t =
-            chart-next most arenas (drop before ms) s t seat cmd reply some answered (ends-dropped before s ms last) ∙ ap (λ l. chart_of most arenas l t) (sym (drop-append-le before ms (t ∷ []) long)) in
-            rw (open_, late) (λ i. record { before = before; to = to; seen = length ms + 1; chart = chart i })
+            let next : next_chart t cmd reply (chart_of most arenas (drop before ms) s) ks ≡ known_chart most arenas (drop before (ms ++ t ∷ [])) t =
+            next-known whole most arenas (drop before ms) s t seat cmd reply ks some answered fine knows ∙ ap (λ l. known_chart most arenas l t) (sym (drop-append-le before ms (t ∷ []) long)) in
+            record {
+              ks' = known_at t arenas;
+              knows = knows-more s t ms long;
+              is = rw (open_, late) (λ i. record { before = before; to = to; seen = length ms + 1; chart = (next i).0; known = (next i).1 });
+            }
       ]
 
-  made-all : (left : ℕ) (history : List Entry) (s : State) (ms : List State) → IsLegal s history → EndsIn s ms → length ms + left ≡ to
-      → (seen_all made_more s history (making ms s (length ms))).chart
+  made-all : (left : ℕ) (history : List Entry) (s : State) (ms : List State) (ks : List Known) → IsLegal s history → Fine s → Knows s arenas (drop before ms) ks → length ms + left ≡ to
+      → (seen_all made_more s history (making ms s (length ms) ks)).chart
       ≡ chart_of most arenas (drop before (ms ++ moments_of s (take left (calls_of history)))) (state_after s (take left (calls_of history)))
-  made-all zero history s ms legal last sum =
+  made-all zero history s ms ks legal fine knows sum =
       let full : nat_le to (length ms) ≡ true = grind (arith, nat_tests) in
-      ap (λ (m : Making). m.chart) (made-still history s (making ms s (length ms)) full)
+      ap (λ (m : Making). m.chart) (made-still history s (making ms s (length ms) ks) full)
       ∙ ap (λ l. chart_of most arenas (drop before l) s) (sym (append-nil ms))
-  made-all (suc left) [] s ms legal last sum = ap (λ l. chart_of most arenas (drop before l) s) (sym (append-nil ms))
-  made-all (suc left) (e ∷ history) s ms legal last sum =
+  made-all (suc left) [] s ms ks legal fine knows sum = ap (λ l. chart_of most arenas (drop before l) s) (sym (append-nil ms))
+  made-all (suc left) (e ∷ history) s ms ks legal fine knows sum =
       let o : Outcome = step s e.call.seat e.call.cmd in
       let due : e.reply ≡ o.0 = cc in
       let rest : IsLegal o.1 history = cc in
       let answered : step s e.call.seat e.call.cmd ≡ (e.reply, o.1) = λ i. (sym due i, o.1) in
+      let fine' : Fine o.1 = fine-step s o.1 e.call.seat e.call.cmd e.reply answered fine in
+      let one : Made s o.1 e.call.cmd e.reply ms ks = made-one s o.1 e.call.seat e.call.cmd e.reply ms ks answered fine' knows (omega (arith, sum)) in
       let longer : length (ms ++ o.1 ∷ []) ≡ length ms + 1 = omega (arith, length_push ms o.1) in
       let more : length (ms ++ o.1 ∷ []) + left ≡ to = omega (arith, longer, sum) in
       let tail : List Call = take left (calls_of history) in
-      ap (λ (m : Making). (seen_all made_more o.1 history m).chart) (made-one s o.1 e.call.seat e.call.cmd e.reply ms answered last (omega (arith, sum)))
-      ∙ ap (λ n. (seen_all made_more o.1 history (making (ms ++ o.1 ∷ []) o.1 n)).chart) (sym longer)
-      ∙ made-all left history o.1 (ms ++ o.1 ∷ []) rest (inr (ms, refl)) more
+      ap (λ (m : Making). (seen_all made_more o.1 history m).chart) one.is
+      ∙ ap (λ n. (seen_all made_more o.1 history (making (ms ++ o.1 ∷ []) o.1 n one.ks')).chart) (sym longer)
+      ∙ made-all left history o.1 (ms ++ o.1 ∷ []) one.ks' rest fine' one.knows more
       ∙ ap (λ l. chart_of most arenas (drop before l) (state_after o.1 tail)) (append_assoc ms (o.1 ∷ []) (moments_of o.1 tail))
 
+-- a market without arenas
+pub fine-empty : (s : State) → s.arenas ≡ [] → Fine s
+fine-empty s none =
+    record {
+      once = subst Once (sym none) tt;
+      given = subst (All (λ (a : Arena). a.number < s.next_arena)) (sym none) (All-nil (λ (a : Arena). a.number < s.next_arena));
+      leveled = subst (All (λ (a : Arena). a.level ≤ s.levels)) (sym none) (All-nil (λ (a : Arena). a.level ≤ s.levels));
+    }
+
 -- whoever watched a journal has its chart
-pub charts : (most : ℕ) (arenas : List ℕ) (from to : ℕ) (begun : Charted) (end : Making) (left left' : Option (List ℕ)) (found : Verdict) → 0 < most
+pub charts : (whole : Whole) (most : ℕ) (arenas : List ℕ) (from to : ℕ) (begun : Charted) (ks : List Known) (end : Making) (left left' : Option (List ℕ)) (found : Verdict) → 0 < most
     → ((s : State) → s.arenas ≡ [] → begun ≡ chart_of most arenas [] s)
-    → Watches made_more (record { before = from - 1; to = to; seen = 0; chart = begun }) end left left' found
+    → Watches made_more (record { before = from - 1; to = to; seen = 0; chart = begun; known = ks }) end left left' found
     → Charts most arenas from to left left' found end.chart
-charts most arenas from to begun end left left' found some empty h =
+charts whole most arenas from to begun ks end left left' found some empty h =
     record {
       text = h.text;
       read = h.read;
       within = h.within;
       is = h.is;
       charted = λ n legal.
-          let w : Watched made_more h.text (record { before = from - 1; to = to; seen = 0; chart = begun }) end = h.watched n legal in
+          let w : Watched made_more h.text (record { before = from - 1; to = to; seen = 0; chart = begun; known = ks }) end = h.watched n legal in
           let none : drop (from - 1) [] ≡ [] = drop_all (from - 1) [] (omega arith) in
-          let first : begun ≡ chart_of most arenas (drop (from - 1) []) w.start =
-          empty w.start (opens-empty header_in opened_by (λ o. o.market) (λ h. refl) (json_by w.reads.header.form w.reads.header.bytes) _ w.reads.opens) ∙ ap (λ l. chart_of most arenas l w.start) (sym none) in
+          let bare : w.start.arenas ≡ [] = opens-empty header_in opened_by (λ o. o.market) (λ h. refl) (json_by w.reads.header.form w.reads.header.bytes) _ w.reads.opens in
+          let first : begun ≡ chart_of most arenas (drop (from - 1) []) w.start = empty w.start bare ∙ ap (λ l. chart_of most arenas l w.start) (sym none) in
           record {
             start = w.start;
             extent = w.extent;
@@ -111,7 +144,7 @@ charts most arenas from to begun end left left' found some empty h =
             legal = w.legal;
             is =
                 ap (λ (m : Making). m.chart) w.is
-                ∙ ap (λ (c : Charted). (seen_all made_more w.start w.history (record { before = from - 1; to = to; seen = 0; chart = c })).chart) first
-                ∙ made-all most arenas (from - 1) to some to w.history w.start [] w.legal (inl refl) (omega arith);
+                ∙ ap (λ (c : Charted). (seen_all made_more w.start w.history (record { before = from - 1; to = to; seen = 0; chart = c; known = ks })).chart) first
+                ∙ made-all whole most arenas (from - 1) to some to w.history w.start [] ks w.legal (fine-empty w.start bare) (inl none) (omega arith);
           };
     }

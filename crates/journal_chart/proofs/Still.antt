@@ -1,6 +1,6 @@
 -- A moment more at which the market is as it was at the last.
-use Rattle.std.specs.Prelude.{◌&&◌, ◌||◌, ◌==◌, nat_le, nat_lt}
-use Rattle.std.proofs.Common.{◌≡◌, ℕ, zero, suc, ◌+◌, ◌-◌, ◌*◌, ◌/◌, ◌%◌, ◌<◌, ◌≤◌, Bool, ◌⊎◌, true, false, true≢false, cond, not, List, [], ◌∷◌, ◌++◌, length, map, drop, Option, None, Some, Result, Ok, Err, ℤ, min, max, refl, sym, ap, ◌∙◌, subst, arith, inl, inr, append_assoc}
+use Rattle.std.specs.Prelude.{◌||◌, ◌==◌, nat_le, nat_lt}
+use Rattle.std.proofs.Common.{◌≡◌, ℕ, zero, suc, ◌+◌, ◌-◌, ◌*◌, ◌/◌, ◌%◌, ◌<◌, ◌≤◌, Bool, ◌⊎◌, true, false, true≢false, cond, not, List, [], ◌∷◌, ◌++◌, length, map, drop, Option, None, Some, Result, Ok, Err, ℤ, min, max, refl, sym, ap, ◌∙◌, arith, inl, inr}
 use Rattle.std.specs.List.{filter, list_any}
 use Rattle.std.proofs.lemmas.Bool.{cases_Bool}
 use Rattle.std.proofs.lemmas.Bool.Decides.{nat_tests}
@@ -20,9 +20,9 @@ use Rattle.market_types.specs.Step.{Outcome, arena_at, close_step, control_step,
 use Rattle.journal_chart.specs.declared.span.Span.{Span}
 use Rattle.journal_chart.specs.Columns.{alone, joined, width_of}
 use Rattle.journal_chart.specs.Lines.{added}
-use Rattle.journal_chart.specs.Numbers.{Charted, chart_of, drawn_of, level_at, line_of, row_of, shown}
-use Rattle.journal_chart.specs.Steps.{counted_chart, goes_on, is_still, next_chart, taken_chart}
-use Rattle.journal_chart.proofs.Charts.{chart-taken, line-if, roomy}
+use Rattle.journal_chart.specs.Numbers.{chart_of, level_at, line_of, row_of, shown}
+use Rattle.journal_chart.specs.Steps.{counted_chart, goes_on, is_still}
+use Rattle.journal_chart.proofs.Charts.{line-if, roomy}
 
 -- ---- commands that leave the market as it was
 
@@ -139,7 +139,7 @@ joined-twice (Some a) (Some b) =
     let most : max (max a.most b.most) b.most ≡ max a.most b.most = omega arith in
     λ i. Some (record { least = least i; most = most i })
 
-added-twice : (place : ℕ) (number : Option ℕ) (columns : List (Option Span)) → added place number (added place number columns) ≡ added place number columns
+pub added-twice : (place : ℕ) (number : Option ℕ) (columns : List (Option Span)) → added place number (added place number columns) ≡ added place number columns
 added-twice place number [] = refl
 added-twice zero number (c ∷ cs) = ap (λ d. d ∷ cs) (joined-twice c (alone number))
 added-twice (suc place) number (c ∷ cs) = ap (λ ds. c ∷ ds) (added-twice place number cs)
@@ -147,12 +147,12 @@ added-twice (suc place) number (c ∷ cs) = ap (λ ds. c ∷ ds) (added-twice pl
 -- ---- where the next moment goes into the column of the last
 
 -- the columns are not full, and the last moment is in this column too
-record GoesOn (most n : ℕ) : Type 0 where
-  wide : width_of most (suc (suc n)) ≡ width_of most (suc n)
-  open_ : nat_le (most * width_of most (suc n)) (suc n) ≡ false
-  here : suc n / width_of most (suc n) ≡ n / width_of most (suc n)
+pub record GoesOn (most n : ℕ) : Type 0 where
+  pub wide : width_of most (suc (suc n)) ≡ width_of most (suc n)
+  pub open_ : nat_le (most * width_of most (suc n)) (suc n) ≡ false
+  pub here : suc n / width_of most (suc n) ≡ n / width_of most (suc n)
 
-goes-on : (most n : ℕ) → 0 < most → 0 < suc n % width_of most (suc n) → GoesOn most n
+pub goes-on : (most n : ℕ) → 0 < most → 0 < suc n % width_of most (suc n) → GoesOn most n
 goes-on most n some within =
     let w : ℕ = width_of most (suc n) in
     let now = roomy most (suc n) some in
@@ -253,29 +253,6 @@ width-still most (suc n) some on =
 -- these moments are none, or the last of them is of the market as it is
 abbrev pub EndsIn : State → List State → Type 0
 EndsIn s moments = (moments ≡ []) ⊎ ((before : List State) × (moments ≡ before ++ s ∷ []))
-
-both : (a b : Bool) → (a && b) ≡ true → (a ≡ true) × (b ≡ true)
-both true true h = (refl, refl)
-both true false h = absurd (true≢false (sym h))
-both false b h = absurd (true≢false (sym h))
-
-pub chart-next : (most : ℕ) (arenas : List ℕ) (moments : List State) (s t : State) (seat : ℕ) (cmd : Cmd) (reply : Reply) → 0 < most → step s seat cmd ≡ (reply, t)
-    → EndsIn s moments → next_chart t cmd reply (chart_of most arenas moments s) ≡ chart_of most arenas (moments ++ t ∷ []) t
-chart-next most arenas moments s t seat cmd reply some answered last = go (is_still reply && goes_on (chart_of most arenas moments s)) refl last
-  where
-    go : (b : Bool) → (is_still reply && goes_on (chart_of most arenas moments s)) ≡ b → EndsIn s moments
-        → cond b (counted_chart (chart_of most arenas moments s)) (taken_chart t cmd reply (chart_of most arenas moments s)) ≡ chart_of most arenas (moments ++ t ∷ []) t
-    go false off ends = chart-taken most arenas moments s t seat cmd reply some answered
-    go true on (inl none) =
-        let way = both (is_still reply) (goes_on (chart_of most arenas moments s)) on in
-        let first : goes_on (chart_of most arenas [] s) ≡ true = ap (λ ms. goes_on (chart_of most arenas ms s)) (sym none) ∙ way.1 in
-        absurd (true≢false (sym first))
-    go true on (inr ends) =
-        let way = both (is_still reply) (goes_on (chart_of most arenas moments s)) on in
-        let goes : goes_on (chart_of most arenas (ends.0 ++ s ∷ []) s) ≡ true = ap (λ ms. goes_on (chart_of most arenas ms s)) (sym ends.1) ∙ way.1 in
-        ap (λ ms. counted_chart (chart_of most arenas ms s)) ends.1
-        ∙ chart-still most arenas ends.0 s t seat cmd reply some answered way.0 goes
-        ∙ ap (λ ms. chart_of most arenas (ms ++ t ∷ []) t) (sym ends.1)
 
 pub ends-dropped : (n : ℕ) (s : State) (moments : List State) → EndsIn s moments → EndsIn s (drop n moments)
 ends-dropped n s moments (inl none) = inl (ap (drop n) none ∙ drop_all n [] (omega arith))

@@ -1,12 +1,13 @@
 //! A chart of a history, one moment after another.
-ghost use Rattle.std.specs.Prelude.{◌≡◌, ◌+◌, ◌*◌, ◌<◌, ◌^◌, ℕ, nat_le, if◌then◌else◌, List, [], ◌∷◌, ◌++◌, IfOk};
+ghost use Rattle.std.specs.Prelude.{◌≡◌, ◌+◌, ◌*◌, ◌<◌, ◌^◌, ℕ, nat_le, if◌then◌else◌, List, [], ◌∷◌, ◌++◌, IfOk, length, true};
 ghost use Rattle.market_types.specs.State.{State};
 ghost use Rattle.market_types.specs.Step.{step};
 ghost use Rattle.journal_chart.specs.Columns.{width_of};
 ghost use Rattle.journal_chart.specs.Numbers.{chart_of};
-ghost use Rattle.journal_chart.specs.Steps.{goes_on, halved_lines, is_still, next_chart, passed_chart, taken_chart};
+ghost use Rattle.journal_chart.specs.Steps.{goes_on, halved_lines, is_still, known_rows, near_chart, next_chart, passed_chart, roomed_lines, taken_chart};
 
 use crate::lines::Lines;
+use crate::row::Known;
 use market_core::Market;
 use market_types::{ArenaId, Cmd, Reply};
 use std::alloc::{AllocError, Global};
@@ -102,18 +103,58 @@ impl Chart {
         self.moments % self.width > 0
     }
 
-    /// Takes the moment after an entry, as `take` does, where the moment before was taken last, if any was. So a moment at which the market
-    /// is as it was is only counted, where it goes into the same column.
-    #[inline]
-    pub(crate) fn take_next(&mut self, market: &Market, cmd: &Cmd, reply: &Reply)
+    /// Takes the moment after an entry, as `take` does, and what is then known of the arenas.
+    fn look(&mut self, known: &mut [Known], market: &Market, cmd: &Cmd, reply: &Reply)
         requires few { self.old.moments + 1 < 2 ^ 63 }
-        ensures { self.new ≡ next_chart market.now cmd.now reply.now self.old }
+        requires each { length known.old ≡ length self.old.lines.rows }
+        ensures chart { self.new ≡ taken_chart market.now cmd.now reply.now self.old }
+        ensures known { known.new ≡ known_rows market.now (roomed_lines self.old).rows }
     {
-        if is_still(reply) && self.goes_on() {
+        let width = make_room(&mut self.lines, self.columns, self.moments, self.width);
+        let place = (self.moments / width) as usize;
+        self.lines.look(known, place, market, cmd, reply);
+        self.width = width;
+        self.moments += 1;
+    }
+
+    /// Takes the moment after an entry into the column of the last moment, which was taken before, and what is then known of the arenas.
+    fn near(&mut self, known: &mut [Known], market: &Market, cmd: &Cmd, reply: &Reply)
+        requires few { self.old.moments + 1 < 2 ^ 63 }
+        requires on { goes_on self.old ≡ true }
+        requires each { length known.old ≡ length self.old.lines.rows }
+        ensures chart { self.new ≡ (near_chart market.now cmd.now reply.now self.old known.old).0 }
+        ensures known { known.new ≡ (near_chart market.now cmd.now reply.now self.old known.old).1 }
+    {
+        let place = (self.moments / self.width) as usize;
+        self.lines.near(known, place, market, cmd, reply);
+        self.moments += 1;
+    }
+
+    /// Takes the moment after an entry, as `take` does, where the moment before was taken last, if any was, and this was then known of the
+    /// arenas. Where it goes into the same column only what may have changed is looked at: nothing where the market is as it was, and else
+    /// the arena that the entry is about, and those of which it is not known that they add nothing.
+    #[inline]
+    pub(crate) fn take_next(
+        &mut self,
+        known: &mut [Known],
+        market: &Market,
+        cmd: &Cmd,
+        reply: &Reply,
+    )
+        requires few { self.old.moments + 1 < 2 ^ 63 }
+        requires each { length known.old ≡ length self.old.lines.rows }
+        ensures chart { self.new ≡ (next_chart market.now cmd.now reply.now self.old known.old).0 }
+        ensures known { known.new ≡ (next_chart market.now cmd.now reply.now self.old known.old).1 }
+    {
+        if !self.goes_on() {
+            self.look(known, market, cmd, reply);
+            return;
+        }
+        if is_still(reply) {
             self.moments += 1;
             return;
         }
-        self.take(market, cmd, reply);
+        self.near(known, market, cmd, reply);
     }
 
     /// Lets the moment after an entry pass that is not drawn, by its command and its reply. It takes no memory.

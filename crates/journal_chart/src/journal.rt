@@ -6,6 +6,8 @@ ghost use Rattle.journal_chart.specs.Journals.{Charts};
 ghost use Rattle.journal_chart.specs.Numbers.{chart_of};
 
 use crate::chart::Chart;
+use crate::row::Known;
+use allotment::no_carry_to_keep;
 use byte_devices::Source;
 use journal_replay::{Verdict, Watcher, watch_source};
 use line_engine::InputFault;
@@ -24,17 +26,19 @@ struct Making {
     /// How many were seen, as far as they are drawn.
     seen: u32,
     chart: Chart,
+    /// What is known of each arena since the last moment that was taken.
+    known: Vec<Known>,
 }
 
 impl Model for Making {
-    ghost use Rattle.std.specs.Prelude.{◌≤◌};
+    ghost use Rattle.std.specs.Prelude.{◌≡◌, ◌≤◌, length};
     ghost use Rattle.journal_chart.specs.Steps.{Making};
 
     ghost Value = { Making };
 
-    ghost view = { λ m. record { before = m.before; to = m.to; seen = m.seen; chart = m.chart } };
+    ghost view = { λ m. record { before = m.before; to = m.to; seen = m.seen; chart = m.chart; known = m.known.items } };
 
-    ghost invariant = { λ m. m.chart.moments ≤ m.seen };
+    ghost invariant = { λ m. (m.chart.moments ≤ m.seen) × (length m.known.items ≡ length m.chart.lines.rows) };
 }
 
 impl Watcher for Making {
@@ -52,9 +56,11 @@ impl Watcher for Making {
         }
         if self.seen < self.before {
             self.chart.pass(cmd, reply);
-        } else {
-            self.chart.take_next(market, cmd, reply);
+            self.seen += 1;
+            return;
         }
+        self.chart
+            .take_next(self.known.as_mut_slice(), market, cmd, reply);
         self.seen += 1;
     }
 }
@@ -81,11 +87,13 @@ pub fn chart_source<R: Source>(
     ensures working { OnOk result (R.failed source.new ≡ false) }
     ensures stops { IfErr result (λ fault. StopsReading (R.left source.old) (R.left source.new) (R.failed source.new) fault) }
 {
+    no_carry_to_keep();
     let making = Making {
         before: from - 1,
         to,
         seen: 0,
         chart: Chart::new(alloc, columns, arenas)?,
+        known: vec![in alloc; Known::of(&None); arenas.len()]?,
     };
     let (found, making) = watch_source(alloc, making, source)?;
     Ok((found, making.chart))

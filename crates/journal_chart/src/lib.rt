@@ -13,8 +13,10 @@ mod journal;
 mod law;
 mod line;
 mod lines;
+mod nearby;
 mod picture;
 mod row;
+mod shares;
 mod sheet;
 mod span;
 #[cfg(test)]

@@ -1,9 +1,10 @@
 //! All lines of a chart.
-ghost use Rattle.std.specs.Prelude.{◌≡◌, IfOk, map};
-ghost use Rattle.journal_chart.specs.Steps.{empty_lines, empty_row, halved_lines, passed_lines, taken_lines};
+ghost use Rattle.std.specs.Prelude.{◌≡◌, IfOk, length, map};
+ghost use Rattle.journal_chart.specs.Steps.{empty_lines, empty_row, halved_lines, known_rows, limited_lines, near_lines, near_rows, passed_lines, taken_lines};
 
 use crate::line::Line;
-use crate::row::{Row, halve_rows, pass_rows, take_rows};
+use crate::nearby::{look_rows, near_rows};
+use crate::row::{Known, Row, halve_rows, pass_rows, take_rows};
 use market_core::Market;
 use market_types::{ArenaId, Cmd, Reply};
 use std::alloc::{AllocError, Global};
@@ -71,14 +72,55 @@ impl Lines {
         halve_rows(&mut self.rows);
     }
 
-    /// Takes the moment after a command and its reply into the column at a place.
-    pub(crate) fn take(&mut self, place: usize, market: &Market, cmd: &Cmd, reply: &Reply)
-        ensures { self.new ≡ taken_lines place market.now cmd.now reply.now self.old }
+    /// Puts the limits into the column at a place.
+    fn add_limits(&mut self, place: usize, market: &Market)
+        ensures { self.new ≡ limited_lines place market.now self.old }
     {
         let limits = market.limits();
         self.limit.add(place, limits.limit);
         self.effective.add(place, limits.effective);
+    }
+
+    /// Takes the moment after a command and its reply into the column at a place.
+    pub(crate) fn take(&mut self, place: usize, market: &Market, cmd: &Cmd, reply: &Reply)
+        ensures { self.new ≡ taken_lines place market.now cmd.now reply.now self.old }
+    {
+        self.add_limits(place, market);
         take_rows(&mut self.rows, place, market, cmd, reply);
+    }
+
+    /// Takes the moment, as `take` does, and what is then known of the arenas.
+    pub(crate) fn look(
+        &mut self,
+        known: &mut [Known],
+        place: usize,
+        market: &Market,
+        cmd: &Cmd,
+        reply: &Reply,
+    )
+        requires each { length known.old ≡ length self.old.rows }
+        ensures lines { self.new ≡ taken_lines place market.now cmd.now reply.now self.old }
+        ensures known { known.new ≡ known_rows market.now self.old.rows }
+    {
+        self.add_limits(place, market);
+        look_rows(&mut self.rows, known, place, market, cmd, reply);
+    }
+
+    /// Takes the moment after one that was taken into the same column, and what is then known of the arenas.
+    pub(crate) fn near(
+        &mut self,
+        known: &mut [Known],
+        place: usize,
+        market: &Market,
+        cmd: &Cmd,
+        reply: &Reply,
+    )
+        requires each { length known.old ≡ length self.old.rows }
+        ensures lines { self.new ≡ near_lines place market.now cmd.now reply.now known.old self.old }
+        ensures known { known.new ≡ (near_rows place market.now cmd.now reply.now self.old.rows known.old).1 }
+    {
+        self.add_limits(place, market);
+        near_rows(&mut self.rows, known, place, market, cmd, reply);
     }
 
     /// Lets the moment after a command and its reply pass.

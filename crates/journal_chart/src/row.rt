@@ -1,11 +1,42 @@
 //! The lines of an arena.
-ghost use Rattle.std.specs.Prelude.{◌≡◌, IfOk, map};
-ghost use Rattle.journal_chart.specs.Steps.{empty_row, halved_row, passed_row, standing_row, stands_after, taken_row, viewed_row};
+ghost use Rattle.std.specs.Prelude.{◌≡◌, IfOk, Some, map};
+ghost use Rattle.journal_chart.specs.Steps.{empty_row, halved_row, has_between, has_share, known_of, passed_row, standing_row, stands_after, taken_row, viewed_row};
+ghost use Rattle.journal_chart.specs.Shares.{AreFew, AreSharesOf};
+ghost use Rattle.journal_chart.specs.Numbers.{view_at};
+ghost use Rattle.market_types.specs.State.{State};
 
 use crate::line::Line;
+use crate::shares::{Bounds, Shares};
 use market_core::Market;
 use market_types::{ArenaId, ArenaView, Cmd, Level, Reply};
 use std::alloc::{AllocError, Global};
+
+/// What is known of an arena between two moments at which it is looked at.
+#[derive(Clone, Copy)]
+pub(crate) struct Known {
+    /// How many workers it asks for.
+    pub(crate) request: u32,
+    /// How many seats are placed at it.
+    pub(crate) active: u32,
+}
+
+impl Known {
+    /// What is known of an arena that is seen so.
+    pub(crate) fn of(view: &Option<ArenaView>) -> Known
+        ensures { result ≡ known_of view.now }
+    {
+        match view {
+            Some(view) => Known {
+                request: view.request,
+                active: view.active,
+            },
+            None => Known {
+                request: 0,
+                active: 0,
+            },
+        }
+    }
+}
 
 /// What an arena was in the course of a history: each line has a number wherever the arena lived.
 #[derive(Drop)]
@@ -60,9 +91,65 @@ impl Row {
     pub(crate) fn take(&mut self, place: usize, market: &Market, cmd: &Cmd, reply: &Reply)
         ensures { self.new ≡ taken_row place market.now cmd.now reply.now self.old }
     {
+        let _ = self.look(place, market, cmd, reply);
+    }
+
+    /// Takes the moment, as `take` does: what is then known of the arena.
+    pub(crate) fn look(&mut self, place: usize, market: &Market, cmd: &Cmd, reply: &Reply) -> Known
+        ensures row { self.new ≡ taken_row place market.now cmd.now reply.now self.old }
+        ensures known { result ≡ known_of (view_at self.old.arena market.now) }
+    {
         self.stands = stands_after(self.arena, self.stands, cmd, reply);
         self.add_level(place);
-        self.add_view(place, market.view(self.arena));
+        let view = market.view(self.arena);
+        let known = Known::of(&view);
+        self.add_view(place, view);
+        known
+    }
+
+    /// The column at a place has an allotment between these, and the recalls and the hires that so many active workers then have.
+    #[inline]
+    pub(crate) fn has_between(&self, place: usize, bounds: Bounds, active: u32) -> bool
+        ensures { result ≡ has_between place bounds.least bounds.most active self.now }
+    {
+        let Bounds { least, most } = bounds;
+        let active = u64::from(active);
+        self.allot.spans(place, least, most)
+            && self.recall.spans(
+                place,
+                active.saturating_sub(most),
+                active.saturating_sub(least),
+            )
+            && self.hire.spans(
+                place,
+                least.saturating_sub(active),
+                most.saturating_sub(active),
+            )
+    }
+
+    /// The column at a place has what the arena may be allotted at its level.
+    #[inline]
+    pub(crate) fn has_share(&self, place: usize, known: Known, shares: &Shares) -> bool
+        requires { AreFew shares.now }
+        ensures { (s : State) → AreSharesOf s shares.now → result ≡ has_share place s known self.now self.now.stands }
+    {
+        match self.stands {
+            Some(level) => self.has_share_at(place, known, shares, level),
+            None => true,
+        }
+    }
+
+    /// The column at a place has what the arena may be allotted at a level.
+    #[inline]
+    fn has_share_at(&self, place: usize, known: Known, shares: &Shares, level: Level) -> bool
+        requires { AreFew shares.now }
+        ensures { (s : State) → AreSharesOf s shares.now → result ≡ has_share place s known self.now (Some level) }
+    {
+        if level.get() > shares.levels {
+            return false;
+        }
+        let bounds = shares.bounds(level, known.request);
+        self.has_between(place, bounds, known.active)
     }
 
     /// Lets the moment after a command and its reply pass: nothing is drawn, but where the arena stands is known after it.

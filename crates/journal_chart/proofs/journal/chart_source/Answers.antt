@@ -1,4 +1,5 @@
-use Rattle.std.proofs.Common.{refl, sym, ap, subst, arith}
+use Rattle.std.proofs.Common.{length, refl, sym, ap, ◌∙◌, subst, arith}
+use Rattle.std.proofs.lemmas.List.{length-map}
 use Rattle.market_types.specs.State.{opening_to}
 use Rattle.journal_chart.specs.Numbers.{Charted}
 use Rattle.journal_chart.specs.Steps.{Making}
@@ -7,12 +8,16 @@ use Rattle.journal_chart.proofs.Making.{charts}
 use Rattle.journal_chart.proofs.journal.chart_source.Goals as goal
 
 pub invariant_of-making : goal.invariant_of-making
-invariant_of-making g c = omega (arith, ap (λ (d : Charted). d.moments) (c.in_ok-new.ensures.opened (opening_to 1 1 1 1 1) refl))
+invariant_of-making g c =
+    let new = c.in_ok-new.ensures.opened (opening_to 1 1 1 1 1) refl in (
+      omega (arith, ap (λ (d : Charted). d.moments) new),
+      omega (arith, c.in_ok-vec.ensures.len, c.in_ok-vec.field-0.ok.0, ap (λ (d : Charted). length d.lines.rows) new ∙ length-map c.args.arenas.now _),
+    )
 
 pub returns-clause-charts : goal.returns-clause-charts
 returns-clause-charts g c =
     let left = g.R.Source.left c.args.source.now in
     let left' = g.R.Source.left c.watch_source.new.source in
     subst (λ (m : Making). Charts c.args.columns c.args.arenas.now c.args.from c.args.to left left' c.in_ok-found.found m.chart) (sym c.making.view_is)
-    (charts c.args.columns c.args.arenas.now c.args.from c.args.to c.in_ok-new.field-0 c.in_ok-found.making left left' c.in_ok-found.found
+    (charts c.no_carry_to_keep.ensures.after_a_level c.args.columns c.args.arenas.now c.args.from c.args.to c.in_ok-new.field-0 _ c.in_ok-found.making left left' c.in_ok-found.found
     c.requires.some c.in_ok-new.ensures.opened c.in_ok-found.ensures.watches)

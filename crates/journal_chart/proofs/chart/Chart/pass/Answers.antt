@@ -1,5 +1,4 @@
-use Rattle.std.proofs.Common.{◌≡◌, sym, ap, ◌∙◌}
-use Rattle.journal_chart.specs.Numbers.{Charted, chart_of}
+use Rattle.std.proofs.Common.{◌≡◌, ap, ◌∙◌}
 use Rattle.journal_chart.specs.Steps.{passed_chart}
 use Rattle.journal_chart.proofs.Charts.{charted, chart-passed}
 use Rattle.journal_chart.proofs.chart.Chart.pass.Goals as goal

@@ -1,0 +1,92 @@
+-- Two lists whose elements are changed together, one after the other.
+use Rattle.std.proofs.Common.{◌≡◌, ℕ, zero, suc, ◌+◌, ◌<◌, ◌≤◌, List, [], ◌∷◌, ◌++◌, length, map, take, drop, set, get_or, refl, sym, ap, ◌∙◌, subst, arith, append-nil}
+use Rattle.std.proofs.lemmas.List.{take_all, drop_all}
+use Rattle.journal_chart.specs.Steps.{pairwise}
+
+length-set : {X : Type 0} (xs : List X) (i : ℕ) (x : X) → length (set xs i x) ≡ length xs
+length-set [] i x = refl
+length-set (z ∷ zs) zero x = refl
+length-set (z ∷ zs) (suc i) x = ap (λ n. suc n) (length-set zs i x)
+
+set-self : {X : Type 0} (xs : List X) (i : ℕ) (x : X) → x ≡ get_or xs i x → set xs i x ≡ xs
+set-self [] i x is = refl
+set-self (z ∷ zs) zero x is = ap (λ y. y ∷ zs) is
+set-self (z ∷ zs) (suc i) x is = ap (λ ys. z ∷ ys) (set-self zs i x is)
+
+-- what stands at a place, whatever would stand beyond the last
+pub get-any : {X : Type 0} (xs : List X) (i : ℕ) (d e : X) → i < length xs → get_or xs i d ≡ get_or xs i e
+get-any [] i d e inside = absurd (omega (arith, inside))
+get-any (x ∷ xs) zero d e inside = refl
+get-any (x ∷ xs) (suc i) d e inside = get-any xs i d e (omega (arith, inside))
+
+module _ {X Y : Type 0} (f : X → Y → X × Y) where
+  -- those up to a place are changed, and those behind it are as they were
+  pub record Paired (xs0 : List X) (ys0 : List Y) (xs : List X) (ys : List Y) (i : ℕ) : Type 0 where
+    pub same : length ys ≡ length xs
+    pub count : length xs ≡ length xs0
+    pub first : take i xs ++ (pairwise f (drop i xs) (drop i ys)).0 ≡ (pairwise f xs0 ys0).0
+    pub second : take i ys ++ (pairwise f (drop i xs) (drop i ys)).1 ≡ (pairwise f xs0 ys0).1
+
+  first-more : (i : ℕ) (xs : List X) (ys : List Y) (x : X) (y : Y) → i < length xs → i < length ys → x ≡ get_or xs i x → y ≡ get_or ys i y
+      → take (suc i) (set xs i (f x y).0) ++ (pairwise f (drop (suc i) (set xs i (f x y).0)) (drop (suc i) (set ys i (f x y).1))).0
+      ≡ take i xs ++ (pairwise f (drop i xs) (drop i ys)).0
+  first-more i [] ys x y inside inside' x_is y_is = absurd (omega (arith, inside))
+  first-more i (z ∷ zs) [] x y inside inside' x_is y_is = absurd (omega (arith, inside'))
+  first-more zero (z ∷ zs) (w ∷ ws) x y inside inside' x_is y_is = λ i. (f (x_is i) (y_is i)).0 ∷ (pairwise f zs ws).0
+  first-more (suc i) (z ∷ zs) (w ∷ ws) x y inside inside' x_is y_is = ap (λ rest. z ∷ rest) (first-more i zs ws x y (omega (arith, inside)) (omega (arith, inside')) x_is y_is)
+
+  second-more : (i : ℕ) (xs : List X) (ys : List Y) (x : X) (y : Y) → i < length xs → i < length ys → x ≡ get_or xs i x → y ≡ get_or ys i y
+      → take (suc i) (set ys i (f x y).1) ++ (pairwise f (drop (suc i) (set xs i (f x y).0)) (drop (suc i) (set ys i (f x y).1))).1
+      ≡ take i ys ++ (pairwise f (drop i xs) (drop i ys)).1
+  second-more i [] ys x y inside inside' x_is y_is = absurd (omega (arith, inside))
+  second-more i (z ∷ zs) [] x y inside inside' x_is y_is = absurd (omega (arith, inside'))
+  second-more zero (z ∷ zs) (w ∷ ws) x y inside inside' x_is y_is = λ i. (f (x_is i) (y_is i)).1 ∷ (pairwise f zs ws).1
+  second-more (suc i) (z ∷ zs) (w ∷ ws) x y inside inside' x_is y_is = ap (λ rest. w ∷ rest) (second-more i zs ws x y (omega (arith, inside)) (omega (arith, inside')) x_is y_is)
+
+  pub paired-none : (xs : List X) (ys : List Y) → length ys ≡ length xs → Paired xs ys xs ys 0
+  paired-none xs ys same = record { same = same; count = refl; first = refl; second = refl }
+
+  -- the next two are changed
+  pub paired-more : (xs0 : List X) (ys0 : List Y) (xs : List X) (ys : List Y) (i : ℕ) (x x' : X) (y y' : Y) → Paired xs0 ys0 xs ys i → i < length xs
+      → x ≡ get_or xs i x → y ≡ get_or ys i y → (x', y') ≡ f x y → Paired xs0 ys0 (set xs i x') (set ys i y') (i + 1)
+  paired-more xs0 ys0 xs ys i x x' y y' h inside x_is y_is made =
+      let inside' : i < length ys = omega (arith, inside, h.same) in
+      let next : suc i ≡ i + 1 = omega arith in
+      let x_made : (f x y).0 ≡ x' = λ j. (sym made j).0 in
+      let y_made : (f x y).1 ≡ y' = λ j. (sym made j).1 in
+      let due : Paired xs0 ys0 (set xs i (f x y).0) (set ys i (f x y).1) (suc i) =
+      record {
+        same = length-set ys i _ ∙ h.same ∙ sym (length-set xs i _);
+        count = length-set xs i _ ∙ h.count;
+        first = first-more i xs ys x y inside inside' x_is y_is ∙ h.first;
+        second = second-more i xs ys x y inside inside' x_is y_is ∙ h.second;
+      } in
+      subst (λ n. Paired xs0 ys0 (set xs i x') (set ys i y') n) next
+      (subst (λ (p : X). Paired xs0 ys0 (set xs i p) (set ys i y') (suc i)) x_made (subst (λ (q : Y). Paired xs0 ys0 (set xs i (f x y).0) (set ys i q) (suc i)) y_made due))
+
+  -- the next two stay as they are
+  pub paired-still : (xs0 : List X) (ys0 : List Y) (xs : List X) (ys : List Y) (i : ℕ) (x : X) (y : Y) → Paired xs0 ys0 xs ys i → i < length xs
+      → x ≡ get_or xs i x → y ≡ get_or ys i y → (x, y) ≡ f x y → Paired xs0 ys0 xs ys (i + 1)
+  paired-still xs0 ys0 xs ys i x y h inside x_is y_is made =
+      subst (λ (zs : List X). Paired xs0 ys0 zs ys (i + 1)) (set-self xs i x x_is)
+      (subst (λ (ws : List Y). Paired xs0 ys0 (set xs i x) ws (i + 1)) (set-self ys i y y_is) (paired-more xs0 ys0 xs ys i x x y y h inside x_is y_is made))
+
+  pub paired-all : (xs0 : List X) (ys0 : List Y) (xs : List X) (ys : List Y) (i : ℕ) → Paired xs0 ys0 xs ys i → length xs ≤ i
+      → (xs ≡ (pairwise f xs0 ys0).0) × (ys ≡ (pairwise f xs0 ys0).1)
+  paired-all xs0 ys0 xs ys i h all =
+      let all' : length ys ≤ i = omega (arith, all, h.same) in
+      let none : drop i xs ≡ [] = drop_all i xs all in
+      let none' : drop i ys ≡ [] = drop_all i ys all' in (
+        sym (append-nil xs) ∙ (λ j. sym (take_all i xs all) j ++ (pairwise f (sym none j) (sym none' j)).0) ∙ h.first,
+        sym (append-nil ys) ∙ (λ j. sym (take_all i ys all') j ++ (pairwise f (sym none j) (sym none' j)).1) ∙ h.second,
+      )
+
+-- where what becomes of an element does not depend on the other
+pub pairwise-map : {X Y : Type 0} (f : X → X) (g : X → Y) (xs : List X) (ys : List Y) → length ys ≡ length xs
+    → pairwise (λ (x : X) (y : Y). (f x, g x)) xs ys ≡ (map f xs, map g xs)
+pairwise-map f g [] [] same = refl
+pairwise-map f g [] (y ∷ ys) same = absurd (omega (arith, same))
+pairwise-map f g (x ∷ xs) [] same = absurd (omega (arith, same))
+pairwise-map f g (x ∷ xs) (y ∷ ys) same =
+    let rest = pairwise-map f g xs ys (omega (arith, same)) in
+    λ i. (f x ∷ (rest i).0, g x ∷ (rest i).1)
