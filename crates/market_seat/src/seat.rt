@@ -5,8 +5,9 @@ ghost use Rattle.market_types.specs.declared.reply.Reply.TheVariants.{Left};
 ghost use Rattle.market_types.specs.Commands.{moves_seat};
 ghost use Rattle.market_types.specs.Opening.{MemoryAside};
 ghost use Rattle.market_types.specs.History.{IsLegal};
-ghost use Rattle.edit_history.specs.Chronicled.{opened_by, most_forgotten};
+ghost use Rattle.edit_history.specs.Chronicled.{market_of, opened_by, most_forgotten};
 ghost use Rattle.edit_history.specs.Parts.{EndsWith};
+ghost use Rattle.edit_history.specs.Places.{placed};
 ghost use Rattle.edit_history.specs.declared.keeping.Keeping.TheVariants.{InParts};
 ghost use Rattle.market_lock.specs.Views.{opening_of, chronicle_cut, seats_placed_after};
 ghost use Rattle.market_lock.specs.Seen.{OfPass, Met, AllParts, Looks, HasCut};
@@ -168,6 +169,7 @@ impl Seat {
         ensures calls_made { IfOk result (λ closed. closed.calls ≡ sum_by (λ (p : OfPass). length p.mine) (callers self)) }
         ensures all { IfOk result (λ _. length (callers self) ≡ self.office.terms.opening.seats) }
         ensures unplaced { IfOk result (λ closed. closed.workers ≡ 0) }
+        ensures nobody { IfOk result (λ closed. placed (market_of closed.chronicle) ≡ 0) }
         ensures err { IfErr result (λ refused. refused.seat ≡ self) }
         ensures placed { IfErr result (λ refused. refused.why ≡ StillPlaced → is_some (place_of self.hand) ≡ true) }
         ensures others { length (callers self) ≢ self.office.terms.opening.seats → IfErr result (λ refused. refused.why ≡ (if is_some (place_of self.hand) then StillPlaced else OthersOut)) }
