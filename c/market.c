@@ -26,6 +26,7 @@ int32_t market_raw_limit(void *place, market_limits *limits);
 int32_t market_raw_lists(void *place, market_counts *arenas, size_t room, uint64_t *count);
 int32_t market_raw_journal_open(void *place, void *journal);
 int32_t market_raw_cut(void *place, void *journal, market_part *part);
+int32_t market_raw_close_into(void *place, void *journal, market_totals *totals, market_part *part);
 int32_t market_raw_journal_read(void *journal, unsigned char *buffer, size_t room, uint64_t *written);
 int32_t market_raw_journal_close(void *journal);
 
@@ -238,6 +239,11 @@ static int32_t take_with(market_seat *seat, market_journal *journal) {
     return MARKET_JOURNAL_IN_USE;
 }
 
+/* A journal is of one market. Where one of the places is empty, the proved function finds that itself. */
+static int are_apart(const market_seat *seat, const market_journal *journal) {
+    return seat->market != 0 && journal->market != 0 && seat->market != journal->market;
+}
+
 int32_t market_journal_open(market_seat *seat, market_journal *journal) {
     int32_t code = take_with(seat, journal);
     if (code != MARKET_OK) return code;
@@ -251,9 +257,7 @@ int32_t market_journal_open(market_seat *seat, market_journal *journal) {
 int32_t market_try_cut(market_seat *seat, market_journal *journal, market_part *part) {
     int32_t code = take_with(seat, journal);
     if (code != MARKET_OK) return code;
-    /* A journal is of one market. Where one of the places is empty, the proved function finds that itself. */
-    const int both_live = seat->market != 0 && journal->market != 0;
-    code = both_live && seat->market != journal->market ? MARKET_OTHER_MARKET : market_raw_cut(&seat->place, &journal->place, part);
+    code = are_apart(seat, journal) ? MARKET_OTHER_MARKET : market_raw_cut(&seat->place, &journal->place, part);
     give_journal(journal);
     give(seat);
     return code;
@@ -261,6 +265,16 @@ int32_t market_try_cut(market_seat *seat, market_journal *journal, market_part *
 
 int32_t market_cut(market_seat *seat, market_journal *journal, market_part *part) {
     UNTIL_ANSWERED(market_try_cut(seat, journal, part))
+}
+
+int32_t market_close_into(market_seat *seat, market_journal *journal, market_totals *totals, market_part *part) {
+    int32_t code = take_with(seat, journal);
+    if (code != MARKET_OK) return code;
+    code = are_apart(seat, journal) ? MARKET_OTHER_MARKET : market_raw_close_into(&seat->place, &journal->place, totals, part);
+    if (code == MARKET_OK) seat->market = 0;
+    give_journal(journal);
+    give(seat);
+    return code;
 }
 
 int32_t market_journal_read(market_journal *journal, void *buffer, size_t size, uint64_t *written) {

@@ -42,7 +42,7 @@ typedef enum market_code {
     MARKET_SEATS_OUT = 6,          /* other seats of the market are not merged yet */
     MARKET_STILL_PLACED = 7,       /* the seat is placed: it has to leave first */
     MARKET_UNREAD = 8,             /* the journal has text that was not read yet: read it first */
-    MARKET_NO_PART = 9,            /* nothing was cut: the market does not keep its entries in parts, or its history is too long */
+    MARKET_NO_PART = 9,            /* there is no part: no entry is kept to be cut, or to be left by a close, or the history is too long */
 
     /* refusals of a command */
     MARKET_BAD_SLOTS = 11,         /* the slots are not 1 to 65,535 */
@@ -100,7 +100,7 @@ typedef struct market_seat {
 
 /* Which entries of the history are kept. */
 enum {
-    MARKET_KEEP_ALL = 0,     /* each, while there are places */
+    MARKET_KEEP_ALL = 0,     /* each, while there are places: they are read at the close */
     MARKET_KEEP_PARTS = 1,   /* each, until it is cut out */
     MARKET_KEEP_NOTHING = 2  /* none: `places` is at least the seats and two, and it is never full in 2^63 calls */
 };
@@ -130,7 +130,8 @@ typedef struct market_totals {
     uint64_t calls; /* how many calls were answered */
 } market_totals;
 
-/* Ends the market and frees it, once all seats are merged into this one; MARKET_SEATS_OUT before. The place is then empty. */
+/* Ends the market and frees it, once all seats are merged into this one; MARKET_SEATS_OUT before. The place is then empty. What it
+ * still keeps of its history goes, too: market_close_into has it written. */
 int32_t market_close(market_seat *seat, market_totals *totals);
 
 /* How the calls without `_try_` by this seat wait. NULL is the usual way: a few attempts at once, then the system's yield. */
@@ -213,7 +214,7 @@ typedef struct market_counts {
 int32_t market_try_lists(market_seat *seat, market_counts *arenas, size_t room, uint64_t *count);
 int32_t market_lists(market_seat *seat, market_counts *arenas, size_t room, uint64_t *count);
 
-/* ---- the journal of a market that keeps its entries in parts: each part is cut by a seat, and read as text ---- */
+/* ---- the journal of a market: its history as text, cut in parts while it works, or left by its close ---- */
 
 /* The text of a journal that was not read yet. All fields are the library's. One thread at a time uses a journal. */
 typedef struct market_journal {
@@ -241,6 +242,11 @@ typedef struct market_part {
  * text is what `market replay` reads. */
 int32_t market_try_cut(market_seat *seat, market_journal *journal, market_part *part);
 int32_t market_cut(market_seat *seat, market_journal *journal, market_part *part);
+
+/* Ends the market as market_close does, and what it still keeps of its history, the last part, goes to the end of the journal's text:
+ * with MARKET_KEEP_ALL that is every entry, with MARKET_KEEP_PARTS what was not cut yet. With MARKET_KEEP_NOTHING it is
+ * MARKET_NO_PART, and the market goes on. At MARKET_UNREAD the part before is to be read first. */
+int32_t market_close_into(market_seat *seat, market_journal *journal, market_totals *totals, market_part *part);
 
 /* The next bytes of the text go to the buffer, at most `size`; how many is written, which is 0 where all is read. At
  * MARKET_NO_MEMORY none are, and none are lost: read again. It asks the market for nothing. */

@@ -1,5 +1,6 @@
 // Loops in two arenas of different priority, one of them nested, under a limit that changes while they run. It prints how many workers
 // each arena had over time beside what it was allotted, and ends with 0 where all sums are right and no arena had more than it may have.
+// Arguments: workers (4), microseconds of a body (10), bodies of each loop (20000), and a file for the market's journal.
 #include "pool.hpp"
 
 #include <chrono>
@@ -29,9 +30,10 @@ int main(int count, char **words) {
     const unsigned workers = count > 1 ? std::atoi(words[1]) : 4;
     const unsigned body = count > 2 ? std::atoi(words[2]) : 10;
     const std::size_t size = count > 3 ? std::atoi(words[3]) : 20000;
+    std::FILE *const file = count > 4 ? std::fopen(words[4], "w") : nullptr;
     bool right = true;
     {
-        pool::thread_pool threads(workers, workers + 1, 3);
+        pool::thread_pool threads(workers, workers + 1, 3, file);
         pool::arena &high = threads.open(workers, 1), &low = threads.open(workers, 3);
         std::atomic<uint64_t> high_sum{0}, low_sum{0};
         std::atomic<bool> done{false};
@@ -82,6 +84,7 @@ int main(int count, char **words) {
             (unsigned long long)threads.recalls(), (unsigned long long)threads.sleeps());
         std::fprintf(stderr, "idle for 200 ms it took %.1f ms of the processor\n", idle);
     }
+    if (file != nullptr) right = std::fclose(file) == 0 && right;
     std::printf("%s\n", right ? "the pool's sums are right, and no arena had more workers than it may have" : "WRONG");
     return right ? 0 : 1;
 }

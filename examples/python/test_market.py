@@ -1,7 +1,7 @@
 """Two threads share a market from Python, and every misuse is told. Run it with python3; it ends with 0 where all is right."""
 import threading
 
-from market import KEEP_PARTS, Misuse, Seat
+from market import KEEP_ALL, KEEP_PARTS, Misuse, Seat
 
 
 def told(name, call, *words):
@@ -59,4 +59,15 @@ assert len(lines) == 2 and '"open' in lines[1], lines
 assert (kept.cut(journal), journal.read(), kept.close()) == (0, "", 1)
 journal.close()
 told("MARKET_BAD_JOURNAL", journal.close)
+
+whole = Seat.open(base=3, hard=8, seats=2, keeping=KEEP_ALL)
+journal, other = whole.journal(), whole.split()
+other.arena_open(8, 1, 1)
+told("MARKET_NO_ARENA", whole.request, 7, 1)
+told("MARKET_SEATS_OUT", whole.close_into, journal)
+whole.merge(other)
+assert whole.close_into(journal) == 2
+told("MARKET_UNREAD", journal.close)
+assert [line[:8] for line in journal.read().splitlines()] == ['{"base":', '{"cmd":"', '{"cmd":"']
+journal.close()
 print("a market from Python: all is right")

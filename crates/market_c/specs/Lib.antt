@@ -1,5 +1,6 @@
 pub mod Asked
 pub mod Codes
+pub mod Endings
 pub mod Held
 pub mod HeldJournal
 pub mod Journals

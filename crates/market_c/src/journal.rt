@@ -1,5 +1,5 @@
-//! The journal of a market that keeps its entries in parts: cut by a seat, and read as text.
-ghost use Rattle.std.specs.Prelude.{◌≡◌, ◌≢◌, ◌++◌, [], codes, pos, negsuc, Some, None, IsSome, IsSomeAnd, IfOk, IfErr, OnErr};
+//! The journal of a market: cut by a seat where its entries are kept in parts, and read as text.
+ghost use Rattle.std.specs.Prelude.{◌≡◌, ◌≢◌, ◌++◌, [], codes, pos, negsuc, length, Some, None, IsSome, IsSomeAnd, IfOk, IfErr, OnErr};
 ghost use Rattle.journal_replay.specs.Journal.{header_line};
 ghost use Rattle.edit_history.specs.declared.part.Part.{Part};
 ghost use Rattle.journal_text.specs.Texts.{text_of};
@@ -11,7 +11,7 @@ ghost use Rattle.market_c.specs.Journals.{header_of, IsCutInto, CutsInto, HandsO
 use crate::code::{BAD_JOURNAL, BAD_SEAT, BUSY, NO_MEMORY, NO_PART, OK, UNFIT, UNREAD};
 use crate::journal_place::JournalPlace;
 use crate::place::Place;
-use edit_history::Terms;
+use edit_history::{Part, Terms};
 use journal_replay::{Extent, Header};
 use journal_text::Unread;
 use market_seat::{Cutting, Seat};
@@ -26,6 +26,19 @@ pub struct MarketPart {
     pub from: u64,
     /// How many calls it has.
     pub calls: u64,
+}
+
+impl MarketPart {
+    /// What is told of this part.
+    pub(crate) fn of(part: &Part) -> MarketPart
+        ensures from { result.from ≡ part.now.from }
+        ensures calls { result.calls ≡ length part.now.entries.items }
+    {
+        MarketPart {
+            from: part.from,
+            calls: part.entries.len() as u64,
+        }
+    }
 }
 
 /// The header of the journal of a market on these terms.
@@ -60,10 +73,7 @@ fn cut_into(alloc: Global, seat: &mut Seat, unread: &mut Unread) -> Result<Marke
     };
     match seat.try_cut(spare) {
         Cutting::Made(Some(part)) => {
-            let told = MarketPart {
-                from: part.from,
-                calls: part.entries.len() as u64,
-            };
+            let told = MarketPart::of(&part);
             unread.put(terms.opening.levels, part);
             Ok(told)
         }

@@ -2,7 +2,7 @@
 //! and that only one of them can use at a time, since each call takes it by `&mut`. So none of the misuses that the library tells can be
 //! written, but for seats of two markets, and for what depends on where a seat is placed.
 use std::ffi::CStr;
-use std::fmt;
+use std::{fmt, io};
 
 mod raw;
 
@@ -35,6 +35,8 @@ impl Code {
     pub const HISTORY_FULL: Code = Code(2);
     pub const SEATS_OUT: Code = Code(6);
     pub const STILL_PLACED: Code = Code(7);
+    pub const UNREAD: Code = Code(8);
+    pub const NO_PART: Code = Code(9);
     pub const NO_ARENA: Code = Code(15);
     pub const OTHER_MARKET: Code = Code(-5);
     pub const UNFIT: Code = Code(-6);
@@ -66,7 +68,7 @@ fn told(code: i32) -> Result<(), Code> {
     if code == 0 { Ok(()) } else { Err(Code(code)) }
 }
 
-pub use raw::{Limits, View};
+pub use raw::{Counts, Limits, Part, View};
 
 /// One caller's way into a market. Where it is dropped before it is merged or closed, the market is never freed.
 #[must_use = "a market is closed once all of its seats are merged"]
@@ -193,5 +195,64 @@ impl Seat {
     pub fn limit(&mut self) -> Result<Limits, Code> {
         let mut limits = Limits::default();
         told(unsafe { raw::market_limit(&mut *self.place, &mut limits) }).map(|()| limits)
+    }
+
+    /// All arenas with workers too many or too few, in the order in which they are served.
+    pub fn lists(&mut self) -> Result<Vec<Counts>, Code> {
+        // No market has more arenas than these.
+        let mut arenas = vec![Counts::default(); 1_024];
+        let mut count = 0;
+        told(unsafe { raw::market_lists(&mut *self.place, arenas.as_mut_ptr(), arenas.len(), &mut count) })?;
+        arenas.truncate(count as usize);
+        Ok(arenas)
+    }
+
+    /// A journal of the seat's market, whose first line is there to be read.
+    pub fn journal(&mut self) -> Result<Journal, Code> {
+        let mut journal = Journal { place: Box::new(raw::JournalPlace::VACANT) };
+        told(unsafe { raw::market_journal_open(&mut *self.place, &mut *journal.place) }).map(|()| journal)
+    }
+
+    /// All that a market in parts keeps of its history goes to the end of the journal's text, which was read before.
+    pub fn cut(&mut self, journal: &mut Journal) -> Result<Part, Code> {
+        let mut part = Part::default();
+        told(unsafe { raw::market_cut(&mut *self.place, &mut *journal.place, &mut part) }).map(|()| part)
+    }
+
+    /// Ends the market as `close` does, and what it still keeps of its history goes to the end of the journal's text: every entry, or
+    /// what was not cut yet. Says how many calls were answered; else the seat comes back.
+    pub fn close_into(mut self, journal: &mut Journal) -> Result<(u64, Part), (Seat, Code)> {
+        let (mut totals, mut part) = (raw::Totals { calls: 0 }, Part::default());
+        match told(unsafe { raw::market_close_into(&mut *self.place, &mut *journal.place, &mut totals, &mut part) }) {
+            Ok(()) => Ok((totals.calls, part)),
+            Err(code) => Err((self, code)),
+        }
+    }
+}
+
+/// The text of a market's journal that was not read yet, read as any [`io::Read`] is. It may outlive its market. Where it is dropped before
+/// it is closed, it is never freed.
+#[must_use = "a journal is closed once all of it is read"]
+pub struct Journal {
+    place: Box<raw::JournalPlace>,
+}
+
+// One thread at a time uses a journal, which shares nothing.
+unsafe impl Send for Journal {}
+
+impl Journal {
+    /// Ends the journal; where some of its text was not read it comes back.
+    pub fn close(mut self) -> Result<(), (Journal, Code)> {
+        told(unsafe { raw::market_journal_close(&mut *self.place) }).map_err(|code| (self, code))
+    }
+}
+
+impl io::Read for Journal {
+    /// Gives 0 where all that was cut is read. Out of memory nothing is lost: read again.
+    fn read(&mut self, buffer: &mut [u8]) -> io::Result<usize> {
+        let mut written = 0;
+        told(unsafe { raw::market_journal_read(&mut *self.place, buffer.as_mut_ptr().cast(), buffer.len(), &mut written) })
+            .map_err(|code| io::Error::new(io::ErrorKind::OutOfMemory, code))?;
+        Ok(written as usize)
     }
 }

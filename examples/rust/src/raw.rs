@@ -16,6 +16,18 @@ impl Place {
 }
 
 #[repr(C)]
+pub struct JournalPlace {
+    state: u32,
+    at: *mut c_void,
+    market: u64,
+    in_use: u8,
+}
+
+impl JournalPlace {
+    pub const VACANT: JournalPlace = JournalPlace { state: 0, at: std::ptr::null_mut(), market: 0, in_use: 0 };
+}
+
+#[repr(C)]
 pub struct Terms {
     pub base: u32,
     pub hard: u32,
@@ -29,6 +41,23 @@ pub struct Terms {
 #[repr(C)]
 pub struct Totals {
     pub calls: u64,
+}
+
+/// A part of a history: how many calls come before it, and how many it has.
+#[repr(C)]
+#[derive(Clone, Copy, Debug, Default, PartialEq, Eq)]
+pub struct Part {
+    pub from: u64,
+    pub calls: u64,
+}
+
+/// How far an arena is from what it is allotted: one of its counts is 0, the other is not.
+#[repr(C)]
+#[derive(Clone, Copy, Debug, Default, PartialEq, Eq)]
+pub struct Counts {
+    pub arena: u32,
+    pub recall: u32,
+    pub hire: u32,
 }
 
 /// What the market allots to an arena.
@@ -71,4 +100,10 @@ extern "C" {
     pub fn market_leave(seat: *mut Place, arena: *mut u32) -> i32;
     pub fn market_show(seat: *mut Place, arena: u32, view: *mut View) -> i32;
     pub fn market_limit(seat: *mut Place, limits: *mut Limits) -> i32;
+    pub fn market_lists(seat: *mut Place, arenas: *mut Counts, room: usize, count: *mut u64) -> i32;
+    pub fn market_journal_open(seat: *mut Place, journal: *mut JournalPlace) -> i32;
+    pub fn market_cut(seat: *mut Place, journal: *mut JournalPlace, part: *mut Part) -> i32;
+    pub fn market_close_into(seat: *mut Place, journal: *mut JournalPlace, totals: *mut Totals, part: *mut Part) -> i32;
+    pub fn market_journal_read(journal: *mut JournalPlace, buffer: *mut c_void, size: usize, written: *mut u64) -> i32;
+    pub fn market_journal_close(journal: *mut JournalPlace) -> i32;
 }
