@@ -1,6 +1,6 @@
 // The pool of examples/pool beside oneTBB, in one run. Two threads run nested loops, each in an arena of its own, of high and of low
-// priority, while the limit changes; then how long it takes after a change of the limit until as many workers are active as it allows;
-// and what an idle pool takes of the processor. docs/MEASURES.md says what it found. Build and run it so, on a quiet machine:
+// priority, under a limit that stays and under one that changes; then how long it takes after a change of the limit until as many workers
+// are active as it allows; and what an idle pool takes of the processor. Build and run it so, on a quiet machine:
 //   c++ -std=c++17 -O2 -pthread -Iinclude -Iexamples/pool bench/pool.cpp build/libmarket.a -ltbb -o build/programs/bench_pool
 //   build/programs/bench_pool [SECONDS of each cell] [ROUNDS]
 #include "pool.hpp"
