@@ -55,7 +55,7 @@ fn first_missing(sorted: &[Done], jobs: &[PlannedJob]) -> Option<u32>
 ///
 /// `Doubled` comes first, where a number has more than one answer, or one that is not that of a job of the plan; then
 /// `Missing`, where a job has none. Both name the least such number. The answers are let go then.
-pub fn gather_done(jobs: &[PlannedJob], done: Vec<Done>) -> Result<Vec<Done>, GatherFault>
+pub fn outcome_of(jobs: &[PlannedJob], done: Vec<Done>) -> Result<Vec<Done>, GatherFault>
     requires few { length jobs.now ≤ 65536 }
     ensures outcome { IfOk result (λ gathered. IsOutcome jobs.now gathered.items) }
     ensures same { IfOk result (λ gathered. IsPermutation done.items gathered.items) }

@@ -1,4 +1,4 @@
-//! Plans of jobs: [`read_plan`] reads one, and [`gather_done`] puts the answers to its jobs in order and tells where one
+//! Plans of jobs: [`read_plan`] reads one, and [`outcome_of`] puts the answers to its jobs in order and tells where one
 //! is too many or none. A [`Job`] that is run gives a [`Done`], whose type keeps that its value is its task's.
 //!
 //! How a line reads is `specs/Reading`, which lines may follow one another `specs/Plans`, and which text is which plan `specs/Format`; the
@@ -13,7 +13,7 @@ mod plan;
 mod reader;
 mod task;
 
-pub use gather::{GatherFault, gather_done};
+pub use gather::{GatherFault, outcome_of};
 pub use law::plans_are_their_sections;
 pub use plan::{MOST_ARENAS, Plan, PlannedArena};
 pub use reader::{PlanFault, read_plan};

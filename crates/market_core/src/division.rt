@@ -45,7 +45,7 @@ impl Division {
 
     /// How many workers an arena is allotted where no worker may be active: all that there are, if its enqueued work is
     /// served.
-    pub fn picked_workers(&self, arena: ArenaId) -> u32
+    pub fn mandatory_workers(&self, arena: ArenaId) -> u32
         ensures { result ≡ (if is_just arena self.now.picked then self.now.bound else 0) }
     {
         match self.picked {

@@ -65,7 +65,7 @@ pub fn gather_done(plan: &Plan, done: Vec<Done>, ended: &[Ended]) -> Result<Vec<
     if let Some(fault) = end_fault(ended) {
         return Err(fault);
     }
-    match drive_plan::gather_done(plan.jobs(), done) {
+    match drive_plan::outcome_of(plan.jobs(), done) {
         Ok(gathered) => Ok(gathered),
         Err(GatherFault::Doubled(number)) => Err(DriveFault::Doubled(number)),
         Err(GatherFault::Missing(number)) => Err(DriveFault::Missing(number)),

@@ -29,7 +29,7 @@ impl Market {
     }
 
     /// The first arena of each level that has enqueued work and asks for workers.
-    fn picks(&self) -> ([Option<ArenaId>; 8], u32)
+    fn first_mandated_by_level(&self) -> ([Option<ArenaId>; 8], u32)
         ensures exact { ArePicksOf self.now result.0 }
         ensures least { least_picked self.now.arenas self.now.levels ≤ result.1 }
         ensures alone { HasSmallLevels self.now → result.1 ≡ least_picked self.now.arenas self.now.levels }
@@ -52,14 +52,14 @@ impl Market {
     // Apart, since each command that divides workers would else make room for the picks at its start, and few need them.
     #[cold]
     #[inline(never)]
-    fn pick(&self) -> (Option<ArenaId>, u32)
+    fn mandatory_arena(&self) -> (Option<ArenaId>, u32)
         ensures exact { result.0 ≡ pick_of self.now }
         ensures least { least_picked self.now.arenas self.now.levels ≤ result.1 }
         ensures alone { HasSmallLevels self.now → result.1 ≡ least_picked self.now.arenas self.now.levels }
         ensures visits { result.1 ≤ self.now.levels * (2 * bits (length self.now.arenas)) }
         ensures few { result.1 ≤ 176 }
     {
-        let (picks, visits) = self.picks();
+        let (picks, visits) = self.first_mandated_by_level();
         (mandatory_pick(&picks), visits)
     }
 
@@ -79,7 +79,7 @@ impl Market {
         let demands = self.demands();
         let bound = sum_of(&demands).min(u64::from(limits.effective)) as u32;
         let (picked, visits) = if limits.limit == 0 {
-            self.pick()
+            self.mandatory_arena()
         } else {
             (None, 0)
         };
@@ -106,7 +106,7 @@ impl Market {
         ensures few { result.1 ≤ 22 }
     {
         if division.limit == 0 {
-            return (division.picked_workers(stored.arena()), 0);
+            return (division.mandatory_workers(stored.arena()), 0);
         }
         no_carry_to_keep();
         let request = u64::from(stored.claim().request());

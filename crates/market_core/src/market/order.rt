@@ -17,7 +17,7 @@ use std::alloc::{AllocError, Global};
 
 impl Market {
     /// The arena whose enqueued work is served, where it is allotted more workers than it has.
-    fn picked_in_need(&self, division: &Division) -> Option<ArenaId>
+    fn mandatory_in_need(&self, division: &Division) -> Option<ArenaId>
         requires divided { IsDivisionOf self.now division.now }
         requires none { limit_of self.now ≡ 0 }
         ensures { result ≡ need_of self.now }
@@ -41,7 +41,7 @@ impl Market {
         let division = &self.divide();
         let mut visits = division.visits;
         if division.limit == 0 {
-            return (self.picked_in_need(division), visits);
+            return (self.mandatory_in_need(division), visits);
         }
         for level in 0..levels {
             let (found, more) = self.in_need_at(division, Level::from_index(level as usize));

@@ -1,7 +1,7 @@
 //! What tasks are worth, and answers that are gathered.
 
 use crate::asserts::{holds, same};
-use drive_plan::{Done, Job, PlannedJob, Task, gather_done};
+use drive_plan::{Done, Job, PlannedJob, Task, outcome_of};
 use market_types::ArenaId;
 use std::alloc::Global;
 use std::process::Abort;
@@ -62,7 +62,7 @@ fn a_task_has_its_value(rt: HostRuntime) {
 #[test]
 fn answers_come_out_in_order_of_number(rt: HostRuntime) {
     let done = answers(&rt, rt.alloc(), &[taken(3), taken(1), taken(2)]);
-    let Ok(gathered) = gather_done(&planned(), done) else {
+    let Ok(gathered) = outcome_of(&planned(), done) else {
         panic!(&rt; "the answers are no outcome");
     };
     for (done, due) in gathered.iter().zip([(1, 55), (2, 18), (3, 5050)]) {

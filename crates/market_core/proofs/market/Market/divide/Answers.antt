@@ -23,7 +23,7 @@ returns-clause-exact c =
       assigned = λ level low high. c.assign.ensures.in_market s c.demands-demands.ensures.exact (c.from-2.ensures ∙ bound) level low high;
       within = c.assign.ensures.no_more_than_asked;
       picked = λ none. elim c.if-limits-eq0.branch [
-        | then-limits-eq0 w ↦ ap (λ (p : Option ℕ × ℕ). p.0) w.picked-is ∙ w.pick.ensures.exact
+        | then-limits-eq0 w ↦ ap (λ (p : Option ℕ × ℕ). p.0) w.picked-is ∙ w.mandatory_arena.ensures.exact
         | else-limits-eq0 w ↦ absurd (w.if-limits-eq0.false (limit ∙ none))
       ];
     }

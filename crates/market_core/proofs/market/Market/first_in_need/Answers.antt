@@ -114,7 +114,7 @@ returns-then-division-eq0-clause-entered c =
     let s = c.args.self.now in
     let sound : IsSound s = rw c.self.view_is at c.self.invariant.sound in
     let none : limit_of s ≡ 0 = sym c.divide.ensures.exact.limit ∙ c.if-division-eq0.true in
-    needed-entered s c.picked_in_need.result c.divide.result.visits sound.leveled c.picked_in_need.ensures
+    needed-entered s c.mandatory_in_need.result c.divide.result.visits sound.leveled c.mandatory_in_need.ensures
     (λ some. omega (arith, picked-some s.arenas s.levels sound.leveled some, least-some s none, c.divide.ensures.least))
 
 pub returns-then-division-eq0-clause-every_search : goal.returns-then-division-eq0-clause-every_search

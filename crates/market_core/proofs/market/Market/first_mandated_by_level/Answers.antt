@@ -8,7 +8,7 @@ use Rattle.allotment.specs.Levels.{number_of}
 use Rattle.market_types.specs.Allotment.{at_level}
 use Rattle.market_core.specs.Visits.{least_picked}
 use Rattle.market_core.proofs.Meters.{node-alone, picked-next, picked-alone}
-use Rattle.market_core.proofs.market.Market.picks.Goals as goal
+use Rattle.market_core.proofs.market.Market.first_mandated_by_level.Goals as goal
 
 -- one level more has its pick
 next-pick : (picks : List (Option ℕ)) (i : ℕ) (o : Option ℕ) (P : ℕ → Option ℕ) → i < length picks → ((k : ℕ) → k < i → get_or picks k None ≡ P k) → o ≡ P i → (k : ℕ) → k < i + 1 → get_or (set picks i o) k None ≡ P k

@@ -3,7 +3,7 @@ use Rattle.market_types.specs.State.{State}
 use Rattle.market_types.specs.Allotment.{active}
 use Rattle.allotment.specs.Levels.{pick_of}
 use Rattle.market_core.proofs.InNeed.{need-unpicked, need-served, need-picked}
-use Rattle.market_core.proofs.market.Market.picked_in_need.Goals as goal
+use Rattle.market_core.proofs.market.Market.mandatory_in_need.Goals as goal
 
 pub returns-in_err-picked : goal.returns-in_err-picked
 returns-in_err-picked c =

@@ -4,7 +4,7 @@ use Rattle.drive_plan.specs.declared.task.Done.{Done}
 use Rattle.drive_plan.specs.Outcome.{IsDoubled, IsMissing, IsOutcome}
 use Rattle.drive_plan.specs.Gathering.{IsInOrder, Rises}
 use Rattle.drive_plan.proofs.Order.{doubled_in, missing_in}
-use Rattle.drive_plan.proofs.gather.gather_done.Goals as goal
+use Rattle.drive_plan.proofs.gather.outcome_of.Goals as goal
 
 pub first_doubled-requires-clause-in_order : goal.first_doubled-requires-clause-in_order
 first_doubled-requires-clause-in_order c =

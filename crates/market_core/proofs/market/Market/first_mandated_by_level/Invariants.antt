@@ -6,7 +6,7 @@ use Rattle.market_types.specs.Allotment.{at_level}
 use Rattle.allotment.specs.Levels.{number_of}
 use Rattle.arena_store.specs.Bits.{bits}
 use Rattle.market_core.specs.Visits.{least_picked}
-use Rattle.market_core.proofs.market.Market.picks.Given as goal
+use Rattle.market_core.proofs.market.Market.first_mandated_by_level.Given as goal
 
 -- the levels so far have their picks, and there is none above them
 abbrev pub invariant-loop-index : goal.invariant-loop-index
