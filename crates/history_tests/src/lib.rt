@@ -19,7 +19,10 @@ mod journals;
 #[cfg(test)]
 mod largest;
 #[cfg(test)]
-#[cfg(test)]
 mod lines;
+#[cfg(test)]
+mod pieces;
+#[cfg(test)]
+mod rows;
 #[cfg(test)]
 mod tables;

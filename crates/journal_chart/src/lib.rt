@@ -5,8 +5,6 @@
 //! market's states alone, and over a history of calls.
 #![tactic(auto)]
 
-#[cfg(test)]
-mod asserts;
 mod chart;
 mod figure;
 mod journal;
@@ -19,8 +17,6 @@ mod row;
 mod shares;
 mod sheet;
 mod span;
-#[cfg(test)]
-mod tests;
 
 pub use chart::Chart;
 pub use journal::chart_source;

@@ -4,8 +4,6 @@
 //! lines there is no memory waits, and what was not handed out yet stays.
 #![tactic(auto)]
 
-#[cfg(test)]
-mod by_pieces;
 mod page;
 mod unread;
 

@@ -7,8 +7,6 @@
 #![tactic(auto)]
 
 mod answer;
-#[cfg(test)]
-mod each_once;
 mod hand;
 mod seat;
 

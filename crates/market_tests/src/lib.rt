@@ -8,6 +8,8 @@ mod asserts;
 #[cfg(test)]
 mod charts;
 #[cfg(test)]
+mod columns;
+#[cfg(test)]
 mod devices;
 #[cfg(test)]
 mod drives;
@@ -27,6 +29,8 @@ mod plans;
 mod replays;
 #[cfg(test)]
 mod scripts;
+#[cfg(test)]
+mod seats;
 #[cfg(test)]
 mod texts;
 #[cfg(test)]

@@ -17,7 +17,6 @@ pub mod OneLevel
 pub mod Passing
 pub mod Reaching
 pub mod Rows
-pub mod Seen
 pub mod SmallDigits
 pub mod Sums
 pub mod TwoStoreys

@@ -19,25 +19,17 @@
 //! keys. So from one row to the next that has to be looked at it makes no more visits than a way down.
 #![tactic(auto)]
 
-#[cfg(test)]
-mod asserts;
-#[cfg(test)]
-mod beside;
 mod columns;
 mod index;
 mod leaf;
 mod level;
 mod levels;
-#[cfg(test)]
-mod looked;
 mod quads;
 mod search;
 mod shelf;
 mod spans;
 mod spare;
 mod storeys;
-#[cfg(test)]
-mod tests;
 mod visits;
 
 pub use leaf::Leaf;

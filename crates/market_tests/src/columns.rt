@@ -1,12 +1,8 @@
-//! What no clause says: that a chart is made where memory is ample, and values worked out by hand.
+//! The columns of a chart: that it is made where memory is ample, and values worked out by hand.
 ghost use Rattle.std.specs.Prelude.{◌<◌};
 
 use crate::asserts::{holds, same};
-use crate::chart::Chart;
-use crate::line::Line;
-use crate::picture::push_picture;
-use crate::row::Row;
-use crate::span::Span;
+use journal_chart::{Chart, Line, Row, Span, push_picture};
 use market_core::Market;
 use market_types::{ArenaId, Cmd, Level, SeatNo};
 use std::alloc::Global;

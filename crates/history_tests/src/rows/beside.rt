@@ -2,15 +2,14 @@
 ghost use Rattle.std.specs.Prelude.{◌≡◌, ◌^◌, ◌<◌, ◌≤◌, Some, IfSome, IsTrue};
 ghost use Rattle.prefix_tree.specs.Rows.{IsAbsent, row_at};
 
+use super::looked::{promoted, pushed, updated};
 use crate::asserts::{holds, same};
-use crate::levels::Levels;
-use crate::looked::{promoted, pushed, updated};
-use crate::quads::Quad;
 use market_types::{ArenaId, Row};
 use prefix_tree::{Taken, Tree};
 use std::alloc::Global;
 use std::process::Abort;
 use std::rt::HostRuntime;
+use wide_rows::{Levels, Quad};
 
 /// Numbers that look random, the same ones each time.
 #[derive(Drop)]

@@ -4,10 +4,10 @@ ghost use Rattle.prefix_tree.specs.Rows.{row_at};
 ghost use Rattle.wide_rows.specs.Leveled.{rows_at};
 
 use crate::asserts::holds;
-use crate::levels::Levels;
 use market_types::Row;
 use std::alloc::Global;
 use std::process::Abort;
+use wide_rows::Levels;
 
 /// A stamp is newer than all of a level: than the first, or there is none.
 pub(crate) fn is_newest(levels: &Levels, level: usize, stamp: u32) -> bool

@@ -1,8 +1,8 @@
 use Rattle.std.proofs.Common.{◌∙◌, sym}
 use Rattle.std.proofs.lemmas.Bool.{ltb-true}
 use Rattle.prefix_tree.proofs.Ordered.{absent_above}
-use Rattle.wide_rows.proofs.Seen.{first-older}
-use Rattle.wide_rows.proofs.beside.is_new.Goals as goal
+use Rattle.history_tests.proofs.Seen.{first-older}
+use Rattle.history_tests.proofs.rows.beside.is_new.Goals as goal
 
 pub returns : goal.returns
 returns c older =

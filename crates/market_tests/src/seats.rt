@@ -1,8 +1,9 @@
 //! Each call of a seat once, with ample memory, and what it can't ask.
 ghost use Rattle.std.specs.Prelude.{◌≡◌};
 
-use crate::{Answer, Asked, Cutting, Kept, Seat, Unclosed, Unmerged, WhyNot};
+use crate::asserts::holds;
 use edit_history::{Keeping, Terms};
+use market_seat::{Answer, Asked, Cutting, Kept, Seat, Unclosed, Unmerged, WhyNot};
 use market_types::{ArenaId, Cmd, LastNumber, Level, Opening};
 use std::alloc::Global;
 use std::process::Abort;
@@ -19,11 +20,6 @@ const TERMS: Terms = Terms {
     places: 100,
     keeping: Keeping::Everything,
 };
-
-/// Ends the test where this is not a fact.
-fn holds(rt: &impl Abort, fact: bool) {
-    assert!(rt; fact);
-}
 
 /// The seat makes this call at once.
 fn call(rt: &impl Abort, alloc: Global, seat: &mut Seat, cmd: Cmd)

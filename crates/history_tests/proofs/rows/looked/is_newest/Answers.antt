@@ -3,8 +3,8 @@ use Rattle.std.proofs.lemmas.Bool.{ltb-true}
 use Rattle.std.proofs.lemmas.List.Elements.{All-get_or}
 use Rattle.prefix_tree.specs.Rows.{IsNewestFirst}
 use Rattle.wide_rows.specs.Leveled.{rows_at}
-use Rattle.wide_rows.proofs.Seen.{first-older}
-use Rattle.wide_rows.proofs.looked.is_newest.Goals as goal
+use Rattle.history_tests.proofs.Seen.{first-older}
+use Rattle.history_tests.proofs.rows.looked.is_newest.Goals as goal
 
 pub returns : goal.returns
 returns c older =

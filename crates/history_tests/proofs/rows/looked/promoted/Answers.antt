@@ -1,7 +1,7 @@
 use Rattle.std.proofs.Common.{◌<◌, arith}
 use Rattle.market_types.specs.declared.row.Row.{Row}
-use Rattle.wide_rows.proofs.Seen.{all-without}
-use Rattle.wide_rows.proofs.looked.promoted.Goals as goal
+use Rattle.history_tests.proofs.Seen.{all-without}
+use Rattle.history_tests.proofs.rows.looked.promoted.Goals as goal
 
 pub promote-requires-clause-newest : goal.promote-requires-clause-newest
 promote-requires-clause-newest g c =

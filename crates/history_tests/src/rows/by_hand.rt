@@ -1,13 +1,13 @@
 //! What no clause says: that the calls succeed where memory is ample, and values worked out by the rule.
 ghost use Rattle.std.specs.Prelude.{◌≡◌, ◌<◌};
 
+use super::looked::{promoted, pushed, updated};
 use crate::asserts::{holds, same};
-use crate::levels::Levels;
-use crate::looked::{promoted, pushed, updated};
 use market_types::{ArenaId, Row};
 use std::alloc::Global;
 use std::process::Abort;
 use std::rt::HostRuntime;
+use wide_rows::Levels;
 
 /// The row of an arena with the number of its stamp.
 fn row(stamp: u32, request: u32, mandated: bool) -> Row

@@ -1,8 +1,9 @@
 //! Tests that a journal is handed out by pieces of any size, each byte once and in order, with ample memory.
 
-use crate::Unread;
+use crate::asserts::holds;
 use edit_history::Part;
 use journal_replay::{Extent, Header};
+use journal_text::Unread;
 use market_types::{ArenaId, Call, Cmd, Entry, Level, Opening, Reply, SeatNo};
 use std::alloc::Global;
 use std::process::Abort;
@@ -19,11 +20,6 @@ fn header() -> Header {
 /// The journal of an Open by one seat, and of a Join by another.
 const TEXT: &[u8] =
     b"{\"base\":8,\"hard\":64,\"journal\":3,\"last\":1048576,\"levels\":3,\"seats\":2}\n{\"cmd\":\"open 8 1 normal\",\"reply\":\"arena 1\",\"seat\":0}\n{\"cmd\":\"join\",\"reply\":\"idle\",\"seat\":1}\n";
-
-/// Ends the test where this is not a fact.
-fn holds(rt: &impl Abort, fact: bool) {
-    assert!(rt; fact);
-}
 
 /// A part of one entry, behind so many others.
 fn part_of(
