@@ -2,3 +2,4 @@ pub mod Apart
 pub mod Rest
 pub mod Alike
 pub mod Alone
+pub mod Vain

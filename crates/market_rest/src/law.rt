@@ -1,12 +1,14 @@
 //! What a market at rest is, and what hangs on one arena alone. These functions do nothing: what they ensure holds wherever they are
 //! called.
-ghost use Rattle.std.specs.Prelude.{◌≡◌, ◌<◌, ℕ, List, None, All};
+ghost use Rattle.std.specs.Prelude.{◌≡◌, ◌<◌, ◌++◌, ◌∷◌, [], ℕ, List, None, All, true};
 ghost use Rattle.market_types.specs.declared.command.Call.{Call};
 ghost use Rattle.market_types.specs.State.{State, opening_to};
 ghost use Rattle.market_types.specs.Allotment.{active, allotment_of, limit_of, mandatory_pick, need, total_request};
-ghost use Rattle.market_types.specs.History.{state_after};
+ghost use Rattle.market_types.specs.declared.reply.Entry.{Entry};
+ghost use Rattle.market_types.specs.History.{IsLegal, calls_of, state_after};
 ghost use Rattle.market_types.specs.Reading.{Fits};
 ghost use Rattle.market_rest.specs.Alike.{AreAlike, IsPlain, concerning};
+ghost use Rattle.market_rest.specs.Vain.{joined_last};
 
 use allotment::bound_is_given_out;
 
@@ -39,3 +41,13 @@ pub fn a_market_at_rest_serves_no_arena_alone()
     a_market_at_rest_asks_for_nothing();
     an_arena_asks_for_what_was_asked_at_it();
 }
+
+/// After a history from an opening: where each seat called nothing, or last a Join that was answered 'idle', nobody is placed; and where who called
+/// last of all did, none is in need. So all that others called was called before: no seat has to know when the others did.
+pub fn a_market_that_all_joined_in_vain_is_at_rest()
+    ensures free { (base hard seats levels last : ℕ) (history : List Entry) → IsLegal (opening_to base hard seats levels last) history
+        → ((seat : ℕ) → joined_last seat history ≡ true)
+        → (n : ℕ) → active (state_after (opening_to base hard seats levels last) (calls_of history)) n ≡ 0 }
+    ensures none { (start : State) (history : List Entry) (e : Entry) → IsLegal start (history ++ e ∷ []) → joined_last e.call.seat (history ++ e ∷ []) ≡ true
+        → need (state_after start (calls_of (history ++ e ∷ []))) ≡ None }
+{}

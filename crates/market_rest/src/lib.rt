@@ -6,5 +6,5 @@ mod law;
 
 pub use law::{
     a_market_at_rest_asks_for_nothing, a_market_at_rest_serves_no_arena_alone,
-    an_arena_asks_for_what_was_asked_at_it,
+    a_market_that_all_joined_in_vain_is_at_rest, an_arena_asks_for_what_was_asked_at_it,
 };
