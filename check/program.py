@@ -166,7 +166,8 @@ def refuses_words(program):
     bad = [[], ["fly"], ["run", "--base", "0"], ["run", "--seats", "65"], ["run", "--levels", "9"], ["run", "--hard", "x"], ["replay", "x"],
            ["run", "--last", "0"], ["explain", "--last", "4294967295"], ["run", "--journal", "--last", "0"],
            ["drive", "--workers", "0"], ["drive", "--workers", "17"], ["drive", "--workers"], ["run", b"\xff"], ["chart", "--width", "0"],
-           ["chart", "--width", "1793"], ["chart", "--arena", "0"], ["chart", "--from", "0"], ["chart", "--to", "x"]]
+           ["chart", "--width", "1793"], ["chart", "--arena", "0"], ["chart", "--from", "0"], ["chart", "--to", "x"],
+           ["chart", "--from", "3", "--to", "2"]]
     for words in bad:
         found = ran([program, *words], SCRIPT)
         due(f"{words} is refused with a text", (found.returncode, found.stdout, found.stderr != b""), (2, b"", True))

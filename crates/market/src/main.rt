@@ -84,12 +84,25 @@ fn replay(rt: &HostRuntime, options: ReplayOptions) -> u8 {
     finish(rt, outcome, status)
 }
 
-/// Draws the journal on standard input, and tells the verdict of one that is not legal.
+/// Tells that the first entry to be drawn comes after the last.
+fn refuse_range(rt: &HostRuntime, from: u32, to: u32) -> u8 {
+    // Where standard error takes nothing, the status tells it alone.
+    let _ = eprintln!(rt;
+        "error: '--from {from}' is above '--to {to}'\n\nFor more information, try '--help'."
+    );
+    BAD_COMMAND_LINE
+}
+
+/// Draws the journal on standard input, and tells the verdict of one that is not legal. Where no entry can lie between the two that are
+/// named, it is not read.
 fn chart(rt: &HostRuntime, options: &ChartOptions) -> u8
     requires width { 1 ≤ options.now.width }
     requires from { 1 ≤ options.now.from }
     requires few { length options.now.arenas.items ≤ 16 }
 {
+    if options.from > options.to {
+        return refuse_range(rt, options.from, options.to);
+    }
     let meter = meter_of(rt, "chart", options.progress);
     let mut input = MeteredSource::new(ReadSource::new(rt.stdin()), meter);
     let mut output = WriteSink::new(rt.stdout());

@@ -13,7 +13,6 @@ use Rattle.market_types.specs.Allotment.{active, is_just, need}
 use Rattle.market_types.specs.Step.{join_at, join_from, place_of, step}
 use Rattle.market_types.specs.History.{IsLegal, calls_of, place_after, replies_to, state_after}
 use Rattle.market_core.proofs.Moved.{steps}
-use Rattle.edit_history.proofs.Longer.{state-longer}
 use Rattle.market_rest.specs.Vain.{is_idle, is_join, is_vain, joined_last}
 
 -- ---- one call
@@ -150,6 +149,10 @@ free base hard seats levels last history legal all n =
 fold-last : (f : Bool → Entry → Bool) (b : Bool) (xs : List Entry) (e : Entry) → fold f b (xs ++ e ∷ []) ≡ f (fold f b xs) e
 fold-last f b [] e = refl
 fold-last f b (x ∷ xs) e = fold-last f (f b x) xs e
+
+state-longer : (s : State) (xs : List Entry) (e : Entry) → state_after s (calls_of (xs ++ e ∷ [])) ≡ (step (state_after s (calls_of xs)) e.call.seat e.call.cmd).1
+state-longer s [] e = refl
+state-longer s (x ∷ xs) e = state-longer (step s x.call.seat x.call.cmd).1 xs e
 
 legal-last : (s : State) (xs : List Entry) (e : Entry) → IsLegal s (xs ++ e ∷ [])
     → e.reply ≡ (step (state_after s (calls_of xs)) e.call.seat e.call.cmd).0

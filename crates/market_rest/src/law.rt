@@ -42,8 +42,8 @@ pub fn a_market_at_rest_serves_no_arena_alone()
     an_arena_asks_for_what_was_asked_at_it();
 }
 
-/// After a history from an opening: where each seat called nothing, or last a Join that was answered 'idle', nobody is placed; and where who called
-/// last of all did, none is in need. So all that others called was called before: no seat has to know when the others did.
+/// After a history from an opening: where each seat called nothing, or last a Join that was answered 'idle', nobody is placed; and where
+/// who called last of all did, none is in need. All that others called was called before, and no seat has to know when.
 pub fn a_market_that_all_joined_in_vain_is_at_rest()
     ensures free { (base hard seats levels last : ℕ) (history : List Entry) → IsLegal (opening_to base hard seats levels last) history
         → ((seat : ℕ) → joined_last seat history ≡ true)
