@@ -1,7 +1,11 @@
 """Two threads share a market from Python, and every misuse is told. Run it with python3; it ends with 0 where all is right."""
+import copy
+import os
+import pathlib
 import threading
 
-from market import KEEP_ALL, KEEP_PARTS, Misuse, Seat
+os.environ.setdefault("MARKET_LIB", str(pathlib.Path(__file__).resolve().parents[2] / "build" / "libmarket.so"))
+from market import KEEP_ALL, KEEP_PARTS, Limits, Misuse, Seat, View  # noqa: E402: it loads the library of this name
 
 
 def told(name, call, *words):
@@ -9,13 +13,22 @@ def told(name, call, *words):
         call(*words)
     except Misuse as misuse:
         assert str(misuse) == name, (str(misuse), name)
-    else:
-        raise AssertionError("not told: " + name)
+        return misuse.code
+    raise AssertionError("not told: " + name)
+
+
+def refused(call, *words):
+    """Python finds by itself that these words are too few, too many, or of another type, before the library is asked."""
+    try:
+        call(*words)
+    except TypeError:
+        return
+    raise AssertionError("not refused")
 
 
 first = Seat.open(base=3, hard=8, seats=3)
-told("MARKET_BAD_BASE", lambda: Seat.open(base=0, hard=8, seats=3))
-told("MARKET_BAD_SEAT", Seat().join)
+assert told("MARKET_BAD_BASE", lambda: Seat.open(base=0, hard=8, seats=3)) == 31
+assert told("MARKET_BAD_SEAT", Seat().join) == -2
 seats = [first.split(), first.split()]
 told("MARKET_NO_SEAT_LEFT", first.split)
 arena = first.arena_open(8, 1, 1)
@@ -69,5 +82,47 @@ whole.merge(other)
 assert whole.close_into(journal) == 2
 told("MARKET_UNREAD", journal.close)
 assert [line[:8] for line in journal.read().splitlines()] == ['{"base":', '{"cmd":"', '{"cmd":"']
+journal.close()
+
+# Each other call once, with the numbers that it takes and writes; what is not of its type is refused; a journal of several pieces.
+one = Seat.open(base=4, hard=8, seats=2, places=2000, levels=2, last=4294967294, keeping=KEEP_PARTS)
+journal, worker = one.journal(), one.split()
+refused(one.arena_open, 8, 1)
+refused(one.merge, 5)
+refused(one.merge, journal)
+refused(one.cut, worker)
+refused(copy.copy, one)
+refused(copy.deepcopy, worker)
+assert len({one, worker, journal}) == 3
+high, low = one.arena_open(3, 1, 1), one.arena_open(3, 0, 2)
+assert (one.request(low, 3), one.request(high, 5), one.request(high, -3, 1)) == (3, 2, 2)
+assert one.show(low) == View(arena=low, request=3, allot=1, active=0, recall=0, hire=1, top=0), one.show(low)
+assert one.lists() == [(high, 0, 2), (low, 0, 1)], one.lists()
+assert worker.join() == high
+assert one.show(high) == View(arena=high, request=2, allot=2, active=1, recall=0, hire=1, top=1), one.show(high)
+assert one.resize(high, 2, 2) == 0
+assert (worker.stay(), worker.join(), worker.stay()) == (None, low, low)
+control = one.control(1)
+assert one.limit() == Limits(value=1, limit=0, effective=1), one.limit()
+assert one.lists() == [(low, 1, 0)], one.lists()
+one.uncontrol(control)
+told("MARKET_NO_CONTROL", one.uncontrol, control)
+assert one.resize(high, 3, 1) == 2
+one.priority(low, 1)
+assert one.show(low) == View(arena=low, request=3, allot=1, active=1, recall=0, hire=0, top=1), one.show(low)
+told("MARKET_ARENA_IN_USE", one.arena_close, low)
+assert worker.leave() == low
+one.arena_close(low)
+told("MARKET_NO_ARENA", one.show, low)
+assert told("MARKET_WANTED_RANGE", one.request, high, 2147483647) == 17
+for _ in range(1500):
+    one.limit()
+calls = one.cut(journal)
+text = journal.read()
+assert len(text) > 65536 and text.count("\n") == 1 + calls, (len(text), calls)
+one.limit()
+one.merge(worker)
+assert one.close_into(journal) == calls + 1
+assert journal.read().count("\n") == 1
 journal.close()
 print("a market from Python: all is right")
