@@ -1,6 +1,7 @@
 // The pool of examples/pool beside oneTBB, in one run. Two threads run nested loops, each in an arena of its own, of high and of low
-// priority, under a limit that stays and under one that changes; then how long it takes after a change of the limit until as many workers
-// are active as it allows; and what an idle pool takes of the processor. Build and run it so, on a quiet machine:
+// priority, under a limit that stays and under one that changes: how much of the work that the limit allows is done, and how much above it;
+// then how long it takes after a change of the limit until as many workers are active as it allows; and what an idle pool takes of the
+// processor. Build and run it so, on a quiet machine:
 //   c++ -std=c++17 -O2 -pthread -Iinclude -Iexamples/pool bench/pool.cpp build/libmarket.a -ltbb -o build/programs/bench_pool
 //   build/programs/bench_pool [SECONDS of each cell] [ROUNDS]
 #include "pool.hpp"
@@ -19,10 +20,10 @@ namespace {
 using clock_type = std::chrono::steady_clock;
 using std::chrono::duration;
 
-// ---- a body
+// ---- bodies
 
 // So many steps of a computation that can't be left out, nor be done faster by doing several at once.
-uint64_t compute(uint64_t steps) {
+__attribute__((noinline)) uint64_t compute(uint64_t steps) {
     uint64_t x = steps;
     for (uint64_t k = 0; k < steps; k++) {
         x = x * 6364136223846793005u + 1442695040888963407u;
@@ -31,16 +32,74 @@ uint64_t compute(uint64_t steps) {
     return x;
 }
 
-// How many steps take a microsecond here, by one thread.
+// How many steps take a microsecond here at most, by one thread.
 double steps_of_a_microsecond() {
     double most = 0;
-    for (int round = 0; round < 5; round++) {
-        const uint64_t steps = 20'000'000;
+    for (int round = 0; round < 1000; round++) {
+        const uint64_t steps = 200'000;
         const auto start = clock_type::now();
         compute(steps);
         most = std::max(most, steps / duration<double, std::micro>(clock_type::now() - start).count());
     }
     return most;
+}
+
+// What a loop runs: how many microseconds it takes by one thread, and how many threads can run it at a time.
+struct work {
+    std::function<void()> run;
+    double microseconds;
+    unsigned most;
+};
+
+// One that computes.
+work computing(double steps, unsigned microseconds) {
+    const unsigned processors = std::max(std::thread::hardware_concurrency(), 1u);
+    return {[of = uint64_t(steps * microseconds)] { compute(of); }, double(microseconds), processors};
+}
+
+// One that sleeps for about a millisecond, so that no thread waits for a processor.
+work sleeping() {
+    const auto sleep = [] { std::this_thread::sleep_for(std::chrono::milliseconds(1)); };
+    const auto start = clock_type::now();
+    for (int round = 0; round < 200; round++) sleep();
+    return {sleep, duration<double, std::micro>(clock_type::now() - start).count() / 200, 64};
+}
+
+// A thread that runs bodies: how many it has run, and whether it is in one. It has a line of the cache to itself.
+struct alignas(64) runner {
+    std::atomic<bool> taken{false}, runs{false};
+    std::atomic<uint64_t> bodies{0};
+};
+runner runners[64];
+
+// The runner that a thread is while it lives.
+struct own_runner {
+    own_runner() {
+        while (at->taken.exchange(true)) at++;
+    }
+    ~own_runner() { at->taken = false; }
+    runner *at = runners;
+};
+
+void run(const work &body) {
+    thread_local own_runner own;
+    own.at->runs.store(true, std::memory_order_relaxed);
+    body.run();
+    own.at->bodies.store(own.at->bodies.load(std::memory_order_relaxed) + 1, std::memory_order_relaxed);
+    own.at->runs.store(false, std::memory_order_relaxed);
+}
+
+// How many bodies were run, and how many threads are in one.
+uint64_t bodies_run() {
+    uint64_t sum = 0;
+    for (const runner &each : runners) sum += each.bodies;
+    return sum;
+}
+
+unsigned running() {
+    unsigned sum = 0;
+    for (const runner &each : runners) sum += each.runs;
+    return sum;
 }
 
 // ---- the two systems, each with so many threads beside the two callers less one, and two arenas
@@ -107,47 +166,49 @@ private:
 
 constexpr std::size_t OUTER = 16, INNER = 64;
 
-// How many bodies run at a time: their time by one thread, all together, over the time that they took; and how many workers are active
-// above the limit, on average.
+// What is seen of a cell, on average over its time: how many bodies run at a time, which is the time that they take by one thread, over
+// the time that went by; how many may run, by the two callers and by as many workers as the limit allows, where as many can; and how many
+// run above that.
 struct cell {
-    double bodies, above;
+    double bodies, allowed, above;
 };
 
-template <class System> cell throughput(unsigned threads, unsigned body, bool changing, double steps, double seconds) {
+template <class System> cell throughput(unsigned threads, const work &body, bool changing, double seconds) {
     System system(threads);
-    const uint64_t of_body = uint64_t(steps * body);
-    std::atomic<uint64_t> loops{0};
+    const unsigned half = std::max(threads / 2, 1u);
     std::atomic<bool> done{false};
-    uint64_t above = 0, looks = 0;
-    const auto look = [&](int limit) {
-        for (int k = 0; k < 5; k++) {
-            std::this_thread::sleep_for(std::chrono::milliseconds(1));
-            above += std::max(system.active() - limit, 0), looks++;
-        }
+    std::atomic<unsigned> workers{threads - 1};
+    const auto caller = [&](bool high) {
+        while (!done) system.run(high, OUTER, INNER, [&] { run(body); });
     };
-    std::thread changes([&] {
-        while (!done) {
-            look(int(threads) - 1);
-            const unsigned half = changing ? std::max(threads / 2, 1u) : threads;
-            if (changing) system.limit(half);
-            look(int(half) - 1);
-            if (changing) system.lift();
+    std::thread high([&] { caller(true); }), low([&] { caller(false); }), changes([&] {
+        while (changing && !done) {
+            system.limit(half);
+            workers = half - 1;
+            std::this_thread::sleep_for(std::chrono::milliseconds(5));
+            system.lift();
+            workers = threads - 1;
+            std::this_thread::sleep_for(std::chrono::milliseconds(5));
         }
     });
+    std::this_thread::sleep_for(std::chrono::milliseconds(20));
+
+    // What is seen at a look stands for the time since the one before.
+    double took = 0, allowed = 0, above = 0;
+    const uint64_t before = bodies_run();
     const auto start = clock_type::now();
-    const auto caller = [&](bool high) {
-        while (duration<double>(clock_type::now() - start).count() < seconds) {
-            system.run(high, OUTER, INNER, [&] { compute(of_body); });
-            loops++;
-        }
-    };
-    std::thread other([&] { caller(true); });
-    caller(false);
-    other.join();
-    const double took = duration<double, std::micro>(clock_type::now() - start).count();
+    while (took < seconds) {
+        std::this_thread::sleep_for(std::chrono::microseconds(250));
+        const unsigned may_run = std::min(2 + workers, body.most), runs = std::min(running(), body.most);
+        const double now = duration<double>(clock_type::now() - start).count();
+        allowed += may_run * (now - took);
+        above += (std::max(runs, may_run) - may_run) * (now - took);
+        took = now;
+    }
+    const double bodies = double(bodies_run() - before) * body.microseconds / (took * 1e6);
     done = true;
-    changes.join();
-    return {double(loops * OUTER * INNER) * body / took, double(above) / double(looks)};
+    high.join(), low.join(), changes.join();
+    return {bodies, allowed / took, above / took};
 }
 
 struct delays {
@@ -210,17 +271,24 @@ double quantile(std::vector<double> &of, double share) {
     return of[std::min(of.size() - 1, std::size_t(share * of.size()))];
 }
 
-void print_cell(unsigned threads, unsigned body, bool changing, double steps, double seconds, int rounds) {
-    std::vector<double> pool, tbb, pool_above, tbb_above;
+// The cell of the median round, by the bodies at a time.
+cell median(std::vector<cell> &of) {
+    std::sort(of.begin(), of.end(), [](const cell &one, const cell &other) { return one.bodies < other.bodies; });
+    return of[of.size() / 2];
+}
+
+void print_cell(unsigned threads, const work &body, bool changing, double seconds, int rounds) {
+    std::vector<cell> pool, tbb;
     for (int round = 0; round < rounds; round++) {
-        const cell ours = throughput<of_market>(threads, body, changing, steps, seconds);
-        const cell theirs = throughput<of_tbb>(threads, body, changing, steps, seconds);
-        pool.push_back(ours.bodies), tbb.push_back(theirs.bodies);
-        pool_above.push_back(ours.above), tbb_above.push_back(theirs.above);
+        pool.push_back(throughput<of_market>(threads, body, changing, seconds));
+        tbb.push_back(throughput<of_tbb>(threads, body, changing, seconds));
     }
-    const double ours = quantile(pool, 0.5), theirs = quantile(tbb, 0.5);
-    std::printf("%7u  %4u  %6.2f  %6.2f  %11.2f  %6.2f  %6.2f\n", threads, body, ours, theirs, ours / theirs, quantile(pool_above, 0.5),
-        quantile(tbb_above, 0.5));
+    const cell ours = median(pool), theirs = median(tbb);
+    std::printf("%7u  %4.0f  %6.2f  %6.2f  %5.2f  %7.2f", threads, body.microseconds, ours.bodies, theirs.bodies,
+        ours.bodies / theirs.bodies, ours.allowed);
+    for (const cell &each : {ours, theirs})
+        std::printf("  %6.2f  %5.2f  %6.2f", each.bodies / each.allowed, each.above, (each.bodies - each.above) / each.allowed);
+    std::printf("\n");
     std::fflush(stdout);
 }
 
@@ -239,12 +307,15 @@ int main(int count, char **words) {
     std::printf("%-7s %.2f\n", of_market::name, idle<of_market>(steps, 5));
     std::printf("%-7s %.2f\n", of_tbb::name, idle<of_tbb>(steps, 5));
 
+    const work bodies[] = {computing(steps, 1), computing(steps, 10), computing(steps, 100), sleeping()};
     for (bool changing : {false, true}) {
-        std::printf("\nbodies at a time under a limit that %s, the median of %d rounds, and workers above the limit on average\n",
+        std::printf("\nbodies at a time under a limit that %s, the median of %d rounds, and how many it allows; which share of that runs,\n"
+                    "how many run above it, and the share without these; the longest bodies sleep, all others compute\n\n"
+                    "                                              pool                  oneTBB\n"
+                    "threads  body    pool  oneTBB  ratio  allowed   share  above  within   share  above  within\n",
             changing ? "changes" : "stays", rounds);
-        std::printf("threads  body    pool  oneTBB  pool/oneTBB    pool  oneTBB\n");
         for (unsigned threads : {1u, 2u, 4u})
-            for (unsigned body : {1u, 10u, 100u}) print_cell(threads, body, changing, steps, seconds, rounds);
+            for (const work &each : bodies) print_cell(threads, each, changing, seconds, rounds);
     }
 
     std::printf("\nmicroseconds after a change of the limit until the workers are as many\n");
