@@ -2,3 +2,4 @@ pub mod Crossing
 mod Seats
 mod Fronts
 mod Alone
+mod Scripts

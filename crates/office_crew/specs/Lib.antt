@@ -3,3 +3,4 @@ pub mod Rooms
 pub mod Works
 pub mod Members
 pub mod Written
+pub mod Scripts
