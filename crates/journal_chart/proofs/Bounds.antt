@@ -1,78 +1,96 @@
--- An arena's allotment lies between two numbers that follow from what its level is given.
-use Rattle.std.specs.Prelude.{◌||◌}
-use Rattle.std.proofs.Common.{◌≡◌, ℕ, zero, suc, ◌+◌, ◌*◌, ◌/◌, ◌%◌, ◌<◌, ◌≤◌, Bool, true, false, cond, eqb, ltb, List, [], ◌∷◌, ◌++◌, None, Some, refl, sym, ap, ◌∙◌, subst, arith, inl, inr}
+-- An arena's allotment is a share of what its level is given, which may be told or covered.
+use Rattle.std.specs.Prelude.{◌&&◌, ◌||◌}
+use Rattle.std.proofs.Common.{◌≡◌, ℕ, zero, suc, ◌+◌, ◌*◌, ◌/◌, ◌%◌, ◌<◌, ◌≤◌, Bool, true, false, cond, eqb, leb, ltb, List, [], ◌∷◌, ◌++◌, None, Some, refl, sym, ap, ◌∙◌, subst, arith, inl, inr}
 use Rattle.std.specs.List.{flat_map, list_any, range_with_len, All}
 use Rattle.std.proofs.lemmas.Bool.{cases_Bool}
 use Rattle.std.proofs.lemmas.Bool.Decides.{nat_tests}
 use Rattle.std.proofs.lemmas.List.Elements.{All-cons, All-head, All-nil, All-tail}
 use Rattle.std.proofs.lemmas.List.Sums.{sum_by-cons}
-use Rattle.std.proofs.lemmas.Nat.{div-add-mod', div-mul-add, mod_below, div_below}
-use Rattle.std.proofs.Math.Nat.{lt-mul-div-succ, mul-le-mul_right}
+use Rattle.std.proofs.lemmas.Nat.{div-mul-add, mod_below, div_below, le-div}
 use Rattle.market_types.specs.State.{Arena, State}
 use Rattle.market_types.specs.Claims.{request_of}
 use Rattle.market_types.specs.Allotment.{all_to, allotment_of, assigned, at_level, bound_of, carried, carry_after, carry_past, count_at, demand, in_order, levels_of, limit_of, mandatory_pick, share_of, total_request}
 use Rattle.std.specs.Bool.{⊤}
 use Rattle.market_types.specs.Step.{arena_at}
-use Rattle.journal_chart.specs.Shares.{least_share, most_share}
+use Rattle.journal_chart.specs.declared.covered.Covered.{Covered}
+use Rattle.journal_chart.specs.Covering.{covers, exactly}
 
 -- ---- a share
 
--- a number between the least and the most that an arena may get
-pub record Between (request given asked number : ℕ) : Type 0 where
-  pub least : least_share request given asked ≤ number
-  pub most : number ≤ most_share request given asked
+-- this is what an arena is allotted that asks for so many workers of a level that is given so many of what it asks for, by some carry
+pub record IsShare (request given asked number : ℕ) : Type 0 where
+  pub carry : ℕ
+  pub less : 0 < request → carry < asked
+  pub is : number ≡ cond (eqb request 0) 0 ((request * given + carry) / asked)
 
--- the quotient with a carry is the quotient, or one more
-quotient-least : (n d c : ℕ) → 0 < d → n / d ≤ (n + c) / d
-quotient-least n d c some =
-    let past : n + c < d * ((n + c) / d + 1) = lt-mul-div-succ (n + c) some in
-    let whole : n / d * d + n % d ≡ n = div-add-mod' n d in
-    elim (cases_Bool (ltb ((n + c) / d) (n / d))) [
-      | inl above ↦
-          let more : (n + c) / d + 1 ≤ n / d = grind (arith, nat_tests) in
-          let product : ((n + c) / d + 1) * d ≤ n / d * d = mul-le-mul_right d more in
-          absurd (omega arith)
-      | inr within ↦ grind (arith, nat_tests)
-    ]
-
-quotient-most : (n d c : ℕ) → c < d → (n + c) / d ≤ n / d + 1
-quotient-most n d c less =
-    let whole : n / d * d + n % d ≡ n = div-add-mod' n d in
-    let rest : n % d < d = mod_below n d (omega arith) in
-    let inside : n + c < (n / d + 2) * d = omega arith in
-    let below : (n + c) / d < n / d + 2 = div_below (n + c) d (n / d + 2) (omega arith) inside in
-    omega arith
-
--- what the level is given is nothing, all, or a part of what it asks for
-share-part : (r g d c : ℕ) → (asks given all : Bool) → asks ≡ false → eqb g 0 ≡ given → eqb g d ≡ all → c < d
-    → (cond (asks || given) 0 (cond all r (r * g / d)) ≤ (r * g + c) / d) × ((r * g + c) / d ≤ cond (asks || given) 0 (cond all r (r * g / d + 1)))
-share-part r g d c true given all asks none same less = absurd (cc)
-share-part r g d c false true all asks none same less =
+-- a level that is given nothing leaves nothing but the carry
+nothing-given : (r g d c : ℕ) → eqb g 0 ≡ true → c < d → (r * g + c) / d ≡ 0
+nothing-given r g d c none less =
     let zero_ : g ≡ 0 = grind (arith, nat_tests) in
     let sum : r * g + c ≡ 0 * d + c = ap (λ k. r * k + c) zero_ ∙ omega arith in
-    let is : (r * g + c) / d ≡ 0 = ap (λ n. n / d) sum ∙ div-mul-add 0 d c less in
-    (omega (arith, is), omega (arith, is))
-share-part r g d c false false true asks none same less =
+    ap (λ n. n / d) sum ∙ div-mul-add 0 d c less
+
+-- one that is given all that it asks for gives each arena what it asks for
+all-given : (r g d c : ℕ) → eqb g d ≡ true → c < d → (r * g + c) / d ≡ r
+all-given r g d c same less =
     let whole : g ≡ d = grind (arith, nat_tests) in
-    let is : (r * g + c) / d ≡ r = ap (λ k. (r * k + c) / d) whole ∙ div-mul-add r d c less in
-    (omega (arith, is), omega (arith, is))
-share-part r g d c false false false asks none same less =
-    (quotient-least (r * g) d c (omega arith), quotient-most (r * g) d c less)
+    ap (λ k. (r * k + c) / d) whole ∙ div-mul-add r d c less
 
-share-some : (r g d c : ℕ) → eqb r 0 ≡ false → c < d → Between r g d ((r * g + c) / d)
-share-some r g d c asks less =
-    let h = share-part r g d c (eqb r 0) (eqb g 0) (eqb g d) asks refl refl less in
-    record { least = h.0; most = h.1 }
+asks-some : (r : ℕ) → eqb r 0 ≡ false → 0 < r
+asks-some r some = grind (arith, nat_tests)
 
-none-between : (r g d : ℕ) → eqb r 0 ≡ true → Between r g d 0
-none-between r g d none = record { least = rw none (omega arith); most = omega arith }
+pub both : (a b : Bool) → (a && b) ≡ true → (a ≡ true) × (b ≡ true)
+both true true h = (refl, refl)
+both true false h = absurd (cc)
+both false b h = absurd (cc)
 
-pub share-between : (r g d c : ℕ) → (0 < r → c < d) → Between r g d (cond (eqb r 0) 0 ((r * g + c) / d))
-share-between r g d c less =
-    elim (cases_Bool (eqb r 0)) [
-      | inl none ↦ rw none (none-between r g d none)
-      | inr some ↦ let any : 0 < r = grind (arith, nat_tests) in rw some (share-some r g d c some (less any))
-    ]
+-- covered numbers are those of the share
+covered-none : (from below n : ℕ) → n ≡ 0 → (eqb from 0 && ltb 0 below) ≡ true → (from ≤ n) × (n < below)
+covered-none from below n none h =
+    let g = both (eqb from 0) (ltb 0 below) h in
+    let zero_ : from ≡ 0 = let e = g.0 in grind (arith, nat_tests) in
+    let some : 0 < below = let e = g.1 in grind (arith, nat_tests) in
+    (omega (arith, none, zero_), omega (arith, none, some))
+
+covered-all : (from below r n : ℕ) → n ≡ r → (leb from r && ltb r below) ≡ true → (from ≤ n) × (n < below)
+covered-all from below r n whole h =
+    let g = both (leb from r) (ltb r below) h in
+    let low : from ≤ r = let e = g.0 in grind (arith, nat_tests) in
+    let high : r < below = let e = g.1 in grind (arith, nat_tests) in
+    (omega (arith, whole, low), omega (arith, whole, high))
+
+covered-part : (from below p d c n : ℕ) → c < d → n ≡ (p + c) / d → (leb (from * d) p && ltb (p + d) (below * d)) ≡ true → (from ≤ n) × (n < below)
+covered-part from below p d c n less is h =
+    let g = both (leb (from * d) p) (ltb (p + d) (below * d)) h in
+    let low : from * d ≤ p = let e = g.0 in grind (arith, nat_tests) in
+    let high : p + d < below * d = let e = g.1 in grind (arith, nat_tests) in
+    let some : 0 < d = omega (arith, less) in
+    let least : from ≤ (p + c) / d = le-div from (p + c) d some (omega (arith, low)) in
+    let most : (p + c) / d < below = div_below (p + c) d below some (omega (arith, high, less)) in
+    (omega (arith, is, least), omega (arith, is, most))
+
+covered-share-if : (from below r g d c n : ℕ) (asks given all : Bool) → eqb r 0 ≡ asks → eqb g 0 ≡ given → eqb g d ≡ all → (0 < r → c < d)
+    → n ≡ cond asks 0 ((r * g + c) / d)
+    → cond (asks || given) (eqb from 0 && ltb 0 below) (cond all (leb from r && ltb r below) (leb (from * d) (r * g) && ltb (r * g + d) (below * d))) ≡ true
+    → (from ≤ n) × (n < below)
+covered-share-if from below r g d c n true given all none e same less is h = covered-none from below n is h
+covered-share-if from below r g d c n false true all some e same less is h = covered-none from below n (is ∙ nothing-given r g d c e (less (asks-some r some))) h
+covered-share-if from below r g d c n false false true some e same less is h = covered-all from below r n (is ∙ all-given r g d c same (less (asks-some r some))) h
+covered-share-if from below r g d c n false false false some e same less is h = covered-part from below (r * g) d c n (less (asks-some r some)) is h
+
+pub covered-share : (k : Covered) (r g d n : ℕ) → IsShare r g d n → covers k r g d ≡ true → (k.from ≤ n) × (n < k.below)
+covered-share k r g d n share h = covered-share-if k.from k.below r g d share.carry n (eqb r 0) (eqb g 0) (eqb g d) refl refl refl share.less share.is h
+
+-- where the numbers alone tell the share
+exact-share-if : (r g d c n v : ℕ) (asks given all : Bool) → eqb r 0 ≡ asks → eqb g 0 ≡ given → eqb g d ≡ all → (0 < r → c < d) → n ≡ cond asks 0 ((r * g + c) / d)
+    → cond (asks || given) (Some 0) (cond all (Some r) None) ≡ Some v → n ≡ v
+exact-share-if r g d c n v true given all none e same less is h = let zero_ : 0 ≡ v = cc in is ∙ zero_
+exact-share-if r g d c n v false true all some e same less is h = let zero_ : 0 ≡ v = cc in is ∙ nothing-given r g d c e (less (asks-some r some)) ∙ zero_
+exact-share-if r g d c n v false false true some e same less is h = let whole : r ≡ v = cc in is ∙ all-given r g d c same (less (asks-some r some)) ∙ whole
+exact-share-if r g d c n v false false false some e same less is h = absurd (cc)
+
+pub exact-share : (r g d n v : ℕ) → IsShare r g d n → exactly r g d ≡ Some v → n ≡ v
+exact-share r g d n v share h = exact-share-if r g d share.carry n v (eqb r 0) (eqb g 0) (eqb g d) refl refl refl share.less share.is h
 
 -- ---- arenas in order
 
@@ -125,12 +143,12 @@ carry-on K D level c x is h =
 -- ---- arenas of one level
 
 -- all of these are at this level
-abbrev At : ℕ → List Arena → Type 0
+abbrev pub At : ℕ → List Arena → Type 0
 At level xs = All (λ (a : Arena). a.level ≡ level) xs
 
--- a level whose demand holds each request has the share of each arena between the two
+-- a level whose demand holds each request gives each arena a share
 in-level : (n : ℕ) (K D : ℕ → ℕ) (level c : ℕ) (xs : List Arena) (row : Arena) → At level xs → Carry D level c → (0 < request_of row.claim → 0 < D level)
-    → Finds n xs row → Between (request_of row.claim) (K level) (D level) (count_at n (carried K D c xs))
+    → Finds n xs row → IsShare (request_of row.claim) (K level) (D level) (count_at n (carried K D c xs))
 in-level n K D level c [] row at carry some found = absurd (cc)
 in-level n K D level c (x ∷ xs) row at carry some found =
     let P : Arena → Type 0 = λ (a : Arena). a.level ≡ level in
@@ -139,12 +157,25 @@ in-level n K D level c (x ∷ xs) row at carry some found =
       | inl here ↦
           let which : Some x ≡ Some row = rw here at found in
           let same : row ≡ x = cc in
-          rw here (subst (λ l. Between (request_of row.claim) (K level) (D level) (share_of K D c l)) same
-          (subst (λ l. Between (request_of row.claim) (K level) (D level) (cond (eqb (request_of row.claim) 0) 0 ((request_of row.claim * K l + c) / D l))) (sym (ap (λ (a : Arena). a.level) same ∙ is))
-          (share-between (request_of row.claim) (K level) (D level) c (λ any. carry (some any)))))
+          rw here (subst (λ l. IsShare (request_of row.claim) (K level) (D level) (share_of K D c l)) same
+          (subst (λ l. IsShare (request_of row.claim) (K level) (D level) (cond (eqb (request_of row.claim) 0) 0 ((request_of row.claim * K l + c) / D l))) (sym (ap (λ (a : Arena). a.level) same ∙ is))
+          (record { carry = c; less = λ any. carry (some any); is = refl })))
       | inr not ↦
           rw not (in-level n K D level (carry_past K D c x) xs row (All-tail P x xs at) (carry-on K D level c x is carry) some (rw not at found))
     ]
+
+-- what an arena of a level has, by what the level is given and asks for alone
+pub same-carried : (n : ℕ) (K D K' D' : ℕ → ℕ) (level c : ℕ) (xs : List Arena) → At level xs → K level ≡ K' level → D level ≡ D' level
+    → count_at n (carried K D c xs) ≡ count_at n (carried K' D' c xs)
+same-carried n K D K' D' level c [] at given asked = refl
+same-carried n K D K' D' level c (x ∷ xs) at given asked =
+    let P : Arena → Type 0 = λ (a : Arena). a.level ≡ level in
+    let is : x.level ≡ level = All-head P x xs at in
+    let k : K x.level ≡ K' x.level = ap K is ∙ given ∙ sym (ap K' is) in
+    let d : D x.level ≡ D' x.level = ap D is ∙ asked ∙ sym (ap D' is) in
+    let r : ℕ = request_of x.claim in
+    (λ i. cond (eqb x.number n) (cond (eqb r 0) 0 ((r * k i + c) / d i)) (count_at n (carried K D (cond (eqb r 0) c ((r * k i + c) % d i)) xs)))
+    ∙ ap (cond (eqb x.number n) (share_of K' D' c x)) (same-carried n K D K' D' level (carry_past K' D' c x) xs (All-tail P x xs at) given asked)
 
 -- ---- all levels
 
@@ -199,7 +230,7 @@ missing-other n k (x ∷ xs) row once found other =
           ]
     ]
 
-at-level : (k : ℕ) (xs : List Arena) → At k (at_level k xs)
+pub at-level : (k : ℕ) (xs : List Arena) → At k (at_level k xs)
 at-level k [] = All-nil (λ (a : Arena). a.level ≡ k)
 at-level k (x ∷ xs) =
     elim (cases_Bool (eqb x.level k)) [
@@ -228,25 +259,23 @@ abbrev pub Whole : Type 0
 Whole = (s : State) (given : ℕ → ℕ) (level : ℕ) → carry_after given (demand s) 0 (at_level level s.arenas) ≡ 0
 
 in-levels : (whole : Whole) (n : ℕ) (s : State) (row : Arena) (levels : List ℕ) → Once s.arenas → Finds n s.arenas row → list_any (λ level. eqb level row.level) levels ≡ true
-    → Between (request_of row.claim) (assigned s row.level) (demand s row.level) (count_at n (carried (assigned s) (demand s) 0 (flat_map (λ level. at_level level s.arenas) levels)))
+    → count_at n (carried (assigned s) (demand s) 0 (flat_map (λ level. at_level level s.arenas) levels)) ≡ count_at n (carried (assigned s) (demand s) 0 (at_level row.level s.arenas))
 in-levels whole n s row [] once found there = absurd (cc)
 in-levels whole n s row (k ∷ ks) once found there =
     let f : ℕ → List Arena = λ level. at_level level s.arenas in
     let K : ℕ → ℕ = assigned s in
     let D : ℕ → ℕ = demand s in
-    let P : ℕ → Type 0 = Between (request_of row.claim) (K row.level) (D row.level) in
     elim (cases_Bool (eqb k row.level)) [
       | inl own ↦
           let is : row.level ≡ k = grind (arith, nat_tests) in
           let here : Finds n (f k) row = subst (λ l. Finds n (f l) row) is (found-own n s.arenas row found) in
-          let asks : 0 < request_of row.claim → 0 < D row.level = λ any. omega (arith, within-total n (f row.level) row (found-own n s.arenas row found), any) in
-          subst P (sym (count-front n K D 0 (f k) (flat_map f ks) row here))
-          (in-level n K D row.level 0 (f k) row (subst (λ l. At l (f k)) (sym is) (at-level k s.arenas)) (λ any. any) asks here)
+          count-front n K D 0 (f k) (flat_map f ks) row here ∙ ap (λ l. count_at n (carried K D 0 (f l))) (sym is)
       | inr other ↦
           let none : Missing n (f k) = missing-other n k s.arenas row once found other in
           let later : list_any (λ level. eqb level row.level) ks ≡ true = rw other at there in
-          subst P (sym (count-past n K D 0 (f k) (flat_map f ks) none ∙ ap (λ c. count_at n (carried K D c (flat_map f ks))) (whole s K k)))
-          (in-levels whole n s row ks once found later)
+          count-past n K D 0 (f k) (flat_map f ks) none
+          ∙ ap (λ c. count_at n (carried K D c (flat_map f ks))) (whole s K k)
+          ∙ in-levels whole n s row ks once found later
     ]
 
 in-range : (level from n : ℕ) → from ≤ level → level < from + n → list_any (λ k. eqb k level) (range_with_len from n) ≡ true
@@ -263,11 +292,19 @@ cond-yes : (b : Bool) (x y : ℕ) → b ≡ true → cond b x y ≡ x
 cond-yes true x y e = refl
 cond-yes false x y e = absurd (cc)
 
-pub allotment-between : (whole : Whole) (n : ℕ) (s : State) (row : Arena) → Once s.arenas → 0 < limit_of s → Finds n s.arenas row → 1 ≤ row.level → row.level ≤ s.levels
-    → Between (request_of row.claim) (assigned s row.level) (demand s row.level) (allotment_of s n)
-allotment-between whole n s row once some found low high =
+-- where some worker may be active, an arena has its share of what its level is given
+pub allotment-level : (whole : Whole) (n : ℕ) (s : State) (row : Arena) → Once s.arenas → 0 < limit_of s → Finds n s.arenas row → 1 ≤ row.level → row.level ≤ s.levels
+    → allotment_of s n ≡ count_at n (carried (assigned s) (demand s) 0 (at_level row.level s.arenas))
+allotment-level whole n s row once some found low high =
     let there = in-range row.level 1 s.levels low (omega arith) in
     let any : ltb 0 (limit_of s) ≡ true = grind (arith, nat_tests) in
-    subst (Between (request_of row.claim) (assigned s row.level) (demand s row.level))
-    (sym (cond-yes (ltb 0 (limit_of s)) (count_at n (carried (assigned s) (demand s) 0 (in_order s))) (all_to (mandatory_pick s) (bound_of s) n) any))
-    (in-levels whole n s row (levels_of s) once found there)
+    cond-yes (ltb 0 (limit_of s)) (count_at n (carried (assigned s) (demand s) 0 (in_order s))) (all_to (mandatory_pick s) (bound_of s) n) any
+    ∙ in-levels whole n s row (levels_of s) once found there
+
+pub allotment-share : (whole : Whole) (n : ℕ) (s : State) (row : Arena) → Once s.arenas → 0 < limit_of s → Finds n s.arenas row → 1 ≤ row.level → row.level ≤ s.levels
+    → IsShare (request_of row.claim) (assigned s row.level) (demand s row.level) (allotment_of s n)
+allotment-share whole n s row once some found low high =
+    let own : Finds n (at_level row.level s.arenas) row = found-own n s.arenas row found in
+    let asks : 0 < request_of row.claim → 0 < demand s row.level = λ any. omega (arith, within-total n (at_level row.level s.arenas) row own, any) in
+    subst (IsShare (request_of row.claim) (assigned s row.level) (demand s row.level)) (sym (allotment-level whole n s row once some found low high))
+    (in-level n (assigned s) (demand s) row.level 0 (at_level row.level s.arenas) row (at-level row.level s.arenas) (λ any. any) asks own)

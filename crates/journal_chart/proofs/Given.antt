@@ -8,7 +8,6 @@ use Rattle.std.proofs.lemmas.List.Sums.{sum_by-cons}
 use Rattle.market_types.specs.State.{Arena, State}
 use Rattle.market_types.specs.Claims.{request_of}
 use Rattle.market_types.specs.Allotment.{assigned, assigned_to, at_level, bound_of, demand, effective_limit_of, levels_of, total_request}
-use Rattle.allotment.specs.Levels.{AreDemandsOf}
 
 -- ---- what is left over counts for nothing
 
@@ -90,15 +89,12 @@ range-length : (f : ℕ → ℕ) (from n : ℕ) → length (map f (range_with_le
 range-length f from zero = refl
 range-length f from (suc n) = ap (λ k. suc k) (range-length f (from + 1) n)
 
-pub given-is : (s : State) (demands : List ℕ) (level : ℕ) → AreDemandsOf s demands → s.levels ≤ length demands → 1 ≤ level → level ≤ s.levels
+pub given-is : (s : State) (demands : List ℕ) (level : ℕ) → ((j : ℕ) → j < level → slice_index demands j ≡ demand s (1 + j)) → level ≤ length demands → 1 ≤ level → level ≤ s.levels
     → slice_index (assigned_to demands (effective_limit_of s)) (level - 1) ≡ assigned s level
 given-is s demands level are long low high =
     let ds : List ℕ = map (demand s) (levels_of s) in
     let count : length ds ≡ s.levels = range-length (demand s) 1 s.levels in
     given-same demands ds (effective_limit_of s) (level - 1)
-    (λ j less.
-    let next : suc j ≡ 1 + j = omega arith in
-    let place : suc j - 1 ≡ j = omega arith in
-    ap (slice_index demands) (sym place) ∙ are.levels (suc j) (omega arith) (omega (arith, less, low, high)) ∙ ap (demand s) next ∙ sym (at-range (demand s) 1 s.levels j (omega (arith, less, low, high))))
-    (omega (arith, long, low, high)) (omega (arith, count, low, high))
+    (λ j less. are j (omega (arith, less, low)) ∙ sym (at-range (demand s) 1 s.levels j (omega (arith, less, low, high))))
+    (omega (arith, long, low)) (omega (arith, count, low, high))
     ∙ ap (λ gs. slice_index gs (level - 1)) (sym (given-by-limit s))

@@ -1,7 +1,7 @@
--- What a step leaves of a market: all arenas but the one that it is about, and that each number stands once.
+-- What a step leaves of a market: all arenas but the one that it is about, that each number stands once, and what levels give.
 use Rattle.std.specs.Prelude.{◌==◌, ◌||◌, nat_le, nat_lt, slice_get, slice_set, unwrap_or}
 use Rattle.std.specs.List.{All, count_by, filter, list_any}
-use Rattle.std.proofs.Common.{◌≡◌, ℕ, zero, suc, ◌+◌, ◌<◌, ◌≤◌, Bool, true, false, cond, eqb, not, List, [], ◌∷◌, ◌++◌, length, Option, Some, None, Result, Ok, Err, ℤ, refl, sym, ap, ◌∙◌, subst, arith, inl, inr}
+use Rattle.std.proofs.Common.{◌≡◌, ℕ, zero, suc, ◌+◌, ◌*◌, ◌/◌, ◌%◌, ◌<◌, ◌≤◌, Bool, true, false, true≢false, cond, eqb, not, List, [], ◌∷◌, ◌++◌, length, Option, Some, None, Result, Ok, Err, ℤ, refl, sym, ap, ◌∙◌, subst, arith, inl, inr}
 use Rattle.std.proofs.lemmas.Bool.{cases_Bool}
 use Rattle.std.proofs.lemmas.Bool.Decides.{nat_tests}
 use Rattle.std.proofs.lemmas.List.Elements.{All-cons, All-head, All-nil, All-tail}
@@ -12,11 +12,11 @@ use Rattle.market_types.specs.declared.reply.Fault.{Fault}
 use Rattle.market_types.specs.declared.reply.Fault.TheVariants.{BadLevel, TooManyArenas, OutOfNumbers, Busy, BadValue, TooManyControls, NoControl}
 use Rattle.market_types.specs.declared.reply.Reply.{Reply}
 use Rattle.market_types.specs.declared.reply.Reply.TheVariants.{Controlled, Uncontrolled, Recalled, Stays, Left}
-use Rattle.market_types.specs.Claims.{new_claim, with_slots, added_claim}
+use Rattle.market_types.specs.Claims.{new_claim, with_slots, added_claim, request_of}
 use Rattle.market_types.specs.State.{Claim, Arena, Control as Living, State}
-use Rattle.market_types.specs.Allotment.{active, is_just, need, recall}
+use Rattle.market_types.specs.Allotment.{active, at_level, carried, carry_past, count_at, is_just, need, recall, share_of, total_request}
 use Rattle.market_types.specs.Step.{Outcome, arena_at, close_step, control_step, if_arena, if_claim, join_at, join_from, leave_from, moved, open_step, opened, place_of, priority_step, refuse, request_step, resize_step, show_step, stay_from, step, uncontrol_step, with_claim, with_place, without}
-use Rattle.journal_chart.specs.Steps.{subject}
+use Rattle.journal_chart.specs.Steps.{keeps_order, subject}
 use Rattle.journal_chart.proofs.Bounds.{Missing, Once}
 
 -- ---- lists of arenas
@@ -156,6 +156,94 @@ found-number b (y ∷ ys) x found =
       | inr not ↦ found-number b ys x (rw not at found)
     ]
 
+-- ---- what is left of a level that asks for what it did
+
+-- each level that asks for what it did gives an arena what it gave it, if it is given the same
+abbrev pub Steady : ℕ → List Arena → List Arena → Type 0
+Steady a xs ys =
+    (K D : ℕ → ℕ) (level c : ℕ) → total_request (at_level level ys) ≡ total_request (at_level level xs)
+    → count_at a (carried K D c (at_level level ys)) ≡ count_at a (carried K D c (at_level level xs))
+
+steady-self : (a : ℕ) (xs : List Arena) → Steady a xs xs
+steady-self a xs K D level c same = refl
+
+turned : (a : ℕ) (xs ys : List Arena) → Steady a xs ys → Steady a ys xs
+turned a xs ys steady K D level c same = sym (steady K D level c (sym same))
+
+-- what the arenas of a list ask for
+asks-cons : (x : Arena) (xs : List Arena) → total_request (x ∷ xs) ≡ request_of x.claim + total_request xs
+asks-cons x xs = sum_by-cons (λ (a : Arena). request_of a.claim) x xs
+
+-- the first arena is the same
+steady-cons : (a : ℕ) (x : Arena) (xs ys : List Arena) → Steady a xs ys → Steady a (x ∷ xs) (x ∷ ys)
+steady-cons a x xs ys steady K D level c same =
+    elim (cases_Bool (eqb x.level level)) [
+      | inl own ↦
+          let all : total_request (x ∷ at_level level ys) ≡ total_request (x ∷ at_level level xs) = rw own at same in
+          let rest : total_request (at_level level ys) ≡ total_request (at_level level xs) = omega (arith, all, asks-cons x (at_level level ys), asks-cons x (at_level level xs)) in
+          rw own (ap (cond (eqb x.number a) (share_of K D c x)) (steady K D level (carry_past K D c x) rest))
+      | inr other ↦ rw other (steady K D level c (rw other at same))
+    ]
+
+-- the first arena has another claim
+steady-claim : (a : ℕ) (x : Arena) (claim : Claim) (xs : List Arena) → Steady a (x ∷ xs) (record x { claim = claim } ∷ xs)
+steady-claim a x claim xs K D level c same =
+    elim (cases_Bool (eqb x.level level)) [
+      | inl own ↦
+          let y : Arena = record x { claim = claim } in
+          let rest : List Arena = at_level level xs in
+          let all : total_request (y ∷ rest) ≡ total_request (x ∷ rest) = rw own at same in
+          let asks : request_of claim ≡ request_of x.claim = omega (arith, all, asks-cons y rest, asks-cons x rest) in
+          rw own (λ i.
+          cond (eqb x.number a) (cond (eqb (asks i) 0) 0 ((asks i * K x.level + c) / D x.level))
+          (count_at a (carried K D (cond (eqb (asks i) 0) c ((asks i * K x.level + c) % D x.level)) rest)))
+      | inr other ↦ rw other refl
+    ]
+
+-- another arena comes first
+steady-other : (a : ℕ) (x : Arena) (xs : List Arena) → eqb x.number a ≡ false → Steady a xs (x ∷ xs)
+steady-other a x xs apart K D level c same =
+    elim (cases_Bool (eqb x.level level)) [
+      | inl own ↦
+          let rest : List Arena = at_level level xs in
+          let all : total_request (x ∷ rest) ≡ total_request rest = rw own at same in
+          let zero_ : request_of x.claim ≡ 0 = omega (arith, all, asks-cons x rest) in
+          let none : eqb (request_of x.claim) 0 ≡ true = grind (arith, nat_tests) in
+          rw own (rw (apart, none) refl)
+      | inr other ↦ rw other refl
+    ]
+
+claim-absent : (b : ℕ) (claim : Claim) (xs : List Arena) → Missing b xs → with_claim b claim xs ≡ xs
+claim-absent b claim [] none = refl
+claim-absent b claim (x ∷ xs) none = let h = missing-tail b x xs none in rw h.0 (ap (λ ys. x ∷ ys) (claim-absent b claim xs h.1))
+
+without-absent : (b : ℕ) (xs : List Arena) → Missing b xs → without b xs ≡ xs
+without-absent b [] none = refl
+without-absent b (x ∷ xs) none = let h = missing-tail b x xs none in rw h.0 (ap (λ ys. x ∷ ys) (without-absent b xs h.1))
+
+claim-steady : (a b : ℕ) (claim : Claim) (xs : List Arena) → Once xs → Steady a xs (with_claim b claim xs)
+claim-steady a b claim [] once = steady-self a []
+claim-steady a b claim (x ∷ xs) once =
+    elim (cases_Bool (eqb x.number b)) [
+      | inl here ↦
+          let is : x.number ≡ b = grind (arith, nat_tests) in
+          let absent : Missing b xs = subst (λ n. Missing n xs) is once.0 in
+          rw here (subst (λ ys. Steady a (x ∷ xs) (record x { claim = claim } ∷ ys)) (sym (claim-absent b claim xs absent)) (steady-claim a x claim xs))
+      | inr not ↦ rw not (steady-cons a x xs (with_claim b claim xs) (claim-steady a b claim xs once.1))
+    ]
+
+without-steady : (a b : ℕ) (xs : List Arena) → eqb b a ≡ false → Once xs → Steady a xs (without b xs)
+without-steady a b [] apart once = steady-self a []
+without-steady a b (x ∷ xs) apart once =
+    elim (cases_Bool (eqb x.number b)) [
+      | inl here ↦
+          let is : x.number ≡ b = grind (arith, nat_tests) in
+          let absent : Missing b xs = subst (λ n. Missing n xs) is once.0 in
+          let other : eqb x.number a ≡ false = ap (λ n. eqb n a) is ∙ apart in
+          rw here (subst (Steady a (x ∷ xs)) (sym (without-absent b xs absent)) (turned a xs (x ∷ xs) (steady-other a x xs other)))
+      | inr not ↦ rw not (steady-cons a x xs (without b xs) (without-steady a b xs apart once.1))
+    ]
+
 -- ---- seats
 
 -- a seat that comes from elsewhere, or goes elsewhere, is not counted
@@ -182,9 +270,10 @@ pub record Stands (s t : State) (a : ℕ) : Type 0 where
 record Kept (s : State) (a : ℕ) (cmd : Cmd) (o : Outcome) : Type 0 where
   apart : is_just a (subject cmd o.0) ≡ false → Stands s o.1 a
   fine : Fine s → Fine o.1
+  steady : is_just a (subject cmd o.0) ≡ false → keeps_order cmd ≡ true → Once s.arenas → Steady a s.arenas o.1.arenas
 
 refused : (s : State) (a : ℕ) (cmd : Cmd) (r : Reply) → Kept s a cmd (r, s)
-refused s a cmd r = record { apart = λ other. record { arena = refl; active = refl }; fine = λ h. h }
+refused s a cmd r = record { apart = λ other. record { arena = refl; active = refl }; fine = λ h. h; steady = λ other ordered once. steady-self a s.arenas }
 
 kept-if : (s : State) (a : ℕ) (cmd : Cmd) (b : Bool) (x y : Outcome) → Kept s a cmd x → Kept s a cmd y → Kept s a cmd (cond b x y)
 kept-if s a cmd true x y h k = h
@@ -214,6 +303,7 @@ seat-kept s a seat cmd place r elsewhere =
     record {
       apart = λ other. record { arena = refl; active = count-elsewhere a seat place s.seats (elsewhere other).0 (elsewhere other).1 };
       fine = λ h. record { once = h.once; given = h.given; leveled = h.leveled };
+      steady = λ other ordered once. steady-self a s.arenas;
     }
 
 join_at-kept : (s : State) (a seat : ℕ) (o : Option Arena) → place_of s seat ≡ None → Kept s a Join (join_at s seat o)
@@ -245,6 +335,7 @@ opened-kept s a slots reserved level claim within =
             given = All-cons (λ (b : Arena). b.number < s.next_arena + 1) x s.arenas (omega arith) (wider s.next_arena (s.next_arena + 1) s.arenas (omega arith) h.given);
             leveled = All-cons (λ (b : Arena). b.level ≤ s.levels) x s.arenas within h.leveled;
           };
+      steady = λ other ordered once. steady-other a (record { number = s.next_arena; stamp = s.next_stamp; level = level; claim = claim }) s.arenas other;
     }
 
 open-kept : (s : State) (a slots reserved level : ℕ) → Kept s a (Open slots reserved level) (open_step s slots reserved level)
@@ -261,6 +352,7 @@ close-kept s a b =
     kept-if s a (Close b) (nat_lt 0 (active s b)) (refuse s (Busy (active s b))) _ (refused s a _ _) (record {
       apart = λ other. record { arena = without-other a b s.arenas other; active = refl };
       fine = λ h. record { once = without-once b s.arenas h.once; given = without-all (λ (c : Arena). c.number < s.next_arena) b s.arenas h.given; leveled = without-all (λ (c : Arena). c.level ≤ s.levels) b s.arenas h.leveled };
+      steady = λ other ordered once. without-steady a b s.arenas other once;
     }))
 
 moved-kept : (s : State) (a b level : ℕ) (x : Arena) → arena_at b s.arenas ≡ Some x → level ≤ s.levels → Kept s a (Priority b level) (moved s level x)
@@ -279,6 +371,7 @@ moved-kept s a b level x found within =
                 (without-all (λ (c : Arena). c.number < s.next_arena) x.number s.arenas h.given);
             leveled = All-cons (λ (c : Arena). c.level ≤ s.levels) y (without x.number s.arenas) within (without-all (λ (c : Arena). c.level ≤ s.levels) x.number s.arenas h.leveled);
           };
+      steady = λ other ordered once. absurd (true≢false (sym ordered));
     }
 
 priority-kept : (s : State) (a b level : ℕ) → Kept s a (Priority b level) (priority_step s b level)
@@ -297,6 +390,7 @@ claimed-kept s a b cmd r claim about =
         given = claim-all (λ (c : Arena). c.number < s.next_arena) b claim s.arenas (λ x p. p) h.given;
         leveled = claim-all (λ (c : Arena). c.level ≤ s.levels) b claim s.arenas (λ x p. p) h.leveled;
       };
+      steady = λ other ordered once. claim-steady a b claim s.arenas once;
     }
 
 resize-kept : (s : State) (a b slots reserved : ℕ) → Kept s a (Resize b slots reserved) (resize_step s b slots reserved)
@@ -314,7 +408,11 @@ request-kept s a b workers mandatory =
 -- a step that changes controls alone
 controls-kept : (s : State) (a : ℕ) (cmd : Cmd) (r : Reply) (controls : List Living) (next : ℕ) → Kept s a cmd (r, record s { controls = controls; next_control = next })
 controls-kept s a cmd r controls next =
-    record { apart = λ other. record { arena = refl; active = refl }; fine = λ h. record { once = h.once; given = h.given; leveled = h.leveled } }
+    record {
+      apart = λ other. record { arena = refl; active = refl };
+      fine = λ h. record { once = h.once; given = h.given; leveled = h.leveled };
+      steady = λ other ordered once. steady-self a s.arenas;
+    }
 
 control-kept : (s : State) (a value : ℕ) → Kept s a (Control value) (control_step s value)
 control-kept s a value =
@@ -352,3 +450,9 @@ apart-stands s t seat a cmd reply answered other =
 
 pub fine-step : (s t : State) (seat : ℕ) (cmd : Cmd) (reply : Reply) → step s seat cmd ≡ (reply, t) → Fine s → Fine t
 fine-step s t seat cmd reply answered fine = subst (λ (o : Outcome). Fine o.1) answered ((steps-kept s seat 0 cmd).fine fine)
+
+pub steady-step : (s t : State) (seat a : ℕ) (cmd : Cmd) (reply : Reply) → step s seat cmd ≡ (reply, t) → is_just a (subject cmd reply) ≡ false → keeps_order cmd ≡ true → Once s.arenas
+    → Steady a s.arenas t.arenas
+steady-step s t seat a cmd reply answered other ordered once =
+    subst (λ (o : Outcome). Steady a s.arenas o.1.arenas) answered
+    ((steps-kept s seat a cmd).steady (ap (λ (o : Outcome). is_just a (subject cmd o.0)) answered ∙ other) ordered once)

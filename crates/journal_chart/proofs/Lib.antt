@@ -8,6 +8,7 @@ pub mod Bounds
 pub mod Kept
 pub mod Given
 pub mod Sharing
+pub mod Told
 pub mod Still
 pub mod Near
 pub mod Next

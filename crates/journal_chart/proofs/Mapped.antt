@@ -27,3 +27,9 @@ mapped-more f old xs i x y within is here made =
 pub mapped-all : {X : Type 0} (f : X → X) (old xs : List X) (i : ℕ) → length old ≤ i → xs ≡ map f (take i old) ++ drop i old → xs ≡ map f old
 mapped-all f old xs i whole is =
     is ∙ (λ j. map f (take_all i old whole j) ++ drop_all i old whole j) ∙ append-nil (map f old)
+
+-- as many elements are written over all that there were
+pub written-over : {X : Type 0} (fresh old : List X) (n : ℕ) → n ≡ length old → length fresh ≡ length old → take n (fresh ++ drop (length fresh) old) ≡ fresh
+written-over fresh old n all same =
+    let none : drop (length fresh) old ≡ [] = drop_all (length fresh) old (omega (arith, same)) in
+    ap (λ rest. take n (fresh ++ rest)) none ∙ ap (take n) (append-nil fresh) ∙ take_all n fresh (omega (arith, all, same))

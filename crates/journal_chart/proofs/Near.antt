@@ -1,7 +1,7 @@
 -- A moment more that adds nothing to the column of the last.
-use Rattle.std.specs.Prelude.{◌&&◌, ◌||◌, nat_le, nat_lt}
+use Rattle.std.specs.Prelude.{◌==◌, ◌&&◌, ◌||◌, nat_le, nat_lt, slice_index}
 use Rattle.std.specs.Option.{option_map}
-use Rattle.std.proofs.Common.{◌≡◌, ℕ, zero, suc, ◌-◌, ◌*◌, ◌/◌, ◌<◌, ◌≤◌, Bool, true, false, true≢false, cond, min, max, List, [], ◌∷◌, ◌++◌, length, Option, None, Some, refl, sym, ap, ◌∙◌, subst, arith, inl, inr}
+use Rattle.std.proofs.Common.{◌≡◌, ℕ, zero, suc, ◌+◌, ◌-◌, ◌*◌, ◌/◌, ◌^◌, ◌<◌, ◌≤◌, ◌⊎◌, Bool, true, false, true≢false, cond, eqb, get_or, ltb, min, max, List, [], ◌∷◌, ◌++◌, length, Option, None, Some, refl, sym, ap, ◌∙◌, subst, arith, inl, inr}
 use Rattle.std.proofs.lemmas.Bool.{cases_Bool}
 use Rattle.std.proofs.lemmas.Bool.Decides.{nat_tests}
 use Rattle.std.proofs.lemmas.List.{length_push}
@@ -12,43 +12,126 @@ use Rattle.market_types.specs.declared.reply.Reply.{Reply}
 use Rattle.market_types.specs.declared.reply.Reply.TheVariants.{Recalled, Stays}
 use Rattle.market_types.specs.State.{Arena, State}
 use Rattle.market_types.specs.Claims.{request_of}
-use Rattle.market_types.specs.Allotment.{active, allotment_of, assigned, demand, effective_limit_of, hire, is_just, limit_of, need, recall}
+use Rattle.market_types.specs.Allotment.{active, allotment_of, assigned, at_level, demand, effective_limit_of, is_just, limit_of, need, recall}
 use Rattle.market_types.specs.Step.{Outcome, arena_at, join_at, join_from, leave_from, place_of, stay_from, step, view_of, with_place}
+use Rattle.journal_chart.specs.declared.covered.Covered.{Covered}
 use Rattle.journal_chart.specs.declared.span.Span.{Span}
 use Rattle.journal_chart.specs.declared.row.Known.{Known}
 use Rattle.journal_chart.specs.declared.row.Row.{Row}
 use Rattle.journal_chart.specs.Columns.{joined, width_of}
+use Rattle.journal_chart.specs.Covering.{covered, covers, exactly, least_covered, none_covered, past_covered}
 use Rattle.journal_chart.specs.Lines.{added, at}
 use Rattle.journal_chart.specs.Numbers.{level_at, line_of, row_of, shown, view_at}
-use Rattle.journal_chart.specs.Shares.{least_share, most_share}
-use Rattle.journal_chart.specs.Steps.{has_between, has_share, is_held, known_of, moves_seat, near_row, seen_row, spans, stands_after, subject}
-use Rattle.journal_chart.proofs.Bounds.{Between, Whole, allotment-between}
+use Rattle.journal_chart.specs.Shares.{Shared, shared_of}
+use Rattle.journal_chart.specs.Steps.{is_covered, is_covered_at, is_divided, is_kept, is_same_share, keeps_order, kept_levels, known_in, known_of, moves_seat, near_row, needing_row, own_row, retold, seen_row, settled_row, share_told, shared_row, stands_after, stands_kept, subject, told_row}
+use Rattle.journal_chart.proofs.Bounds.{IsShare, Whole, allotment-level, allotment-share, at-level, both, covered-share, exact-share, same-carried}
 use Rattle.journal_chart.proofs.Charts.{line-if, readied-row}
-use Rattle.journal_chart.proofs.Kept.{Fine, Stands, apart-stands, found-number}
+use Rattle.journal_chart.proofs.Kept.{Fine, Stands, Steady, apart-stands, found-number, found-within, steady-step}
+use Rattle.journal_chart.proofs.Sharing.{shared-asked, shared-given}
 use Rattle.journal_chart.proofs.Still.{GoesOn, added-twice}
+use Rattle.journal_chart.proofs.Told.{Retold, told-step}
 
 -- ---- a number that a column spans
 
-both : (a b : Bool) → (a && b) ≡ true → (a ≡ true) × (b ≡ true)
-both true true h = (refl, refl)
-both true false h = absurd (true≢false (sym h))
-both false b h = absurd (true≢false (sym h))
+either : (a b : Bool) → (a || b) ≡ true → (a ≡ true) ⊎ (b ≡ true)
+either true b h = inl refl
+either false b h = inr h
 
-joined-inside : (c : Option Span) (least most v : ℕ) → spans least most c ≡ true → least ≤ v → v ≤ most → joined c (Some (record { least = v; most = v })) ≡ c
-joined-inside None least most v inside low high = absurd (true≢false (sym inside))
-joined-inside (Some a) least most v inside low high =
-    let h = both (nat_le a.least least) (nat_le most a.most) inside in
-    let from : a.least ≤ least = let g = h.0 in grind (arith, nat_tests) in
-    let to : most ≤ a.most = let g = h.1 in grind (arith, nat_tests) in
-    let least_is : min a.least v ≡ a.least = omega (arith, from, low) in
-    let most_is : max a.most v ≡ a.most = omega (arith, to, high) in
+-- a column spans a number
+record Inside (c : Option Span) (v : ℕ) : Type 0 where
+  span : Span
+  is : c ≡ Some span
+  low : span.least ≤ v
+  high : v ≤ span.most
+
+joined-inside : (a : Span) (v : ℕ) → a.least ≤ v → v ≤ a.most → joined (Some a) (Some (record { least = v; most = v })) ≡ Some a
+joined-inside a v low high =
+    let least_is : min a.least v ≡ a.least = omega (arith, low) in
+    let most_is : max a.most v ≡ a.most = omega (arith, high) in
     λ i. Some (record { least = least_is i; most = most_is i })
 
-added-inside : (place least most v : ℕ) (columns : List (Option Span)) → spans least most (at columns place) ≡ true → least ≤ v → v ≤ most
-    → added place (Some v) columns ≡ columns
-added-inside place least most v [] inside low high = refl
-added-inside zero least most v (c ∷ cs) inside low high = ap (λ d. d ∷ cs) (joined-inside c least most v inside low high)
-added-inside (suc place) least most v (c ∷ cs) inside low high = ap (λ ds. c ∷ ds) (added-inside place least most v cs inside low high)
+added-inside : (place v : ℕ) (columns : List (Option Span)) → Inside (at columns place) v → added place (Some v) columns ≡ columns
+added-inside place v [] inside = refl
+added-inside zero v (c ∷ cs) inside =
+    ap (λ d. d ∷ cs) (ap (λ d. joined d (Some (record { least = v; most = v }))) inside.is ∙ joined-inside inside.span v inside.low inside.high ∙ sym inside.is)
+added-inside (suc place) v (c ∷ cs) inside = ap (λ ds. c ∷ ds) (added-inside place v cs inside)
+
+-- what is covered is spanned, with the recalls and the hires
+record Spanned (a r h : Span) (n v : ℕ) : Type 0 where
+  allot_low : a.least ≤ v
+  allot_high : v ≤ a.most
+  recall_low : r.least ≤ n - v
+  recall_high : n - v ≤ r.most
+  hire_low : h.least ≤ v - n
+  hire_high : v - n ≤ h.most
+
+spanned-if : (a r h : Span) (n v : ℕ) (no_hire no_recall : Bool) → eqb h.least 0 ≡ no_hire → eqb r.least 0 ≡ no_recall
+    → max a.least (max (n - r.most) (cond no_hire 0 (n + h.least))) ≤ v → v < min (a.most + 1) (min (n + h.most + 1) (cond no_recall (a.most + 1) ((n + 1) - r.least)))
+    → Spanned a r h n v
+spanned-if a r h n v true true hires recalls low high =
+    let hire : h.least ≡ 0 = grind (arith, nat_tests) in
+    let recall_ : r.least ≡ 0 = grind (arith, nat_tests) in
+    record {
+      allot_low = omega (arith, low);
+      allot_high = omega (arith, high);
+      recall_low = omega (arith, recall_);
+      recall_high = omega (arith, low);
+      hire_low = omega (arith, hire);
+      hire_high = omega (arith, high);
+    }
+spanned-if a r h n v true false hires recalls low high =
+    let hire : h.least ≡ 0 = grind (arith, nat_tests) in
+    record {
+      allot_low = omega (arith, low);
+      allot_high = omega (arith, high);
+      recall_low = omega (arith, high);
+      recall_high = omega (arith, low);
+      hire_low = omega (arith, hire);
+      hire_high = omega (arith, high);
+    }
+spanned-if a r h n v false true hires recalls low high =
+    let recall_ : r.least ≡ 0 = grind (arith, nat_tests) in
+    record {
+      allot_low = omega (arith, low);
+      allot_high = omega (arith, high);
+      recall_low = omega (arith, recall_);
+      recall_high = omega (arith, low);
+      hire_low = omega (arith, low);
+      hire_high = omega (arith, high);
+    }
+spanned-if a r h n v false false hires recalls low high =
+    record {
+      allot_low = omega (arith, low);
+      allot_high = omega (arith, high);
+      recall_low = omega (arith, high);
+      recall_high = omega (arith, low);
+      hire_low = omega (arith, low);
+      hire_high = omega (arith, high);
+    }
+
+spanned-from : (a r h : Span) (n v : ℕ) (wide : Bool)
+    → (cond wide none_covered (record { from = least_covered a r h n; below = past_covered a r h n })).from ≤ v
+    → v < (cond wide none_covered (record { from = least_covered a r h n; below = past_covered a r h n })).below → Spanned a r h n v
+spanned-from a r h n v true low high = absurd (omega (arith, high))
+spanned-from a r h n v false low high = spanned-if a r h n v (eqb h.least 0) (eqb r.least 0) refl refl low high
+
+-- columns of allotments, recalls and hires span an allotment that is covered
+record Spans (a r h : Option Span) (n v : ℕ) : Type 0 where
+  allot : Inside a v
+  recall : Inside r (n - v)
+  hire : Inside h (v - n)
+
+covered-spans : (a r h : Option Span) (n v : ℕ) → (covered a r h n).from ≤ v → v < (covered a r h n).below → Spans a r h n v
+covered-spans None r h n v low high = absurd (omega (arith, high))
+covered-spans (Some a) None h n v low high = absurd (omega (arith, high))
+covered-spans (Some a) (Some r) None n v low high = absurd (omega (arith, high))
+covered-spans (Some a) (Some r) (Some h) n v low high =
+    let s = spanned-from a r h n v (ltb (2 ^ 32 - 1) (least_covered a r h n) || ltb (2 ^ 32 - 1) (past_covered a r h n)) low high in
+    record {
+      allot = record { span = a; is = refl; low = s.allot_low; high = s.allot_high };
+      recall = record { span = r; is = refl; low = s.recall_low; high = s.recall_high };
+      hire = record { span = h; is = refl; low = s.hire_low; high = s.hire_high };
+    }
 
 -- ---- seats that come and go
 
@@ -57,12 +140,13 @@ pub record Even (s t : State) : Type 0 where
   pub allotted : (n : ℕ) → allotment_of t n ≡ allotment_of s n
   pub limit : limit_of t ≡ limit_of s
   pub effective : effective_limit_of t ≡ effective_limit_of s
+  pub shares : shared_of t ≡ shared_of s
 
 even-self : (s : State) → Even s s
-even-self s = record { allotted = λ n. refl; limit = refl; effective = refl }
+even-self s = record { allotted = λ n. refl; limit = refl; effective = refl; shares = refl }
 
 even-place : (s : State) (seat : ℕ) (place : Option ℕ) → Even s (with_place s seat place)
-even-place s seat place = record { allotted = λ n. refl; limit = refl; effective = refl }
+even-place s seat place = record { allotted = λ n. refl; limit = refl; effective = refl; shares = refl }
 
 even-if : (s : State) (b : Bool) (x y : Outcome) → Even s x.1 → Even s y.1 → Even s (cond b x y).1
 even-if s true x y h k = h
@@ -102,6 +186,26 @@ seats-even s seat Limit h = absurd (true≢false (sym h))
 pub even-step : (s t : State) (seat : ℕ) (cmd : Cmd) (reply : Reply) → step s seat cmd ≡ (reply, t) → moves_seat cmd ≡ true → Even s t
 even-step s t seat cmd reply answered moves = subst (λ (o : Outcome). Even s o.1) answered (seats-even s seat cmd moves)
 
+-- ---- levels that are kept
+
+kept-place : (cmd : Cmd) (was now : Shared) (place : ℕ) → get_or (kept_levels cmd was now) place false ≡ true → is_kept cmd was now (suc place) ≡ true
+kept-place cmd was now zero h = h
+kept-place cmd was now (suc zero) h = h
+kept-place cmd was now (suc (suc zero)) h = h
+kept-place cmd was now (suc (suc (suc zero))) h = h
+kept-place cmd was now (suc (suc (suc (suc zero)))) h = h
+kept-place cmd was now (suc (suc (suc (suc (suc zero))))) h = h
+kept-place cmd was now (suc (suc (suc (suc (suc (suc zero)))))) h = h
+kept-place cmd was now (suc (suc (suc (suc (suc (suc (suc zero))))))) h = h
+kept-place cmd was now (suc (suc (suc (suc (suc (suc (suc (suc n)))))))) h = absurd (true≢false (sym h))
+
+kept-level : (cmd : Cmd) (was now : Shared) (level : ℕ) → stands_kept (kept_levels cmd was now) (Some level) ≡ true → is_kept cmd was now level ≡ true
+kept-level cmd was now level h =
+    let g = both (nat_le 1 level) (get_or (kept_levels cmd was now) (level - 1) false) h in
+    let low : 1 ≤ level = let e = g.0 in grind (arith, nat_tests) in
+    let next : suc (level - 1) ≡ level = omega (arith, low) in
+    ap (is_kept cmd was now) (sym next) ∙ kept-place cmd was now (level - 1) g.1
+
 -- ---- a number at the next moment
 
 module _ (most : ℕ) (before : List State) (s t : State) (some : 0 < most) (on : GoesOn most (length before)) where
@@ -137,12 +241,16 @@ module _ (most : ℕ) (before : List State) (s t : State) (some : 0 < most) (on 
       ∙ first
 
   -- the number is one that the column spans
-  line-inside : (number : State → Option ℕ) (least most_ v : ℕ) → number t ≡ Some v → spans least most_ (at (line_of most number moments) place) ≡ true → least ≤ v → v ≤ most_
+  line-inside : (number : State → Option ℕ) (v : ℕ) → number t ≡ Some v → Inside (at (line_of most number moments) place) v
       → line_of most number (moments ++ t ∷ []) ≡ line_of most number moments
-  line-inside number least most_ v is inside low high =
+  line-inside number v is inside =
       sym (line-next number)
       ∙ ap (λ o. added place o (line_of most number moments)) is
-      ∙ added-inside place least most_ v (line_of most number moments) inside low high
+      ∙ added-inside place v (line_of most number moments) inside
+
+  -- the number is known
+  line-told : (number : State → Option ℕ) (v : ℕ) → number t ≡ Some v → added place (Some v) (line_of most number moments) ≡ line_of most number (moments ++ t ∷ [])
+  line-told number v is = ap (λ o. added place o (line_of most number moments)) (sym is) ∙ line-next number
 
   -- ---- a row
 
@@ -183,115 +291,350 @@ module _ (most : ℕ) (before : List State) (s t : State) (some : 0 < most) (on 
         hire = sym lines.hire i;
       }
 
-  known-same : (a : ℕ) → Stands s t a → known_of (view_at a s) ≡ known_of (view_at a t)
-  known-same a stands = go (arena_at a s.arenas) refl ∙ ap (λ o. known_of (option_map (view_of t) o)) (sym stands.arena)
-    where
-      go : (o : Option Arena) → arena_at a s.arenas ≡ o → known_of (option_map (view_of s) o) ≡ known_of (option_map (view_of t) o)
-      go None is = refl
-      go (Some x) is = ap (λ n. record { request = request_of x.claim; active = n }) (sym (active-same a stands x is))
+  -- the row of an arena at the last moment, and with the next
+  abbrev row : ℕ → Row
+  row a = row_of most moments s a
 
-  -- a seat alone moved, to another arena or from there
-  even-lines : (a : ℕ) → Stands s t a → Even s t → SameLines a
-  even-lines a stands even =
+  abbrev row' : ℕ → Row
+  row' a = row_of most (moments ++ t ∷ []) t a
+
+  -- the row with the next moment, and what is then known
+  abbrev due : ℕ → Row × Known
+  due a = (row' a, known_of place (view_at a t) (row' a))
+
+  known-same : (a : ℕ) → Stands s t a → row a ≡ row' a → known_of place (view_at a s) (row a) ≡ known_of place (view_at a t) (row' a)
+  known-same a stands same = go (arena_at a s.arenas) refl ∙ ap (λ o. known_of place (option_map (view_of t) o) (row' a)) (sym stands.arena)
+    where
+      go : (o : Option Arena) → arena_at a s.arenas ≡ o → known_of place (option_map (view_of s) o) (row a) ≡ known_of place (option_map (view_of t) o) (row' a)
+      go None is = ap (known_in place 0 0) same
+      go (Some x) is = λ i. known_in place (request_of x.claim) (sym (active-same a stands x is) i) (same i)
+
+  -- an arena is allotted what it was
+  even-lines : (a : ℕ) → Stands s t a → ((x : Arena) → arena_at a s.arenas ≡ Some x → allotment_of t x.number ≡ allotment_of s x.number) → SameLines a
+  even-lines a stands allotted =
       record {
-        allot = line-same (shown (λ (v : ArenaView). v.allot) a) (shown-same (λ (v : ArenaView). v.allot) a (λ x is. even.allotted x.number) stands);
+        allot = line-same (shown (λ (v : ArenaView). v.allot) a) (shown-same (λ (v : ArenaView). v.allot) a allotted stands);
         recall =
             line-same (shown (λ (v : ArenaView). v.recall) a)
-            (shown-same (λ (v : ArenaView). v.recall) a (λ x is. λ i. active-same a stands x is i - even.allotted x.number i) stands);
+            (shown-same (λ (v : ArenaView). v.recall) a (λ x is. λ i. active-same a stands x is i - allotted x is i) stands);
         hire =
             line-same (shown (λ (v : ArenaView). v.hire) a)
-            (shown-same (λ (v : ArenaView). v.hire) a (λ x is. λ i. even.allotted x.number i - active-same a stands x is i) stands);
+            (shown-same (λ (v : ArenaView). v.hire) a (λ x is. λ i. allotted x is i - active-same a stands x is i) stands);
       }
 
   -- no arena has the number, before and after
   absent-lines : (a : ℕ) → Stands s t a → arena_at a s.arenas ≡ None → SameLines a
-  absent-lines a stands none =
-      record {
-        allot = line-same (shown (λ (v : ArenaView). v.allot) a) (shown-same (λ (v : ArenaView). v.allot) a (λ x is. absurd (some-none x is)) stands);
-        recall = line-same (shown (λ (v : ArenaView). v.recall) a) (shown-same (λ (v : ArenaView). v.recall) a (λ x is. absurd (some-none x is)) stands);
-        hire = line-same (shown (λ (v : ArenaView). v.hire) a) (shown-same (λ (v : ArenaView). v.hire) a (λ x is. absurd (some-none x is)) stands);
-      }
-    where
-      some-none : (x : Arena) → arena_at a s.arenas ≡ Some x → ⊥
-      some-none x is = let h : None ≡ Some x = sym none ∙ is in cc
+  absent-lines a stands none = even-lines a stands (λ x is. let h : None ≡ Some x = sym none ∙ is in absurd (cc))
 
-  -- the columns have what the arena may be allotted
-  spanned-lines : (a least most_ : ℕ) (x : Arena) → Stands s t a → arena_at a s.arenas ≡ Some x → least ≤ allotment_of t x.number → allotment_of t x.number ≤ most_
-      → has_between place least most_ (active s x.number) (row_of most moments s a) ≡ true → SameLines a
-  spanned-lines a least most_ x stands is low high has =
-      let r : Row = row_of most moments s a in
-      let n : ℕ = active s x.number in
-      let first = both (spans least most_ (at r.allot place)) (spans (n - most_) (n - least) (at r.recall place) && spans (least - n) (most_ - n) (at r.hire place)) has in
-      let rest = both (spans (n - most_) (n - least) (at r.recall place)) (spans (least - n) (most_ - n) (at r.hire place)) first.1 in
-      let same : active t x.number ≡ n = active-same a stands x is in
-      let found : arena_at a t.arenas ≡ Some x = stands.arena ∙ is in
-      record {
-        allot = line-inside (shown (λ (v : ArenaView). v.allot) a) least most_ (allotment_of t x.number) (seen (λ (v : ArenaView). v.allot) found) first.0 low high;
-        recall =
-            line-inside (shown (λ (v : ArenaView). v.recall) a) (n - most_) (n - least) (recall t x.number) (seen (λ (v : ArenaView). v.recall) found) rest.0
-            (subst (λ m. n - most_ ≤ m - allotment_of t x.number) (sym same) (omega (arith, high))) (subst (λ m. m - allotment_of t x.number ≤ n - least) (sym same) (omega (arith, low)));
-        hire =
-            line-inside (shown (λ (v : ArenaView). v.hire) a) (least - n) (most_ - n) (hire t x.number) (seen (λ (v : ArenaView). v.hire) found) rest.1
-            (subst (λ m. least - n ≤ allotment_of t x.number - m) (sym same) (omega (arith, low))) (subst (λ m. allotment_of t x.number - m ≤ most_ - n) (sym same) (omega (arith, high)));
-      }
-    where
-      seen : (number : ArenaView → ℕ) → arena_at a t.arenas ≡ Some x → shown number a t ≡ Some (number (view_of t x))
-      seen number found = ap (λ o. option_map number (option_map (view_of t) o)) found
+  -- what is shown of a living arena
+  shown-of : (number : ArenaView → ℕ) (a : ℕ) (y : Arena) → arena_at a t.arenas ≡ Some y → shown number a t ≡ Some (number (view_of t y))
+  shown-of number a y found = ap (λ o. option_map number (option_map (view_of t) o)) found
 
-  -- what is known of an arena tells what it may be allotted
-  share-lines : (whole : Whole) (a : ℕ) (x : Arena) → Fine t → Stands s t a → arena_at a s.arenas ≡ Some x → 0 < limit_of t
-      → has_share place t (known_of (Some (view_of s x))) (row_of most moments s a) (Some x.level) ≡ true → SameLines a
-  share-lines whole a x fine stands is any has =
+  -- the columns have what the arena is allotted
+  covered-lines : (a : ℕ) (y : Arena) (c : Covered) → arena_at a t.arenas ≡ Some y
+      → c ≡ covered (at (row a).allot place) (at (row a).recall place) (at (row a).hire place) (active t y.number)
+      → c.from ≤ allotment_of t y.number → allotment_of t y.number < c.below → SameLines a
+  covered-lines a y c found is low high =
+      let v : ℕ = allotment_of t y.number in
+      let n : ℕ = active t y.number in
+      let spans = covered-spans (at (row a).allot place) (at (row a).recall place) (at (row a).hire place) n v (subst (λ (d : Covered). d.from ≤ v) is low) (subst (λ (d : Covered). v < d.below) is high) in
+      record {
+        allot = line-inside (shown (λ (w : ArenaView). w.allot) a) v (shown-of (λ (w : ArenaView). w.allot) a y found) spans.allot;
+        recall = line-inside (shown (λ (w : ArenaView). w.recall) a) (n - v) (shown-of (λ (w : ArenaView). w.recall) a y found) spans.recall;
+        hire = line-inside (shown (λ (w : ArenaView). w.hire) a) (v - n) (shown-of (λ (w : ArenaView). w.hire) a y found) spans.hire;
+      }
+
+  -- ---- what the levels are given
+
+  -- a level of a market that some worker may be active in
+  record Divides (u : State) (level : ℕ) : Type 0 where
+    any : 0 < limit_of u
+    low : 1 ≤ level
+    few : level ≤ 8
+
+  divides : (u : State) (level : ℕ) → is_divided (shared_of u) level ≡ true → Divides u level
+  divides u level h =
+      let g = both (nat_lt 0 (limit_of u)) (nat_le 1 level && nat_le level 8) h in
+      let levels = both (nat_le 1 level) (nat_le level 8) g.1 in
+      record {
+        any = let e = g.0 in grind (arith, nat_tests);
+        low = let e = levels.0 in grind (arith, nat_tests);
+        few = let e = levels.1 in grind (arith, nat_tests);
+      }
+
+  leveled : (u : State) (a : ℕ) (x : Arena) → Fine u → arena_at a u.arenas ≡ Some x → x.level ≤ u.levels
+  leveled u a x fine found = found-within (λ (b : Arena). b.level ≤ u.levels) a u.arenas x found fine.leveled
+
+  -- a living arena's allotment is its share
+  share : (whole : Whole) (a : ℕ) (y : Arena) → Fine t → arena_at a t.arenas ≡ Some y → Divides t y.level
+      → IsShare (request_of y.claim) (slice_index (shared_of t).given (y.level - 1)) (slice_index (shared_of t).asked (y.level - 1)) (allotment_of t y.number)
+  share whole a y fine found d =
+      let number : y.number ≡ a = found-number a t.arenas y found in
+      let high : y.level ≤ t.levels = leveled t a y fine found in
+      let given = shared-given t y.level d.low d.few high in
+      let asked = shared-asked t y.level d.low d.few high in
+      subst (λ g. IsShare (request_of y.claim) g (slice_index (shared_of t).asked (y.level - 1)) (allotment_of t y.number)) (sym given)
+      (subst (λ k. IsShare (request_of y.claim) (assigned t y.level) k (allotment_of t y.number)) (sym asked)
+      (subst (λ n. IsShare (request_of y.claim) (assigned t y.level) (demand t y.level) (allotment_of t n)) (sym number) (allotment-share whole a t y fine.once d.any found d.low high)))
+
+  -- a column has all that a living arena may be allotted, of which this is known
+  cover-lines : (whole : Whole) (a : ℕ) (y : Arena) (k : Known) → Fine t → arena_at a t.arenas ≡ Some y → request_of y.claim ≡ k.request → active t y.number ≡ k.active
+      → k ≡ known_in place k.request k.active (row a) → is_covered (shared_of t) k y.level ≡ true → SameLines a
+  cover-lines whole a y k fine found asks has known h =
+      let given : ℕ = slice_index (shared_of t).given (y.level - 1) in
+      let asked : ℕ = slice_index (shared_of t).asked (y.level - 1) in
+      let g = both (is_divided (shared_of t) y.level) (covers k.covered k.request given asked) h in
+      let divided = share whole a y fine found (divides t y.level g.0) in
+      let within = covered-share k.covered k.request given asked (allotment_of t y.number) (subst (λ r. IsShare r given asked (allotment_of t y.number)) asks divided) g.1 in
+      let is = ap (λ (l : Known). l.covered) known ∙ ap (covered (at (row a).allot place) (at (row a).recall place) (at (row a).hire place)) (sym has) in
+      covered-lines a y k.covered found is within.0 within.1
+
+  -- a level is given what it was of what it asked for
+  share-same : (whole : Whole) (a : ℕ) (x : Arena) → Fine s → Fine t → Stands s t a → Steady a s.arenas t.arenas → arena_at a s.arenas ≡ Some x
+      → is_same_share (shared_of s) (shared_of t) x.level ≡ true → allotment_of t x.number ≡ allotment_of s x.number
+  share-same whole a x fine fine' stands steady is h =
       let found : arena_at a t.arenas ≡ Some x = stands.arena ∙ is in
       let number : x.number ≡ a = found-number a s.arenas x is in
-      let r : ℕ = request_of x.claim in
-      let low : ℕ = least_share r (assigned t x.level) (demand t x.level) in
-      let high : ℕ = most_share r (assigned t x.level) (demand t x.level) in
-      let h = both (nat_le 1 x.level && nat_le x.level t.levels) (has_between place low high (active s x.number) (row_of most moments s a)) has in
-      let levels = both (nat_le 1 x.level) (nat_le x.level t.levels) h.0 in
-      let first : 1 ≤ x.level = let g = levels.0 in grind (arith, nat_tests) in
-      let last : x.level ≤ t.levels = let g = levels.1 in grind (arith, nat_tests) in
-      let within : Between r (assigned t x.level) (demand t x.level) (allotment_of t a) = allotment-between whole a t x fine.once any found first last in
-      let between : Between r (assigned t x.level) (demand t x.level) (allotment_of t x.number) =
-      subst (λ m. Between r (assigned t x.level) (demand t x.level) (allotment_of t m)) (sym number) within in
-      spanned-lines a low high x stands is between.least between.most h.1
+      let l : ℕ = x.level in
+      let was : Shared = shared_of s in
+      let now : Shared = shared_of t in
+      let g = both (is_divided was l && is_divided now l) ((slice_index was.given (l - 1) == slice_index now.given (l - 1)) && (slice_index was.asked (l - 1) == slice_index now.asked (l - 1))) h in
+      let halves = both (is_divided was l) (is_divided now l) g.0 in
+      let before_ = divides s l halves.0 in
+      let after = divides t l halves.1 in
+      let equal = both (slice_index was.given (l - 1) == slice_index now.given (l - 1)) (slice_index was.asked (l - 1) == slice_index now.asked (l - 1)) g.1 in
+      let high : l ≤ s.levels = leveled s a x fine is in
+      let high' : l ≤ t.levels = leveled t a x fine' found in
+      let given_ : slice_index was.given (l - 1) ≡ slice_index now.given (l - 1) = let e = equal.0 in grind (arith, nat_tests) in
+      let asked_ : slice_index was.asked (l - 1) ≡ slice_index now.asked (l - 1) = let e = equal.1 in grind (arith, nat_tests) in
+      let given : assigned t l ≡ assigned s l = sym (shared-given t l after.low after.few high') ∙ sym given_ ∙ shared-given s l before_.low before_.few high in
+      let asked : demand t l ≡ demand s l = sym (shared-asked t l after.low after.few high') ∙ sym asked_ ∙ shared-asked s l before_.low before_.few high in
+      let at_a : allotment_of t a ≡ allotment_of s a =
+      allotment-level whole a t x fine'.once after.any found after.low high'
+      ∙ steady (assigned t) (demand t) l 0 asked
+      ∙ same-carried a (assigned t) (demand t) (assigned s) (demand s) l 0 (at_level l s.arenas) (at-level l s.arenas) given asked
+      ∙ sym (allotment-level whole a s x fine.once before_.any is before_.low high) in
+      ap (allotment_of t) number ∙ at_a ∙ ap (allotment_of s) (sym number)
 
-  held-lines : (whole : Whole) (a seat : ℕ) (cmd : Cmd) (reply : Reply) → step s seat cmd ≡ (reply, t) → Fine t → Stands s t a
-      → is_held place t cmd (known_of (view_at a s)) (row_of most moments s a) ≡ true → SameLines a
-  held-lines whole a seat cmd reply answered fine stands held = go (moves_seat cmd) refl held
-    where
-      r : Row
-      r = row_of most moments s a
+  -- ---- a row at the next moment
 
-      at_arena : (o : Option Arena) → arena_at a s.arenas ≡ o → nat_lt 0 (limit_of t) ≡ true
-          → has_share place t (known_of (option_map (view_of s) o)) r (option_map (λ (b : Arena). b.level) o) ≡ true → SameLines a
-      at_arena None is any has = absent-lines a stands is
-      at_arena (Some x) is any has = let some_ : 0 < limit_of t = grind (arith, nat_tests) in share-lines whole a x fine stands is some_ has
+  module _ (whole : Whole) (seat : ℕ) (cmd : Cmd) (reply : Reply) (answered : step s seat cmd ≡ (reply, t)) (fine : Fine s) (fine' : Fine t) (a : ℕ)
+      (stood : stands_after a (level_at a s) cmd reply ≡ level_at a t) where
+    abbrev was : Known
+    was = known_of place (view_at a s) (row a)
 
-      go : (b : Bool) → moves_seat cmd ≡ b → (b || (nat_lt 0 (limit_of t) && has_share place t (known_of (view_at a s)) r (level_at a s))) ≡ true → SameLines a
-      go true moves h = even-lines a stands (even-step s t seat cmd reply answered moves)
-      go false moves h = let g = both (nat_lt 0 (limit_of t)) (has_share place t (known_of (view_at a s)) r (level_at a s)) h in at_arena (arena_at a s.arenas) refl g.0 g.1
+    -- the market is asked
+    seen : seen_row place t cmd reply (row a) ≡ due a
+    seen =
+        let readied = readied-row false most moments s t a (stands_after a (level_at a s) cmd reply) some open_now stood in
+        λ i. (readied i, known_of place (view_at a t) (readied i))
 
-  pub near-row : (whole : Whole) (a seat : ℕ) (cmd : Cmd) (reply : Reply) → step s seat cmd ≡ (reply, t) → Fine t → stands_after a (level_at a s) cmd reply ≡ level_at a t
-      → near_row place t cmd reply (row_of most moments s a) (known_of (view_at a s)) ≡ (row_of most (moments ++ t ∷ []) t a, known_of (view_at a t))
-  near-row whole a seat cmd reply answered fine stood =
-      elim (cases_Bool (is_just a (subject cmd reply))) [
-        | inl about ↦ rw about seen
-        | inr apart ↦
-            let stands : Stands s t a = apart-stands s t seat a cmd reply answered apart in
-            rw apart (held_or (is_held place t cmd (known_of (view_at a s)) (row_of most moments s a)) refl stands)
-      ]
-    where
-      due : Row × Known
-      due = (row_of most (moments ++ t ∷ []) t a, known_of (view_at a t))
+    -- a row of an arena that is allotted what it was
+    kept-share : (x : Arena) → Stands s t a → is_just a (subject cmd reply) ≡ false → arena_at a s.arenas ≡ Some x
+        → (keeps_order cmd && is_same_share (shared_of s) (shared_of t) x.level) ≡ true → SameLines a
+    kept-share x stands apart is h =
+        let g = both (keeps_order cmd) (is_same_share (shared_of s) (shared_of t) x.level) h in
+        let steady = steady-step s t seat a cmd reply answered apart g.0 fine.once in
+        even-lines a stands (λ y found.
+        let same : Some x ≡ Some y = sym is ∙ found in
+        let eq : x ≡ y = cc in
+        subst (λ (z : Arena). allotment_of t z.number ≡ allotment_of s z.number) eq (share-same whole a x fine fine' stands steady is g.1))
 
-      seen : seen_row place t cmd reply (row_of most moments s a) ≡ due
-      seen = λ i. (readied-row false most moments s t a (stands_after a (level_at a s) cmd reply) some open_now stood i, known_of (view_at a t))
+    kept-lines : Stands s t a → is_just a (subject cmd reply) ≡ false → stands_kept (kept_levels cmd (shared_of s) (shared_of t)) (level_at a s) ≡ true → SameLines a
+    kept-lines stands apart h = go (arena_at a s.arenas) refl h
+      where
+        go : (o : Option Arena) → arena_at a s.arenas ≡ o
+            → stands_kept (kept_levels cmd (shared_of s) (shared_of t)) (option_map (λ (b : Arena). b.level) o) ≡ true → SameLines a
+        go None is h = absent-lines a stands is
+        go (Some x) is h =
+            elim (either (moves_seat cmd) (keeps_order cmd && is_same_share (shared_of s) (shared_of t) x.level) (kept-level cmd (shared_of s) (shared_of t) x.level h)) [
+              | inl moves ↦ let even = even-step s t seat cmd reply answered moves in even-lines a stands (λ y found. even.allotted y.number)
+              | inr kept ↦ kept-share x stands apart is kept
+            ]
 
-      held_or : (b : Bool) → is_held place t cmd (known_of (view_at a s)) (row_of most moments s a) ≡ b → Stands s t a
-          → cond b (row_of most moments s a, known_of (view_at a s)) (seen_row place t cmd reply (row_of most moments s a)) ≡ due
-      held_or true held stands =
-          let row = row-same a stands (held-lines whole a seat cmd reply answered fine stands held) in
-          let known = known-same a stands in
-          λ i. (row i, known i)
-      held_or false held stands = seen
+    -- a row of an arena all of whose allotments are covered
+    spanned-lines : Stands s t a → is_covered_at (shared_of t) was (level_at a s) ≡ true → SameLines a
+    spanned-lines stands h = go (arena_at a s.arenas) refl h
+      where
+        go : (o : Option Arena) → arena_at a s.arenas ≡ o
+            → is_covered_at (shared_of t) (known_of place (option_map (view_of s) o) (row a)) (option_map (λ (b : Arena). b.level) o) ≡ true → SameLines a
+        go None is h = absent-lines a stands is
+        go (Some x) is h = cover-lines whole a x (known_of place (Some (view_of s x)) (row a)) fine' (stands.arena ∙ is) refl (active-same a stands x is) refl h
+
+    -- an arena of which this is known, where it stood
+    record Tells (k : Known) : Type 0 where
+      tells : (y : Arena) → arena_at a t.arenas ≡ Some y → (request_of y.claim ≡ k.request) × (active t y.number ≡ k.active)
+      level : level_at a t ≡ level_at a s
+
+    -- its allotment is told
+    told-row : (k : Known) (y : Arena) (v : ℕ) → Tells k → arena_at a t.arenas ≡ Some y → allotment_of t y.number ≡ v
+        → (shared_row place k v (row a), known_in place k.request k.active (shared_row place k v (row a))) ≡ due a
+    told-row k y v h found is =
+        let n = h.tells y found in
+        let levels = ap (λ l. added place l (line_of most (level_at a) moments)) (sym h.level) ∙ line-next (level_at a) in
+        let request = line-told (shown (λ (w : ArenaView). w.request) a) k.request (shown-of (λ (w : ArenaView). w.request) a y found ∙ ap (λ m. Some m) n.0) in
+        let allot = line-told (shown (λ (w : ArenaView). w.allot) a) v (shown-of (λ (w : ArenaView). w.allot) a y found ∙ ap (λ m. Some m) is) in
+        let active_ = line-told (shown (λ (w : ArenaView). w.active) a) k.active (shown-of (λ (w : ArenaView). w.active) a y found ∙ ap (λ m. Some m) n.1) in
+        let recall = line-told (shown (λ (w : ArenaView). w.recall) a) (k.active - v) (shown-of (λ (w : ArenaView). w.recall) a y found ∙ (λ i. Some (n.1 i - is i))) in
+        let hire = line-told (shown (λ (w : ArenaView). w.hire) a) (v - k.active) (shown-of (λ (w : ArenaView). w.hire) a y found ∙ (λ i. Some (is i - n.1 i))) in
+        let same : shared_row place k v (row a) ≡ row' a =
+        λ i. record {
+          arena = a;
+          stands = sym h.level i;
+          level = levels i;
+          request = request i;
+          allot = allot i;
+          active = active_ i;
+          recall = recall i;
+          hire = hire i;
+        } in
+        let view : known_of place (Some (view_of t y)) (row' a) ≡ known_of place (view_at a t) (row' a) = ap (λ o. known_of place (option_map (view_of t) o) (row' a)) (sym found) in
+        (λ i. (same i, known_in place (sym n.0 i) (sym n.1 i) (same i))) ∙ (λ i. (row' a, view i))
+
+    settled : (k : Known) → Tells k → settled_row place t cmd reply (shared_of t) k (row a) ≡ due a
+    settled k h = told (share_told (shared_of t) k (level_at a s)) refl
+      where
+        given : ℕ → ℕ
+        given level = slice_index (shared_of t).given (level - 1)
+
+        asked : ℕ → ℕ
+        asked level = slice_index (shared_of t).asked (level - 1)
+
+        divided : (b : Bool) (o : Option ℕ) (v : ℕ) → cond b o None ≡ Some v → (b ≡ true) × (o ≡ Some v)
+        divided true o v is = (refl, is)
+        divided false o v is = absurd (cc)
+
+        at_level_of : (o : Option Arena) (v : ℕ) → arena_at a t.arenas ≡ o → share_told (shared_of t) k (option_map (λ (b : Arena). b.level) o) ≡ Some v
+            → told_row place t cmd reply k (row a) (Some v) ≡ due a
+        at_level_of None v found is = absurd (cc)
+        at_level_of (Some y) v found is =
+            let g = divided (is_divided (shared_of t) y.level) (exactly k.request (given y.level) (asked y.level)) v is in
+            let own = share whole a y fine' found (divides t y.level g.0) in
+            let own' = subst (λ r. IsShare r (given y.level) (asked y.level) (allotment_of t y.number)) (h.tells y found).0 own in
+            told-row k y v h found (exact-share k.request (given y.level) (asked y.level) (allotment_of t y.number) v own' g.1)
+
+        told : (o : Option ℕ) → share_told (shared_of t) k (level_at a s) ≡ o → told_row place t cmd reply k (row a) o ≡ due a
+        told None is = seen
+        told (Some v) is = at_level_of (arena_at a t.arenas) v refl (ap (share_told (shared_of t) k) h.level ∙ is)
+
+    -- ---- the arena that the entry is about
+
+    -- its request and its workers are told, and the column has all that it may be allotted
+    needing : (k : Known) (y : Arena) → Tells k → arena_at a t.arenas ≡ Some y → k ≡ known_in place k.request k.active (row a) → SameLines a → (needing_row place k (row a), k) ≡ due a
+    needing k y h found known lines =
+        let n = h.tells y found in
+        let levels = sym (line-same (level_at a) h.level) in
+        let request = line-told (shown (λ (w : ArenaView). w.request) a) k.request (shown-of (λ (w : ArenaView). w.request) a y found ∙ ap (λ m. Some m) n.0) in
+        let active_ = line-told (shown (λ (w : ArenaView). w.active) a) k.active (shown-of (λ (w : ArenaView). w.active) a y found ∙ ap (λ m. Some m) n.1) in
+        let same : needing_row place k (row a) ≡ row' a =
+        λ i. record {
+          arena = a;
+          stands = sym h.level i;
+          level = levels i;
+          request = request i;
+          allot = sym lines.allot i;
+          active = active_ i;
+          recall = sym lines.recall i;
+          hire = sym lines.hire i;
+        } in
+        let view : known_of place (Some (view_of t y)) (row' a) ≡ known_of place (view_at a t) (row' a) = ap (λ o. known_of place (option_map (view_of t) o) (row' a)) (sym found) in
+        let cover : k ≡ known_of place (Some (view_of t y)) (row' a) =
+        known
+        ∙ (λ i. record {
+          request = sym n.0 i;
+          active = sym n.1 i;
+          covered = covered (at (sym lines.allot i) place) (at (sym lines.recall i) place) (at (sym lines.hire i) place) (sym n.1 i);
+        }) in
+        (λ i. (same i, cover i)) ∙ (λ i. (row' a, view i))
+
+    own : is_just a (subject cmd reply) ≡ true → own_row place t cmd reply (shared_of t) (row a) (retold place cmd reply was (row a)) ≡ due a
+    own about = at_arena (arena_at a s.arenas) refl
+      where
+        -- the arena lived
+        living : (x : Arena) (k : Known) → arena_at a s.arenas ≡ Some x → Retold t a x.level place (row a) k
+            → cond (is_covered (shared_of t) k x.level) (needing_row place k (row a), k) (settled_row place t cmd reply (shared_of t) k (row a)) ≡ due a
+        living x k is r =
+            let level : level_at a t ≡ level_at a s =
+            ap (λ o. option_map (λ (b : Arena). b.level) o) r.found ∙ ap (λ l. Some l) r.stands ∙ sym (ap (λ o. option_map (λ (b : Arena). b.level) o) is) in
+            let number : r.arena.number ≡ a = found-number a t.arenas r.arena r.found in
+            let tells : Tells k =
+            record {
+              tells = λ y found.
+                  let both_ : Some r.arena ≡ Some y = sym r.found ∙ found in
+                  let same : r.arena ≡ y = cc in
+                  subst (λ (z : Arena). (request_of z.claim ≡ k.request) × (active t z.number ≡ k.active)) same (r.request, ap (active t) number ∙ r.active_is);
+              level = level;
+            } in
+            elim (cases_Bool (is_covered (shared_of t) k x.level)) [
+              | inl cover ↦
+                  let cover' : is_covered (shared_of t) k r.arena.level ≡ true = ap (is_covered (shared_of t) k) r.stands ∙ cover in
+                  let lines = cover-lines whole a r.arena k fine' r.found r.request (ap (active t) number ∙ r.active_is) r.known cover' in
+                  rw cover (needing k r.arena tells r.found r.known lines)
+              | inr other ↦ rw other (settled k tells)
+            ]
+
+        retold_or : (x : Arena) → arena_at a s.arenas ≡ Some x → (o : Option Known) → retold place cmd reply (known_of place (Some (view_of s x)) (row a)) (row a) ≡ o
+            → own_row place t cmd reply (shared_of t) (row a) o ≡ due a
+        retold_or x is None tells = seen
+        retold_or x is (Some k) tells =
+            let number : x.number ≡ a = found-number a s.arenas x is in
+            let tells' : retold place cmd reply (known_in place (request_of x.claim) (active s a) (row a)) (row a) ≡ Some k =
+            ap (λ n. retold place cmd reply (known_in place (request_of x.claim) (active s n) (row a)) (row a)) (sym number) ∙ tells in
+            let r = told-step s a place (row a) x is t seat cmd reply k answered about tells' in
+            ap (λ o. cond (is_covered_at (shared_of t) k o) (needing_row place k (row a), k) (settled_row place t cmd reply (shared_of t) k (row a))) (ap (λ o. option_map (λ (b : Arena). b.level) o) is)
+            ∙ living x k is r
+
+        -- no arena lived
+        absent : arena_at a s.arenas ≡ None → (o : Option Known) → own_row place t cmd reply (shared_of t) (row a) o ≡ due a
+        absent none None = seen
+        absent none (Some k) =
+            let nowhere : level_at a s ≡ None = ap (λ o. option_map (λ (b : Arena). b.level) o) none in
+            (λ i. cond (is_covered_at (shared_of t) k (nowhere i)) (needing_row place k (row a), k) (told_row place t cmd reply k (row a) (share_told (shared_of t) k (nowhere i)))) ∙ seen
+
+        at_arena : (o : Option Arena) → arena_at a s.arenas ≡ o → own_row place t cmd reply (shared_of t) (row a) (retold place cmd reply was (row a)) ≡ due a
+        at_arena None is = absent is (retold place cmd reply was (row a))
+        at_arena (Some x) is =
+            let known : was ≡ known_of place (Some (view_of s x)) (row a) = ap (λ o. known_of place (option_map (view_of s) o) (row a)) is in
+            ap (λ k. own_row place t cmd reply (shared_of t) (row a) (retold place cmd reply k (row a))) known
+            ∙ retold_or x is (retold place cmd reply (known_of place (Some (view_of s x)) (row a)) (row a)) refl
+
+    -- ---- any row
+
+    abbrev kept : List Bool
+    kept = kept_levels cmd (shared_of s) (shared_of t)
+
+    other : is_just a (subject cmd reply) ≡ false
+        → cond (stands_kept kept (level_at a s)) (row a, was)
+        (cond (is_covered_at (shared_of t) was (level_at a s)) (row a, was) (settled_row place t cmd reply (shared_of t) was (row a)))
+        ≡ due a
+    other apart =
+        let stands : Stands s t a = apart-stands s t seat a cmd reply answered apart in
+        let tells : Tells was =
+        record {
+          tells = λ y found.
+              let is : arena_at a s.arenas ≡ Some y = sym stands.arena ∙ found in
+              let known : known_of place (Some (view_of s y)) (row a) ≡ was = ap (λ o. known_of place (option_map (view_of s) o) (row a)) (sym is) in
+              (ap (λ (k : Known). k.request) known, active-same a stands y is ∙ ap (λ (k : Known). k.active) known);
+          level = ap (λ o. option_map (λ (b : Arena). b.level) o) stands.arena;
+        } in
+        let same : SameLines a → (row a, was) ≡ due a =
+        λ lines.
+        let rows = row-same a stands lines in
+        let known = known-same a stands rows in
+        λ i. (rows i, known i) in
+        elim (cases_Bool (stands_kept kept (level_at a s))) [
+          | inl held ↦ rw held (same (kept-lines stands apart held))
+          | inr not ↦
+              rw not
+              (elim (cases_Bool (is_covered_at (shared_of t) was (level_at a s))) [
+                | inl cover ↦ rw cover (same (spanned-lines stands cover))
+                | inr more ↦ rw more (settled was tells)
+              ])
+        ]
+
+    pub near-row : near_row place t cmd reply (shared_of t) kept (row a) was ≡ due a
+    near-row =
+        elim (cases_Bool (is_just a (subject cmd reply))) [
+          | inl about ↦ rw about (own about)
+          | inr apart ↦ rw apart (other apart)
+        ]

@@ -11,108 +11,195 @@ use Rattle.market_types.specs.Step.{step}
 use Rattle.journal_chart.specs.declared.row.Known.{Known}
 use Rattle.journal_chart.specs.declared.row.Row.{Row}
 use Rattle.journal_chart.specs.Columns.{width_of}
-use Rattle.journal_chart.specs.Numbers.{Charted, Drawn, chart_of, drawn_of, row_of, view_at}
-use Rattle.journal_chart.specs.Steps.{counted_chart, goes_on, halved_lines, halved_row, is_still, known_of, known_rows, near_chart, near_lines, near_row, near_rows, next_chart, pairwise, roomed_lines, taken_chart}
+use Rattle.journal_chart.specs.Numbers.{Drawn, chart_of, drawn_of, level_at, row_of, view_at}
+use Rattle.journal_chart.specs.Shares.{Shared, shared_of}
+use Rattle.journal_chart.specs.Steps.{Followed, counted_chart, first_chart, goes_on, halved_lines, halved_row, is_still, kept_levels, known_of, known_rows, moves_seat, near_chart, near_lines, near_row, near_rows, next_chart, now_shared, pairwise, roomed_lines, seen_row, stands_after, taken_row}
 use Rattle.journal_chart.proofs.Bounds.{Whole}
-use Rattle.journal_chart.proofs.Charts.{chart-taken, stood-after}
+use Rattle.journal_chart.proofs.Charts.{chart-taken, readied-row, stood-after}
 use Rattle.journal_chart.proofs.Kept.{Fine}
-use Rattle.journal_chart.proofs.Near.{line-next, near-row}
-use Rattle.journal_chart.proofs.Still.{GoesOn, chart-still, goes-on, stays-so}
+use Rattle.journal_chart.proofs.Near.{even-step, line-next, near-row}
+use Rattle.journal_chart.proofs.Still.{GoesOn, chart-still, goes-on, row-still, stays-so}
 
--- what is known of arenas
-abbrev pub known_at : State → List ℕ → List Known
-known_at s arenas = map (λ a. known_of (view_at a s)) arenas
+-- the column of the last of some moments more than so many
+abbrev pub place_of : ℕ → ℕ → ℕ
+place_of most n = n / width_of most (suc n)
 
--- no moment was taken, or the last of them is of the market as it is, and what is known is of it too
-abbrev pub Knows : State → List ℕ → List State → List Known → Type 0
-Knows s arenas moments ks = (moments ≡ []) ⊎ ((before : List State) × ((moments ≡ before ++ s ∷ []) × (ks ≡ known_at s arenas)))
+-- what is known of arenas at the last of these moments
+abbrev pub known_at : ℕ → List State → State → List ℕ → List Known
+known_at most before s arenas = map (λ a. known_of (place_of most (length before)) (view_at a s) (row_of most (before ++ s ∷ []) s a)) arenas
 
--- a chart, and what is known of its arenas
-abbrev pub known_chart : ℕ → List ℕ → List State → State → Charted × List Known
-known_chart most arenas moments s = (chart_of most arenas moments s, known_at s arenas)
+-- no moment was taken, or the last of them is of the market as it is, and what is known and given is of it too
+abbrev pub Knows : ℕ → State → List ℕ → List State → List Known → Shared → Type 0
+Knows most s arenas moments ks given = (moments ≡ []) ⊎ ((before : List State) × ((moments ≡ before ++ s ∷ []) × ((ks ≡ known_at most before s arenas) × (given ≡ shared_of s))))
 
-rows-known : (most : ℕ) (moments : List State) (s t : State) (arenas : List ℕ) → known_rows t (map (row_of most moments s) arenas) ≡ known_at t arenas
-rows-known most moments s t [] = refl
-rows-known most moments s t (a ∷ arenas) = ap (λ ks. known_of (view_at a t) ∷ ks) (rows-known most moments s t arenas)
+-- a chart with the moment of the market as it is, what is known of its arenas, and what its levels are given
+abbrev pub followed_chart : ℕ → List ℕ → List State → State → Followed
+followed_chart most arenas moments s =
+    record { chart = chart_of most arenas (moments ++ s ∷ []) s; known = known_at most moments s arenas; shares = shared_of s }
 
-halved-known : (t : State) (rows : List Row) → known_rows t (map halved_row rows) ≡ known_rows t rows
-halved-known t [] = refl
-halved-known t (r ∷ rows) = ap (λ ks. known_of (view_at r.arena t) ∷ ks) (halved-known t rows)
+-- ---- the first moment of a column
 
-roomed-known : (b : Bool) (d : Drawn) (t : State) → known_rows t (cond b (halved_lines d) d).rows ≡ known_rows t d.rows
-roomed-known true d t = halved-known t d.rows
-roomed-known false d t = refl
+module _ (most : ℕ) (moments : List State) (s t : State) (seat : ℕ) (cmd : Cmd) (reply : Reply) (some : 0 < most) (answered : step s seat cmd ≡ (reply, t)) where
+  abbrev column : ℕ
+  column = length moments / width_of most (suc (length moments))
+
+  first-known : (a : ℕ) (r : Row) → taken_row column t cmd reply r ≡ row_of most (moments ++ t ∷ []) t a → r.arena ≡ a
+      → (seen_row column t cmd reply r).1 ≡ known_of column (view_at a t) (row_of most (moments ++ t ∷ []) t a)
+  first-known a r taken number = λ i. known_of column (view_at (number i) t) (taken i)
+
+  rows-whole : nat_le (most * width_of most (length moments)) (length moments) ≡ false → (arenas : List ℕ)
+      → known_rows column t cmd reply (map (row_of most moments s) arenas) ≡ known_at most moments t arenas
+  rows-whole full [] = refl
+  rows-whole full (a ∷ arenas) =
+      let taken = readied-row false most moments s t a (stands_after a (level_at a s) cmd reply) some full (stood-after s t seat cmd reply answered a) in
+      let first = first-known a (row_of most moments s a) taken refl in
+      let more = rows-whole full arenas in
+      λ i. first i ∷ more i
+
+  rows-halved : nat_le (most * width_of most (length moments)) (length moments) ≡ true → (arenas : List ℕ)
+      → known_rows column t cmd reply (map halved_row (map (row_of most moments s) arenas)) ≡ known_at most moments t arenas
+  rows-halved full [] = refl
+  rows-halved full (a ∷ arenas) =
+      let taken = readied-row true most moments s t a (stands_after a (level_at a s) cmd reply) some full (stood-after s t seat cmd reply answered a) in
+      let first = first-known a (halved_row (row_of most moments s a)) taken refl in
+      let more = rows-halved full arenas in
+      λ i. first i ∷ more i
+
+  rows-roomed : (b : Bool) → nat_le (most * width_of most (length moments)) (length moments) ≡ b → (arenas : List ℕ)
+      → known_rows column t cmd reply (cond b (halved_lines (drawn_of most arenas moments s)) (drawn_of most arenas moments s)).rows ≡ known_at most moments t arenas
+  rows-roomed true full arenas = rows-halved full arenas
+  rows-roomed false full arenas = rows-whole full arenas
+
+  chart-first : (arenas : List ℕ) → first_chart t cmd reply (chart_of most arenas moments s) ≡ followed_chart most arenas moments t
+  chart-first arenas =
+      let next : length moments + 1 ≡ suc (length moments) = omega arith in
+      let where_ : length moments / width_of most (length moments + 1) ≡ column = ap (λ k. length moments / width_of most k) next in
+      let chart = chart-taken most arenas moments s t seat cmd reply some answered in
+      let known =
+      ap (λ p. known_rows p t cmd reply (roomed_lines (chart_of most arenas moments s)).rows) where_
+      ∙ rows-roomed (nat_le (most * width_of most (length moments)) (length moments)) refl arenas in
+      λ i. record { chart = chart i; known = known i; shares = shared_of t }
+
+-- ---- a moment in the column of the last
 
 module _ (whole : Whole) (most : ℕ) (before : List State) (s t : State) (seat : ℕ) (cmd : Cmd) (reply : Reply) (some : 0 < most) (on : GoesOn most (length before))
-    (answered : step s seat cmd ≡ (reply, t)) (fine : Fine t) where
+    (answered : step s seat cmd ≡ (reply, t)) (fine : Fine s) (fine' : Fine t) where
   abbrev moments : List State
   moments = before ++ s ∷ []
 
   abbrev place : ℕ
   place = length moments / width_of most (suc (length moments))
 
-  rows-near : (arenas : List ℕ) → near_rows place t cmd reply (map (row_of most moments s) arenas) (known_at s arenas) ≡ (map (row_of most (moments ++ t ∷ []) t) arenas, known_at t arenas)
+  -- it is the column of the last
+  pub same-place : place ≡ place_of most (length before)
+  same-place =
+      let n : ℕ = length before in
+      let count : length moments ≡ suc n = omega (arith, length_push before s) in
+      ap (λ k. k / width_of most (suc k)) count ∙ ap (λ v. suc n / v) on.wide ∙ on.here
+
+  -- what is given after a command
+  given-now : now_shared cmd t (shared_of s) ≡ shared_of t
+  given-now = go (moves_seat cmd) refl
+    where
+      go : (b : Bool) → moves_seat cmd ≡ b → cond b (shared_of s) (shared_of t) ≡ shared_of t
+      go true moves = sym (even-step s t seat cmd reply answered moves).shares
+      go false moves = refl
+
+  rows-near : (arenas : List ℕ)
+      → pairwise (near_row place t cmd reply (shared_of t) (kept_levels cmd (shared_of s) (shared_of t))) (map (row_of most moments s) arenas) (map (λ a. known_of place (view_at a s) (row_of most moments s a)) arenas)
+      ≡ (map (row_of most (moments ++ t ∷ []) t) arenas, map (λ a. known_of place (view_at a t) (row_of most (moments ++ t ∷ []) t a)) arenas)
   rows-near [] = refl
   rows-near (a ∷ arenas) =
-      let first = near-row most before s t some on whole a seat cmd reply answered fine (stood-after s t seat cmd reply answered a) in
+      let first = near-row most before s t some on whole seat cmd reply answered fine fine' a (stood-after s t seat cmd reply answered a) in
       let more = rows-near arenas in
       λ i. ((first i).0 ∷ (more i).0, (first i).1 ∷ (more i).1)
 
-  chart-near : (arenas : List ℕ) → near_chart t cmd reply (chart_of most arenas moments s) (known_at s arenas) ≡ known_chart most arenas (moments ++ t ∷ []) t
+  -- of the rows at the last moment
+  rows-next : (arenas : List ℕ) → near_rows place t cmd reply (shared_of s) (map (row_of most moments s) arenas) (known_at most before s arenas)
+      ≡ (map (row_of most (moments ++ t ∷ []) t) arenas, known_at most moments t arenas)
+  rows-next arenas =
+      (λ i.
+      pairwise (near_row place t cmd reply (given-now i) (kept_levels cmd (shared_of s) (given-now i))) (map (row_of most moments s) arenas)
+      (map (λ a. known_of (sym same-place i) (view_at a s) (row_of most moments s a)) arenas))
+      ∙ rows-near arenas
+
+  chart-near : (arenas : List ℕ) → near_chart t cmd reply (followed_chart most arenas before s) ≡ followed_chart most arenas moments t
   chart-near arenas =
       let next : length moments + 1 ≡ suc (length moments) = omega arith in
       let where_ : length moments / width_of most (length moments + 1) ≡ place = ap (λ k. length moments / width_of most k) next in
       let count : length moments + 1 ≡ length (moments ++ t ∷ []) = omega (arith, length_push moments t) in
       let limit = line-next most before s t some on (λ u. Some (limit_of u)) in
       let effective = line-next most before s t some on (λ u. Some (effective_limit_of u)) in
-      let rows = rows-near arenas in
-      (λ i. (
-        record {
-          most = most;
-          moments = length moments + 1;
-          lines = near_lines (where_ i) t cmd reply (known_at s arenas) (drawn_of most arenas moments s);
-        },
-        (near_rows (where_ i) t cmd reply (map (row_of most moments s) arenas) (known_at s arenas)).1,
-      ))
-      ∙ (λ i. (record { most = most; moments = count i; lines = record { limit = limit i; effective = effective i; rows = (rows i).0 } }, (rows i).1))
+      let rows = rows-next arenas in
+      (λ i. record {
+        chart =
+            record {
+              most = most;
+              moments = length moments + 1;
+              lines = near_lines (where_ i) t cmd reply (shared_of s) (known_at most before s arenas) (drawn_of most arenas moments s);
+            };
+        known = (near_rows (where_ i) t cmd reply (shared_of s) (map (row_of most moments s) arenas) (known_at most before s arenas)).1;
+        shares = given-now i;
+      })
+      ∙ (λ i. record {
+        chart = record { most = most; moments = count i; lines = record { limit = limit i; effective = effective i; rows = (rows i).0 } };
+        known = (rows i).1;
+        shares = shared_of t;
+      })
 
--- a moment more, in each way
-pub next-known : (whole : Whole) (most : ℕ) (arenas : List ℕ) (moments : List State) (s t : State) (seat : ℕ) (cmd : Cmd) (reply : Reply) (ks : List Known) → 0 < most
-    → step s seat cmd ≡ (reply, t) → Fine t → Knows s arenas moments ks
-    → next_chart t cmd reply (chart_of most arenas moments s) ks ≡ known_chart most arenas (moments ++ t ∷ []) t
-next-known whole most arenas moments s t seat cmd reply ks some answered fine knows = go (goes_on (chart_of most arenas moments s)) refl (is_still reply) refl knows
+-- ---- a moment more, in each way
+
+-- what is known of a market that is as it was
+known-still : (most : ℕ) (before : List State) (s : State) (arenas : List ℕ) → 0 < most → GoesOn most (length before) → known_at most before s arenas ≡ known_at most (before ++ s ∷ []) s arenas
+known-still most before s [] some on = refl
+known-still most before s (a ∷ arenas) some on =
+    let n : ℕ = length before in
+    let count : length (before ++ s ∷ []) ≡ suc n = omega (arith, length_push before s) in
+    let place : place_of most (length (before ++ s ∷ [])) ≡ place_of most n = ap (λ k. k / width_of most (suc k)) count ∙ ap (λ v. suc n / v) on.wide ∙ on.here in
+    let row = row-still most before s some on a in
+    let more = known-still most before s arenas some on in
+    λ i. known_of (sym place i) (view_at a s) (sym row i) ∷ more i
+
+goes-from : (most : ℕ) (arenas : List ℕ) (before : List State) (s : State) → 0 < most → goes_on (chart_of most arenas (before ++ s ∷ []) s) ≡ true → GoesOn most (length before)
+goes-from most arenas before s some goes =
+    let count : length (before ++ s ∷ []) ≡ suc (length before) = omega (arith, length_push before s) in
+    let goes' : nat_lt 0 (suc (length before) % width_of most (suc (length before))) ≡ true = ap (λ n. nat_lt 0 (n % width_of most n)) (sym count) ∙ goes in
+    let within : 0 < suc (length before) % width_of most (suc (length before)) = grind (arith, nat_tests) in
+    goes-on most (length before) some within
+
+pub next-known : (whole : Whole) (most : ℕ) (arenas : List ℕ) (moments : List State) (s t : State) (seat : ℕ) (cmd : Cmd) (reply : Reply) (ks : List Known) (given : Shared) → 0 < most
+    → step s seat cmd ≡ (reply, t) → Fine s → Fine t → Knows most s arenas moments ks given
+    → next_chart t cmd reply (record { chart = chart_of most arenas moments s; known = ks; shares = given }) ≡ followed_chart most arenas moments t
+next-known whole most arenas moments s t seat cmd reply ks given some answered fine fine' knows = go (goes_on (chart_of most arenas moments s)) refl (is_still reply) refl knows
   where
-    due : Charted × List Known
-    due = known_chart most arenas (moments ++ t ∷ []) t
+    followed : Followed
+    followed = record { chart = chart_of most arenas moments s; known = ks; shares = given }
 
-    first : (taken_chart t cmd reply (chart_of most arenas moments s), known_rows t (roomed_lines (chart_of most arenas moments s)).rows) ≡ due
-    first =
-        let chart = chart-taken most arenas moments s t seat cmd reply some answered in
-        let known = roomed-known (nat_le (most * width_of most (length moments)) (length moments)) (drawn_of most arenas moments s) t ∙ rows-known most moments s t arenas in
-        λ i. (chart i, known i)
-
-    go : (on : Bool) → goes_on (chart_of most arenas moments s) ≡ on → (still : Bool) → is_still reply ≡ still → Knows s arenas moments ks
-        → cond on (cond still (counted_chart (chart_of most arenas moments s), ks) (near_chart t cmd reply (chart_of most arenas moments s) ks))
-        (taken_chart t cmd reply (chart_of most arenas moments s), known_rows t (roomed_lines (chart_of most arenas moments s)).rows) ≡ due
-    go false off still is k = first
+    go : (on : Bool) → goes_on (chart_of most arenas moments s) ≡ on → (still : Bool) → is_still reply ≡ still → Knows most s arenas moments ks given
+        → cond on (cond still (record followed { chart = counted_chart (chart_of most arenas moments s) }) (near_chart t cmd reply followed)) (first_chart t cmd reply (chart_of most arenas moments s))
+        ≡ followed_chart most arenas moments t
+    go false off still is k = chart-first most moments s t seat cmd reply some answered arenas
     go true on still is (inl none) =
         let bad : goes_on (chart_of most arenas [] s) ≡ true = ap (λ ms. goes_on (chart_of most arenas ms s)) (sym none) ∙ on in
         absurd (true≢false (sym bad))
     go true on true is (inr k) =
         let ends : moments ≡ k.0 ++ s ∷ [] = k.1.0 in
         let goes : goes_on (chart_of most arenas (k.0 ++ s ∷ []) s) ≡ true = ap (λ ms. goes_on (chart_of most arenas ms s)) (sym ends) ∙ on in
+        let still_ : t ≡ s = stays-so s t seat cmd reply answered is in
         let chart = ap (λ ms. counted_chart (chart_of most arenas ms s)) ends ∙ chart-still most arenas k.0 s t seat cmd reply some answered is goes ∙ ap (λ ms. chart_of most arenas (ms ++ t ∷ []) t) (sym ends) in
-        let known : ks ≡ known_at t arenas = k.1.1 ∙ ap (λ u. known_at u arenas) (sym (stays-so s t seat cmd reply answered is)) in
-        λ i. (chart i, known i)
+        let known : ks ≡ known_at most moments t arenas =
+        k.1.1.0
+        ∙ known-still most k.0 s arenas some (goes-from most arenas k.0 s some goes)
+        ∙ (λ i. known_at most (sym ends i) (sym still_ i) arenas) in
+        let shares : given ≡ shared_of t = k.1.1.1 ∙ ap shared_of (sym still_) in
+        λ i. record { chart = chart i; known = known i; shares = shares i }
     go true on false is (inr k) =
         let ends : moments ≡ k.0 ++ s ∷ [] = k.1.0 in
         let goes : goes_on (chart_of most arenas (k.0 ++ s ∷ []) s) ≡ true = ap (λ ms. goes_on (chart_of most arenas ms s)) (sym ends) ∙ on in
-        let count : length (k.0 ++ s ∷ []) ≡ suc (length k.0) = omega (arith, length_push k.0 s) in
-        let goes' : nat_lt 0 (suc (length k.0) % width_of most (suc (length k.0))) ≡ true = ap (λ n. nat_lt 0 (n % width_of most n)) (sym count) ∙ goes in
-        let within : 0 < suc (length k.0) % width_of most (suc (length k.0)) = grind (arith, nat_tests) in
-        (λ i. near_chart t cmd reply (chart_of most arenas (ends i) s) (k.1.1 i))
-        ∙ chart-near whole most k.0 s t seat cmd reply some (goes-on most (length k.0) some within) answered fine arenas
-        ∙ ap (λ ms. known_chart most arenas (ms ++ t ∷ []) t) (sym ends)
+        let near = chart-near whole most k.0 s t seat cmd reply some (goes-from most arenas k.0 s some goes) answered fine fine' arenas in
+        (λ i. near_chart t cmd reply (record { chart = chart_of most arenas (ends i) s; known = k.1.1.0 i; shares = k.1.1.1 i }))
+        ∙ near
+        ∙ ap (λ ms. followed_chart most arenas ms t) (sym ends)
 
 -- ---- as many are known as there are rows
 
@@ -130,21 +217,21 @@ pair-rows f (x ∷ xs) [] = refl
 pair-rows f (x ∷ xs) (y ∷ ys) = ap (λ n. suc n) (pair-rows f xs ys)
 
 -- a chart that takes a moment has as many rows as before, and a moment more
-pub record IsMore (s : State) (cmd : Cmd) (reply : Reply) (c : Charted) (ks : List Known) : Type 0 where
-  pub rows : length (next_chart s cmd reply c ks).0.lines.rows ≡ length c.lines.rows
-  pub moments : (next_chart s cmd reply c ks).0.moments ≡ c.moments + 1
+pub record IsMore (s : State) (cmd : Cmd) (reply : Reply) (f : Followed) : Type 0 where
+  pub rows : length (next_chart s cmd reply f).chart.lines.rows ≡ length f.chart.lines.rows
+  pub moments : (next_chart s cmd reply f).chart.moments ≡ f.chart.moments + 1
 
-pub next-more : (s : State) (cmd : Cmd) (reply : Reply) (c : Charted) (ks : List Known) → IsMore s cmd reply c ks
-next-more s cmd reply c ks = record { rows = rows (goes_on c) (is_still reply); moments = moments (goes_on c) (is_still reply) }
+pub next-more : (s : State) (cmd : Cmd) (reply : Reply) (f : Followed) → IsMore s cmd reply f
+next-more s cmd reply f = record { rows = rows (goes_on f.chart) (is_still reply); moments = moments (goes_on f.chart) (is_still reply) }
   where
     rows : (on still : Bool)
-        → length (cond on (cond still (counted_chart c, ks) (near_chart s cmd reply c ks)) (taken_chart s cmd reply c, known_rows s (roomed_lines c).rows)).0.lines.rows ≡ length c.lines.rows
-    rows false still = length-map (roomed_lines c).rows _ ∙ roomed-if (nat_le (c.most * width_of c.most c.moments) c.moments) c.lines
+        → length (cond on (cond still (record f { chart = counted_chart f.chart }) (near_chart s cmd reply f)) (first_chart s cmd reply f.chart)).chart.lines.rows ≡ length f.chart.lines.rows
+    rows false still = length-map (roomed_lines f.chart).rows _ ∙ roomed-if (nat_le (f.chart.most * width_of f.chart.most f.chart.moments) f.chart.moments) f.chart.lines
     rows true true = refl
-    rows true false = pair-rows (near_row (c.moments / width_of c.most (c.moments + 1)) s cmd reply) c.lines.rows ks
+    rows true false =
+        pair-rows (near_row (f.chart.moments / width_of f.chart.most (f.chart.moments + 1)) s cmd reply (now_shared cmd s f.shares) (kept_levels cmd f.shares (now_shared cmd s f.shares))) f.chart.lines.rows f.known
 
-    moments : (on still : Bool)
-        → (cond on (cond still (counted_chart c, ks) (near_chart s cmd reply c ks)) (taken_chart s cmd reply c, known_rows s (roomed_lines c).rows)).0.moments ≡ c.moments + 1
+    moments : (on still : Bool) → (cond on (cond still (record f { chart = counted_chart f.chart }) (near_chart s cmd reply f)) (first_chart s cmd reply f.chart)).chart.moments ≡ f.chart.moments + 1
     moments false still = refl
     moments true true = refl
     moments true false = refl

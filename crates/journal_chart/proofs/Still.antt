@@ -207,7 +207,7 @@ module _ (most : ℕ) (before : List State) (s : State) (some : 0 < most) (on : 
       ∙ added-twice (n / w) (number s) _
       ∙ first
 
-  row-still : (a : ℕ) → row_of most (moments ++ s ∷ []) s a ≡ row_of most moments s a
+  pub row-still : (a : ℕ) → row_of most (moments ++ s ∷ []) s a ≡ row_of most moments s a
   row-still a =
       let level = line-still (level_at a) in
       let request = line-still (shown (λ (v : ArenaView). v.request) a) in

@@ -1,7 +1,7 @@
 pub mod Columns
+pub mod Covering
 pub mod Journals
 pub mod Lines
-pub mod Nearby
 pub mod Numbers
 pub mod Picture
 pub mod Shares

@@ -1,23 +1,30 @@
--- Between which numbers the allotment of an arena lies, by what its level is given of what it asks for.
-use Rattle.std.specs.Prelude.{◌≡◌, ℕ, ◌+◌, ◌-◌, ◌*◌, ◌/◌, ◌≤◌, ◌==◌, ◌||◌, if◌then◌else◌, slice_index}
+-- What the levels of a market are given of what they ask for. Private functions alone cite these words.
+use Rattle.std.specs.Prelude.{ℕ, ◌+◌, ◌*◌, ◌≤◌, nat_lt, if◌then◌else◌, List, [], ◌∷◌, replicate, slice_index}
 use Rattle.market_types.specs.State.{State}
-use Rattle.market_types.specs.Allotment.{assigned, demand}
-use Rattle.journal_chart.specs.declared.shares.Shares.{Shares}
+use Rattle.market_types.specs.Allotment.{assigned_to, demand, effective_limit_of, limit_of}
 
--- the least and the most that an arena is allotted which asks for so many workers: the two lie at most 1 apart
-abbrev pub least_share : ℕ → ℕ → ℕ → ℕ
-least_share request given asked = if (request == 0) || (given == 0) then 0 else if given == asked then request else request * given / asked
-
-abbrev pub most_share : ℕ → ℕ → ℕ → ℕ
-most_share request given asked = if (request == 0) || (given == 0) then 0 else if given == asked then request else request * given / asked + 1
+-- how many workers may be active, and in places for eight levels what each is given and what it asks for
+pub record Shared : Type 0 where
+  pub limit : ℕ
+  pub given : List ℕ
+  pub asked : List ℕ
 
 -- no level is given more than it asks for, and none asks for more than all arenas can
-pub record AreFew (shares : Shares) : Type 0 where
-  pub within : (place : ℕ) → slice_index shares.given place ≤ slice_index shares.asked place
-  pub small : (place : ℕ) → slice_index shares.asked place ≤ 1024 * 65535
+pub record AreFew (given asked : List ℕ) : Type 0 where
+  pub within : (place : ℕ) → slice_index given place ≤ slice_index asked place
+  pub small : (place : ℕ) → slice_index asked place ≤ 1024 * 65535
 
--- what the levels of a market are given, and what they ask for
-pub record AreSharesOf (s : State) (shares : Shares) : Type 0 where
-  pub levels : shares.levels ≡ s.levels
-  pub given : (level : ℕ) → 1 ≤ level → level ≤ s.levels → slice_index shares.given (level - 1) ≡ assigned s level
-  pub asked : (level : ℕ) → 1 ≤ level → level ≤ s.levels → slice_index shares.asked (level - 1) ≡ demand s level
+-- those of no market
+abbrev pub no_shares : Shared
+no_shares = record { limit = 0; given = replicate 8 0; asked = replicate 8 0 }
+
+-- what the level at a place asks for, and 0 above the levels of a market
+abbrev pub asked_at : State → ℕ → ℕ
+asked_at s place = if nat_lt place s.levels then demand s (place + 1) else 0
+
+abbrev pub all_asked : State → List ℕ
+all_asked s = asked_at s 0 ∷ asked_at s 1 ∷ asked_at s 2 ∷ asked_at s 3 ∷ asked_at s 4 ∷ asked_at s 5 ∷ asked_at s 6 ∷ asked_at s 7 ∷ []
+
+-- those of a market
+abbrev pub shared_of : State → Shared
+shared_of s = record { limit = limit_of s; given = assigned_to (all_asked s) (effective_limit_of s); asked = all_asked s }

@@ -1,18 +1,18 @@
 -- What the code does to the lines of a chart, moment by moment. What it comes to is in Numbers.
-use Rattle.std.specs.Prelude.{ℕ, ◌+◌, ◌*◌, ◌/◌, ◌%◌, ◌==◌, ◌&&◌, ◌||◌, ◌-◌, Bool, true, false, nat_le, nat_lt, if◌then◌else◌, List, [], ◌∷◌, map, replicate, Option, Some, None}
+use Rattle.std.specs.Prelude.{ℕ, ◌+◌, ◌*◌, ◌/◌, ◌%◌, ◌==◌, ◌&&◌, ◌||◌, ◌-◌, Bool, true, false, nat_le, nat_lt, if◌then◌else◌, List, [], ◌∷◌, get_or, map, replicate, slice_index, Option, Some, None}
 use Rattle.std.specs.Option.{option_map}
 use Rattle.market_types.specs.declared.command.Cmd.{Cmd}
 use Rattle.market_types.specs.declared.command.Cmd.TheVariants.{Open, Close, Priority, Resize, Request, Join, Stay, Leave}
 use Rattle.market_types.specs.declared.reply.ArenaView.{ArenaView}
 use Rattle.market_types.specs.declared.reply.Reply.{Reply}
-use Rattle.market_types.specs.declared.reply.Reply.TheVariants.{Opened, Closed, Moved, Placed, Recalled, Left, Idle, Stays, Shown, Listed, Limits, Refused}
+use Rattle.market_types.specs.declared.reply.Reply.TheVariants.{Opened, Closed, Moved, Resized, Requested, Placed, Recalled, Left, Idle, Stays, Shown, Listed, Limits, Refused}
 use Rattle.market_types.specs.State.{State}
-use Rattle.market_types.specs.Allotment.{assigned, demand, effective_limit_of, is_just, limit_of}
+use Rattle.market_types.specs.Allotment.{effective_limit_of, is_just, limit_of}
 use Rattle.journal_chart.specs.declared.row.Row.{Row}
 use Rattle.journal_chart.specs.declared.row.Known.{Known}
-use Rattle.journal_chart.specs.declared.span.Span.{Span}
 use Rattle.journal_chart.specs.Lines.{added, at, halved}
-use Rattle.journal_chart.specs.Shares.{least_share, most_share}
+use Rattle.journal_chart.specs.Covering.{covered, covers, exactly, none_covered}
+use Rattle.journal_chart.specs.Shares.{Shared, shared_of}
 use Rattle.journal_chart.specs.Columns.{width_of}
 use Rattle.journal_chart.specs.Numbers.{Charted, Drawn, view_at}
 
@@ -112,44 +112,137 @@ taken_row place s cmd reply r =
 abbrev pub passed_row : Cmd → Reply → Row → Row
 passed_row cmd reply r = record r { stands = stands_after r.arena r.stands cmd reply }
 
--- ---- a row to which a moment adds nothing
+-- ---- what is known of an arena between two moments
 
--- what is known of an arena that was seen so
-abbrev pub known_of : Option ArenaView → Known
-known_of None = record { request = 0; active = 0 }
-known_of (Some v) = record { request = v.request; active = v.active }
+-- what is known of an arena that asks for so many workers and has so many, and whose column of the last moment is at this place
+abbrev pub known_in : ℕ → ℕ → ℕ → Row → Known
+known_in place request active r =
+    record {
+      request = request;
+      active = active;
+      covered = covered (at r.allot place) (at r.recall place) (at r.hire place) active;
+    }
 
--- a column spans all numbers from one to another
-abbrev pub spans : ℕ → ℕ → Option Span → Bool
-spans least most None = false
-spans least most (Some s) = nat_le s.least least && nat_le most s.most
+-- the same of an arena that is seen so
+abbrev pub seen_number : (ArenaView → ℕ) → Option ArenaView → ℕ
+seen_number number None = 0
+seen_number number (Some v) = number v
 
--- a column has the recalls and the hires too of an arena that is allotted what lies between two numbers
-abbrev pub has_between : ℕ → ℕ → ℕ → ℕ → Row → Bool
-has_between place least most active r =
-    spans least most (at r.allot place) && (spans (active - most) (active - least) (at r.recall place) && spans (least - active) (most - active) (at r.hire place))
+abbrev pub known_of : ℕ → Option ArenaView → Row → Known
+known_of place view r = known_in place (seen_number (λ (v : ArenaView). v.request) view) (seen_number (λ (v : ArenaView). v.active) view) r
 
--- a column has what an arena may be allotted at its level, of which this is known
-abbrev pub has_share : ℕ → State → Known → Row → Option ℕ → Bool
-has_share place s k r None = true
-has_share place s k r (Some level) =
-    (nat_le 1 level && nat_le level s.levels)
-    && has_between place (least_share k.request (assigned s level) (demand s level)) (most_share k.request (assigned s level) (demand s level)) k.active r
+-- before it is looked at
+abbrev pub nothing_known : Known
+nothing_known = record { request = 0; active = 0; covered = none_covered }
 
--- the moment after a command on another arena adds nothing to a column, which has the moment before
-abbrev pub is_held : ℕ → State → Cmd → Known → Row → Bool
-is_held place s cmd k r = moves_seat cmd || (nat_lt 0 (limit_of s) && has_share place s k r r.stands)
+-- what is known after an entry that is about the arena, where its reply tells that
+abbrev pub requested : Reply → Known → Option Known
+requested (Requested n) k = Some (record k { request = n })
+requested (Resized n) k = Some (record k { request = n })
+requested _ k = None
+
+abbrev pub unplaced : ℕ → Reply → Known → Row → Option Known
+unplaced place (Recalled a) k r = Some (known_in place k.request (k.active - 1) r)
+unplaced place (Left a) k r = Some (known_in place k.request (k.active - 1) r)
+unplaced place _ k r = None
+
+abbrev pub retold : ℕ → Cmd → Reply → Known → Row → Option Known
+retold place (Resize a slots reserved) reply k r = requested reply k
+retold place (Request a workers mandatory) reply k r = requested reply k
+retold place Stay reply k r = unplaced place reply k r
+retold place Leave reply k r = unplaced place reply k r
+retold place _ reply k r = None
+
+-- ---- a row at a moment in the column of the last
+
+-- the arenas stand in the order in which they stood
+abbrev pub keeps_order : Cmd → Bool
+keeps_order (Priority a level) = false
+keeps_order _ = true
+
+-- what levels are given says what their arenas are allotted: some worker may be active; and a level is one of 8
+abbrev pub is_divided : Shared → ℕ → Bool
+is_divided now level = nat_lt 0 now.limit && (nat_le 1 level && nat_le level 8)
+
+-- the arenas of a level are allotted what they were, but for the one that the entry is about: at most a seat has moved, or the level is
+-- given what it was of what it asked for
+abbrev pub is_same_share : Shared → Shared → ℕ → Bool
+is_same_share was now level =
+    (is_divided was level && is_divided now level)
+    && ((slice_index was.given (level - 1) == slice_index now.given (level - 1)) && (slice_index was.asked (level - 1) == slice_index now.asked (level - 1)))
+
+abbrev pub is_kept : Cmd → Shared → Shared → ℕ → Bool
+is_kept cmd was now level = moves_seat cmd || (keeps_order cmd && is_same_share was now level)
+
+-- so for each of eight levels
+abbrev pub kept_levels : Cmd → Shared → Shared → List Bool
+kept_levels cmd was now =
+    is_kept cmd was now 1 ∷ is_kept cmd was now 2 ∷ is_kept cmd was now 3 ∷ is_kept cmd was now 4 ∷ is_kept cmd was now 5 ∷ is_kept cmd was now 6
+    ∷ is_kept cmd was now 7 ∷ is_kept cmd was now 8 ∷ []
+
+-- an arena that stands at such a level, or at none, is allotted what it was
+abbrev pub stands_kept : List Bool → Option ℕ → Bool
+stands_kept kept None = true
+stands_kept kept (Some level) = nat_le 1 level && get_or kept (level - 1) false
+
+-- a column has all that an arena of a level may be allotted, of which this is known
+abbrev pub is_covered : Shared → Known → ℕ → Bool
+is_covered now k level = is_divided now level && covers k.covered k.request (slice_index now.given (level - 1)) (slice_index now.asked (level - 1))
+
+-- what an arena is allotted, where it is told by what its level is given
+abbrev pub share_told : Shared → Known → Option ℕ → Option ℕ
+share_told now k None = None
+share_told now k (Some level) = if is_divided now level then exactly k.request (slice_index now.given (level - 1)) (slice_index now.asked (level - 1)) else None
+
+-- in a column what an arena asks for and has
+abbrev pub needing_row : ℕ → Known → Row → Row
+needing_row place k r = record r { request = added place (Some k.request) r.request; active = added place (Some k.active) r.active }
+
+-- and its level, and what it is allotted
+abbrev pub shared_row : ℕ → Known → ℕ → Row → Row
+shared_row place k allot r =
+    record r {
+      level = added place r.stands r.level;
+      request = added place (Some k.request) r.request;
+      allot = added place (Some allot) r.allot;
+      active = added place (Some k.active) r.active;
+      recall = added place (Some (k.active - allot)) r.recall;
+      hire = added place (Some (allot - k.active)) r.hire;
+    }
 
 -- a row that takes a moment, and what is then known of its arena
 abbrev pub seen_row : ℕ → State → Cmd → Reply → Row → Row × Known
-seen_row place s cmd reply r = (taken_row place s cmd reply r, known_of (view_at r.arena s))
+seen_row place s cmd reply r = (taken_row place s cmd reply r, known_of place (view_at r.arena s) (taken_row place s cmd reply r))
 
--- the same, of a row that has the moment before in the same column
-abbrev pub near_row : ℕ → State → Cmd → Reply → Row → Known → Row × Known
-near_row place s cmd reply r k =
-    if is_just r.arena (subject cmd reply) then seen_row place s cmd reply r
-    else if is_held place s cmd k r then (r, k)
-    else seen_row place s cmd reply r
+-- the same, where what the arena asks for and has is known, and may tell what it is allotted
+abbrev pub told_row : ℕ → State → Cmd → Reply → Known → Row → Option ℕ → Row × Known
+told_row place s cmd reply k r None = seen_row place s cmd reply r
+told_row place s cmd reply k r (Some allot) = (shared_row place k allot r, known_in place k.request k.active (shared_row place k allot r))
+
+abbrev pub settled_row : ℕ → State → Cmd → Reply → Shared → Known → Row → Row × Known
+settled_row place s cmd reply now k r = told_row place s cmd reply k r (share_told now k r.stands)
+
+-- a column has all that an arena may be allotted, if it stands at a level
+abbrev pub is_covered_at : Shared → Known → Option ℕ → Bool
+is_covered_at now k None = false
+is_covered_at now k (Some level) = is_covered now k level
+
+-- the row of the arena that an entry is about, by what is then known of it
+abbrev pub own_row : ℕ → State → Cmd → Reply → Shared → Row → Option Known → Row × Known
+own_row place s cmd reply now r None = seen_row place s cmd reply r
+own_row place s cmd reply now r (Some k) = if is_covered_at now k r.stands then (needing_row place k r, k) else settled_row place s cmd reply now k r
+
+-- a row that has the moment before in the same column
+abbrev pub near_row : ℕ → State → Cmd → Reply → Shared → List Bool → Row → Known → Row × Known
+near_row place s cmd reply now kept r k =
+    if is_just r.arena (subject cmd reply) then own_row place s cmd reply now r (retold place cmd reply k r)
+    else if stands_kept kept r.stands then (r, k)
+    else if is_covered_at now k r.stands then (r, k)
+    else settled_row place s cmd reply now k r
+
+-- what levels are given after a command
+abbrev pub now_shared : Cmd → State → Shared → Shared
+now_shared cmd s was = if moves_seat cmd then was else shared_of s
 
 -- ---- all lines
 
@@ -178,19 +271,19 @@ pairwise f (x ∷ xs) [] = (x ∷ xs, [])
 pairwise f (x ∷ xs) (y ∷ ys) = ((f x y).0 ∷ (pairwise f xs ys).0, (f x y).1 ∷ (pairwise f xs ys).1)
 
 -- rows that have the moment before in the same column, and what is known of their arenas
-abbrev pub near_rows : ℕ → State → Cmd → Reply → List Row → List Known → List Row × List Known
-near_rows place s cmd reply rows ks = pairwise (near_row place s cmd reply) rows ks
+abbrev pub near_rows : ℕ → State → Cmd → Reply → Shared → List Row → List Known → List Row × List Known
+near_rows place s cmd reply was rows ks = pairwise (near_row place s cmd reply (now_shared cmd s was) (kept_levels cmd was (now_shared cmd s was))) rows ks
 
--- what is known of the arenas of rows
-abbrev pub known_rows : State → List Row → List Known
-known_rows s rows = map (λ (r : Row). known_of (view_at r.arena s)) rows
+-- what is known of the arenas of rows that take a moment
+abbrev pub known_rows : ℕ → State → Cmd → Reply → List Row → List Known
+known_rows place s cmd reply rows = map (λ (r : Row). (seen_row place s cmd reply r).1) rows
 
-abbrev pub near_lines : ℕ → State → Cmd → Reply → List Known → Drawn → Drawn
-near_lines place s cmd reply ks d =
+abbrev pub near_lines : ℕ → State → Cmd → Reply → Shared → List Known → Drawn → Drawn
+near_lines place s cmd reply was ks d =
     record {
       limit = added place (Some (limit_of s)) d.limit;
       effective = added place (Some (effective_limit_of s)) d.effective;
-      rows = (near_rows place s cmd reply d.rows ks).0;
+      rows = (near_rows place s cmd reply was d.rows ks).0;
     }
 
 abbrev pub passed_lines : Cmd → Reply → Drawn → Drawn
@@ -229,19 +322,35 @@ goes_on c = nat_lt 0 (c.moments % width_of c.most c.moments)
 abbrev pub counted_chart : Charted → Charted
 counted_chart c = record c { moments = c.moments + 1 }
 
--- a chart with a moment more in the column of the last, and what is then known
-abbrev pub near_chart : State → Cmd → Reply → Charted → List Known → Charted × List Known
-near_chart s cmd reply c ks = (
-  record c { moments = c.moments + 1; lines = near_lines (c.moments / width_of c.most (c.moments + 1)) s cmd reply ks c.lines },
-  (near_rows (c.moments / width_of c.most (c.moments + 1)) s cmd reply c.lines.rows ks).1,
-)
+-- a chart, what is known of its arenas, and what the levels of its market were given at its last moment
+pub record Followed : Type 0 where
+  pub chart : Charted
+  pub known : List Known
+  pub shares : Shared
 
--- a chart with the moment after a command and its reply, and what is then known of its arenas: of a chart that has taken the moment before,
--- if any, and of what was known then
-abbrev pub next_chart : State → Cmd → Reply → Charted → List Known → Charted × List Known
-next_chart s cmd reply c ks =
-    if goes_on c then (if is_still reply then (counted_chart c, ks) else near_chart s cmd reply c ks)
-    else (taken_chart s cmd reply c, known_rows s (roomed_lines c).rows)
+-- with a moment more in the column of the last
+abbrev pub near_chart : State → Cmd → Reply → Followed → Followed
+near_chart s cmd reply f =
+    record {
+      chart = record f.chart { moments = f.chart.moments + 1; lines = near_lines (f.chart.moments / width_of f.chart.most (f.chart.moments + 1)) s cmd reply f.shares f.known f.chart.lines };
+      known = (near_rows (f.chart.moments / width_of f.chart.most (f.chart.moments + 1)) s cmd reply f.shares f.chart.lines.rows f.known).1;
+      shares = now_shared cmd s f.shares;
+    }
+
+-- with the first moment of a column
+abbrev pub first_chart : State → Cmd → Reply → Charted → Followed
+first_chart s cmd reply c =
+    record {
+      chart = taken_chart s cmd reply c;
+      known = known_rows (c.moments / width_of c.most (c.moments + 1)) s cmd reply (roomed_lines c).rows;
+      shares = shared_of s;
+    }
+
+-- with the moment after a command and its reply: of a chart that has taken the moment before, if any, and of what was known then
+abbrev pub next_chart : State → Cmd → Reply → Followed → Followed
+next_chart s cmd reply f =
+    if goes_on f.chart then (if is_still reply then record f { chart = counted_chart f.chart } else near_chart s cmd reply f)
+    else first_chart s cmd reply f.chart
 
 -- a chart that lets this moment pass
 abbrev pub passed_chart : Cmd → Reply → Charted → Charted
@@ -249,18 +358,17 @@ passed_chart cmd reply c = record c { lines = passed_lines cmd reply c.lines }
 
 -- ---- a chart of some of a journal's entries
 
--- a chart in the making: how many entries come before the first that is drawn, the last that is drawn, how many were seen, and what is
--- known of the arenas since the last moment that was taken
+-- a chart in the making: how many entries come before the first that is drawn, the last that is drawn, how many were seen, and what was
+-- made of those that are drawn
 pub record Making : Type 0 where
   pub before : ℕ
   pub to : ℕ
   pub seen : ℕ
-  pub chart : Charted
-  pub known : List Known
+  pub followed : Followed
 
 -- one entry more, which is drawn where it lies between the first and the last
 abbrev pub made_more : Making → State → Cmd → Reply → Making
 made_more m s cmd reply =
     if nat_le m.to m.seen then m
-    else if nat_lt m.seen m.before then record m { seen = m.seen + 1; chart = passed_chart cmd reply m.chart }
-    else record m { seen = m.seen + 1; chart = (next_chart s cmd reply m.chart m.known).0; known = (next_chart s cmd reply m.chart m.known).1 }
+    else if nat_lt m.seen m.before then record m { seen = m.seen + 1; followed = record m.followed { chart = passed_chart cmd reply m.followed.chart } }
+    else record m { seen = m.seen + 1; followed = next_chart s cmd reply m.followed }

@@ -4,10 +4,12 @@ ghost use Rattle.market_types.specs.State.{State};
 ghost use Rattle.market_types.specs.Step.{step};
 ghost use Rattle.journal_chart.specs.Columns.{width_of};
 ghost use Rattle.journal_chart.specs.Numbers.{chart_of};
-ghost use Rattle.journal_chart.specs.Steps.{goes_on, halved_lines, is_still, known_rows, near_chart, next_chart, passed_chart, roomed_lines, taken_chart};
+ghost use Rattle.journal_chart.specs.Shares.{shared_of};
+ghost use Rattle.journal_chart.specs.Steps.{first_chart, goes_on, halved_lines, is_still, near_chart, next_chart, now_shared, passed_chart, taken_chart};
 
 use crate::lines::Lines;
 use crate::row::Known;
+use crate::shares::Shares;
 use market_core::Market;
 use market_types::{ArenaId, Cmd, Reply};
 use std::alloc::{AllocError, Global};
@@ -103,30 +105,47 @@ impl Chart {
         self.moments % self.width > 0
     }
 
-    /// Takes the moment after an entry, as `take` does, and what is then known of the arenas.
-    fn look(&mut self, known: &mut [Known], market: &Market, cmd: &Cmd, reply: &Reply)
+    /// Takes the moment after an entry, as `take` does, what is then known of the arenas, and what the levels are given.
+    fn look(
+        &mut self,
+        known: &mut [Known],
+        shares: &mut Shares,
+        market: &Market,
+        cmd: &Cmd,
+        reply: &Reply,
+    )
         requires few { self.old.moments + 1 < 2 ^ 63 }
         requires each { length known.old ≡ length self.old.lines.rows }
         ensures chart { self.new ≡ taken_chart market.now cmd.now reply.now self.old }
-        ensures known { known.new ≡ known_rows market.now (roomed_lines self.old).rows }
+        ensures known { known.new ≡ (first_chart market.now cmd.now reply.now self.old).known }
+        ensures shares { shares.new ≡ shared_of market.now }
     {
         let width = make_room(&mut self.lines, self.columns, self.moments, self.width);
         let place = (self.moments / width) as usize;
-        self.lines.look(known, place, market, cmd, reply);
+        self.lines.look(known, shares, place, market, cmd, reply);
         self.width = width;
         self.moments += 1;
     }
 
-    /// Takes the moment after an entry into the column of the last moment, which was taken before, and what is then known of the arenas.
-    fn near(&mut self, known: &mut [Known], market: &Market, cmd: &Cmd, reply: &Reply)
+    /// Takes the moment after an entry into the column of the last moment, which was taken before, what is then known of the arenas, and
+    /// what the levels are given.
+    fn near(
+        &mut self,
+        known: &mut [Known],
+        shares: &mut Shares,
+        market: &Market,
+        cmd: &Cmd,
+        reply: &Reply,
+    )
         requires few { self.old.moments + 1 < 2 ^ 63 }
         requires on { goes_on self.old ≡ true }
         requires each { length known.old ≡ length self.old.lines.rows }
-        ensures chart { self.new ≡ (near_chart market.now cmd.now reply.now self.old known.old).0 }
-        ensures known { known.new ≡ (near_chart market.now cmd.now reply.now self.old known.old).1 }
+        ensures chart { self.new ≡ (near_chart market.now cmd.now reply.now (record { chart = self.old; known = known.old; shares = shares.old })).chart }
+        ensures known { known.new ≡ (near_chart market.now cmd.now reply.now (record { chart = self.old; known = known.old; shares = shares.old })).known }
+        ensures shares { shares.new ≡ now_shared cmd.now market.now shares.old }
     {
         let place = (self.moments / self.width) as usize;
-        self.lines.near(known, place, market, cmd, reply);
+        self.lines.near(known, shares, place, market, cmd, reply);
         self.moments += 1;
     }
 
@@ -137,24 +156,26 @@ impl Chart {
     pub(crate) fn take_next(
         &mut self,
         known: &mut [Known],
+        shares: &mut Shares,
         market: &Market,
         cmd: &Cmd,
         reply: &Reply,
     )
         requires few { self.old.moments + 1 < 2 ^ 63 }
         requires each { length known.old ≡ length self.old.lines.rows }
-        ensures chart { self.new ≡ (next_chart market.now cmd.now reply.now self.old known.old).0 }
-        ensures known { known.new ≡ (next_chart market.now cmd.now reply.now self.old known.old).1 }
+        ensures chart { self.new ≡ (next_chart market.now cmd.now reply.now (record { chart = self.old; known = known.old; shares = shares.old })).chart }
+        ensures known { known.new ≡ (next_chart market.now cmd.now reply.now (record { chart = self.old; known = known.old; shares = shares.old })).known }
+        ensures shares { shares.new ≡ (next_chart market.now cmd.now reply.now (record { chart = self.old; known = known.old; shares = shares.old })).shares }
     {
         if !self.goes_on() {
-            self.look(known, market, cmd, reply);
+            self.look(known, shares, market, cmd, reply);
             return;
         }
         if is_still(reply) {
             self.moments += 1;
             return;
         }
-        self.near(known, market, cmd, reply);
+        self.near(known, shares, market, cmd, reply);
     }
 
     /// Lets the moment after an entry pass that is not drawn, by its command and its reply. It takes no memory.

@@ -7,6 +7,7 @@ ghost use Rattle.journal_chart.specs.Numbers.{chart_of};
 
 use crate::chart::Chart;
 use crate::row::Known;
+use crate::shares::Shares;
 use allotment::no_carry_to_keep;
 use byte_devices::Source;
 use journal_replay::{Verdict, Watcher, watch_source};
@@ -28,6 +29,8 @@ struct Making {
     chart: Chart,
     /// What is known of each arena since the last moment that was taken.
     known: Vec<Known>,
+    /// What each level was given of what it asked for at that moment.
+    shares: Shares,
 }
 
 impl Model for Making {
@@ -36,7 +39,7 @@ impl Model for Making {
 
     ghost Value = { Making };
 
-    ghost view = { λ m. record { before = m.before; to = m.to; seen = m.seen; chart = m.chart; known = m.known.items } };
+    ghost view = { λ m. record { before = m.before; to = m.to; seen = m.seen; followed = record { chart = m.chart; known = m.known.items; shares = m.shares } } };
 
     ghost invariant = { λ m. (m.chart.moments ≤ m.seen) × (length m.known.items ≡ length m.chart.lines.rows) };
 }
@@ -59,8 +62,13 @@ impl Watcher for Making {
             self.seen += 1;
             return;
         }
-        self.chart
-            .take_next(self.known.as_mut_slice(), market, cmd, reply);
+        self.chart.take_next(
+            self.known.as_mut_slice(),
+            &mut self.shares,
+            market,
+            cmd,
+            reply,
+        );
         self.seen += 1;
     }
 }
@@ -93,7 +101,8 @@ pub fn chart_source<R: Source>(
         to,
         seen: 0,
         chart: Chart::new(alloc, columns, arenas)?,
-        known: vec![in alloc; Known::of(&None); arenas.len()]?,
+        known: vec![in alloc; Known::nothing(); arenas.len()]?,
+        shares: Shares::none(),
     };
     let (found, making) = watch_source(alloc, making, source)?;
     Ok((found, making.chart))

@@ -6,6 +6,7 @@
 #![tactic(auto)]
 
 mod chart;
+mod covered;
 mod figure;
 mod journal;
 mod law;

@@ -1,7 +1,6 @@
 //! A line of a chart.
 ghost use Rattle.std.specs.Prelude.{◌≡◌, IfOk, None, Some, replicate};
 ghost use Rattle.journal_chart.specs.Lines.{added, at, halved};
-ghost use Rattle.journal_chart.specs.Steps.{spans};
 
 use crate::span::{Span, joined};
 use std::alloc::{AllocError, Global};
@@ -47,17 +46,6 @@ impl Line {
         match self.columns.get(place) {
             Some(column) => *column,
             None => None,
-        }
-    }
-
-    /// The column at a place spans all numbers from one to another.
-    #[inline]
-    pub(crate) fn spans(&self, place: usize, least: u64, most: u64) -> bool
-        ensures { result ≡ spans least most (at self.now place) }
-    {
-        match self.at(place) {
-            Some(span) => u64::from(span.least) <= least && most <= u64::from(span.most),
-            None => false,
         }
     }
 

@@ -1,12 +1,16 @@
 //! All lines of a chart.
 ghost use Rattle.std.specs.Prelude.{◌≡◌, IfOk, length, map};
-ghost use Rattle.journal_chart.specs.Steps.{empty_lines, empty_row, halved_lines, known_rows, limited_lines, near_lines, near_rows, passed_lines, taken_lines};
+ghost use Rattle.market_types.specs.State.{State};
+ghost use Rattle.market_types.specs.Step.{limits_of};
+ghost use Rattle.journal_chart.specs.Shares.{shared_of};
+ghost use Rattle.journal_chart.specs.Steps.{empty_lines, empty_row, halved_lines, known_rows, limited_lines, near_lines, near_rows, now_shared, passed_lines, taken_lines};
 
 use crate::line::Line;
 use crate::nearby::{look_rows, near_rows};
 use crate::row::{Known, Row, halve_rows, pass_rows, take_rows};
+use crate::shares::Shares;
 use market_core::Market;
-use market_types::{ArenaId, Cmd, Reply};
+use market_types::{ArenaId, Cmd, LimitView, Reply};
 use std::alloc::{AllocError, Global};
 use std::marker::Model;
 
@@ -73,10 +77,9 @@ impl Lines {
     }
 
     /// Puts the limits into the column at a place.
-    fn add_limits(&mut self, place: usize, market: &Market)
-        ensures { self.new ≡ limited_lines place market.now self.old }
+    fn add_limits(&mut self, place: usize, limits: &LimitView)
+        ensures { (s : State) → limits.now ≡ limits_of s → self.new ≡ limited_lines place s self.old }
     {
-        let limits = market.limits();
         self.limit.add(place, limits.limit);
         self.effective.add(place, limits.effective);
     }
@@ -85,14 +88,15 @@ impl Lines {
     pub(crate) fn take(&mut self, place: usize, market: &Market, cmd: &Cmd, reply: &Reply)
         ensures { self.new ≡ taken_lines place market.now cmd.now reply.now self.old }
     {
-        self.add_limits(place, market);
+        self.add_limits(place, &market.limits());
         take_rows(&mut self.rows, place, market, cmd, reply);
     }
 
-    /// Takes the moment, as `take` does, and what is then known of the arenas.
+    /// Takes the moment, as `take` does, what is then known of the arenas, and what the levels are given.
     pub(crate) fn look(
         &mut self,
         known: &mut [Known],
+        shares: &mut Shares,
         place: usize,
         market: &Market,
         cmd: &Cmd,
@@ -100,27 +104,42 @@ impl Lines {
     )
         requires each { length known.old ≡ length self.old.rows }
         ensures lines { self.new ≡ taken_lines place market.now cmd.now reply.now self.old }
-        ensures known { known.new ≡ known_rows market.now self.old.rows }
+        ensures known { known.new ≡ known_rows place market.now cmd.now reply.now self.old.rows }
+        ensures shares { shares.new ≡ shared_of market.now }
     {
-        self.add_limits(place, market);
+        let limits = market.limits();
+        self.add_limits(place, &limits);
+        *shares = Shares::of(market, &limits);
         look_rows(&mut self.rows, known, place, market, cmd, reply);
     }
 
-    /// Takes the moment after one that was taken into the same column, and what is then known of the arenas.
+    /// Takes the moment after one that was taken into the same column, what is then known of the arenas, and what the levels are given.
     pub(crate) fn near(
         &mut self,
         known: &mut [Known],
+        shares: &mut Shares,
         place: usize,
         market: &Market,
         cmd: &Cmd,
         reply: &Reply,
     )
         requires each { length known.old ≡ length self.old.rows }
-        ensures lines { self.new ≡ near_lines place market.now cmd.now reply.now known.old self.old }
-        ensures known { known.new ≡ (near_rows place market.now cmd.now reply.now self.old.rows known.old).1 }
+        ensures lines { self.new ≡ near_lines place market.now cmd.now reply.now shares.old known.old self.old }
+        ensures known { known.new ≡ (near_rows place market.now cmd.now reply.now shares.old self.old.rows known.old).1 }
+        ensures shares { shares.new ≡ now_shared cmd.now market.now shares.old }
     {
-        self.add_limits(place, market);
-        near_rows(&mut self.rows, known, place, market, cmd, reply);
+        let limits = market.limits();
+        self.add_limits(place, &limits);
+        near_rows(
+            &mut self.rows,
+            known,
+            shares,
+            place,
+            market,
+            &limits,
+            cmd,
+            reply,
+        );
     }
 
     /// Lets the moment after a command and its reply pass.

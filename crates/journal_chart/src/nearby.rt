@@ -1,48 +1,27 @@
 //! The rows of a chart at a moment that goes into the column of the last.
 ghost use Rattle.std.specs.Prelude.{◌≡◌, length, map};
-ghost use Rattle.market_types.specs.State.{State};
 ghost use Rattle.market_types.specs.Allotment.{is_just};
-ghost use Rattle.journal_chart.specs.Nearby.{IsHolding, IsSafe};
-ghost use Rattle.journal_chart.specs.Steps.{is_held, known_rows, moves_seat, near_row, near_rows, subject, taken_row, told};
+ghost use Rattle.market_types.specs.Step.{limits_of};
+ghost use Rattle.journal_chart.specs.Steps.{is_covered, is_covered_at, is_divided, is_kept, keeps_order, kept_levels, known_rows, moves_seat, near_row, near_rows, now_shared, own_row, pairwise, requested, retold, settled_row, share_told, stands_kept, subject, taken_row, told, unplaced};
 
+use crate::covered::exactly;
 use crate::row::{Known, Row};
 use crate::shares::Shares;
 use market_core::Market;
-use market_types::{ArenaId, Cmd, Reply};
-
-/// Which rows a moment may leave as they are, apart from that of the arena which it is about.
-#[derive(Clone, Copy)]
-pub(crate) enum Holding {
-    /// All: a seat alone moved.
-    All,
-    /// Those whose columns have what their arenas may be allotted.
-    Within(Shares),
-    /// None.
-    Nothing,
-}
-
-impl Holding {
-    /// What a moment leaves after a command.
-    fn of(market: &Market, cmd: &Cmd) -> Holding
-        ensures exact { IsHolding market.now cmd.now result }
-        ensures safe { IsSafe result }
-    {
-        if moves_seat(cmd) {
-            return Holding::All;
-        }
-        let limits = market.limits();
-        if limits.limit == 0 {
-            return Holding::Nothing;
-        }
-        Holding::Within(Shares::of(market, limits.effective))
-    }
-}
+use market_types::{ArenaId, Cmd, Level, LimitView, Reply};
 
 /// A command after which at most a seat has moved.
 fn moves_seat(cmd: &Cmd) -> bool
     ensures { result ≡ moves_seat cmd.now }
 {
     matches!(cmd, Cmd::Join | Cmd::Stay | Cmd::Leave)
+}
+
+/// A command after which the arenas stand in the order in which they stood.
+fn keeps_order(cmd: &Cmd) -> bool
+    ensures { result ≡ keeps_order cmd.now }
+{
+    !matches!(cmd, Cmd::Priority(_, _))
 }
 
 /// The arena that a reply names, if the entry changed it.
@@ -79,71 +58,266 @@ fn is_just(arena: ArenaId, option: &Option<ArenaId>) -> bool
     }
 }
 
-/// A moment adds nothing to the column of a row at a place, if it is about another arena.
-fn is_held(row: &Row, place: usize, known: Known, holding: &Holding) -> bool
-    requires { IsSafe holding.now }
-    ensures { (s : State) (cmd : Cmd) → IsHolding s cmd holding.now → result ≡ is_held place s cmd known row.now }
+/// What levels are given tells what the arenas of this one are allotted: some worker may be active.
+#[inline]
+fn is_divided(now: &Shares, level: Level) -> bool
+    ensures { result ≡ is_divided now.now level }
 {
-    match holding {
-        Holding::All => true,
-        Holding::Within(shares) => row.has_share(place, known, shares),
-        Holding::Nothing => false,
+    // That there are 8 levels at most is what this call promises.
+    let _ = level.index();
+    now.limit() > 0
+}
+
+/// The arenas of a level are allotted what they were, but for the one that the entry is about: at most a seat has moved, or the level is
+/// given what it was of what it asked for.
+#[inline]
+fn is_kept(cmd: &Cmd, was: &Shares, now: &Shares, level: Level) -> bool
+    ensures { result ≡ is_kept cmd.now was.now now.now level }
+{
+    moves_seat(cmd)
+        || (keeps_order(cmd)
+            && is_divided(was, level)
+            && is_divided(now, level)
+            && was.given(level) == now.given(level)
+            && was.asked(level) == now.asked(level))
+}
+
+/// Which levels' arenas are allotted what they were.
+fn kept_levels(cmd: &Cmd, was: &Shares, now: &Shares) -> [bool; 8]
+    ensures { result ≡ kept_levels cmd.now was.now now.now }
+{
+    [
+        is_kept(cmd, was, now, Level::from_index(0)),
+        is_kept(cmd, was, now, Level::from_index(1)),
+        is_kept(cmd, was, now, Level::from_index(2)),
+        is_kept(cmd, was, now, Level::from_index(3)),
+        is_kept(cmd, was, now, Level::from_index(4)),
+        is_kept(cmd, was, now, Level::from_index(5)),
+        is_kept(cmd, was, now, Level::from_index(6)),
+        is_kept(cmd, was, now, Level::from_index(7)),
+    ]
+}
+
+/// A column has all that an arena of a level may be allotted, of which this is known.
+#[inline]
+fn is_covered(now: &Shares, known: &Known, level: Level) -> bool
+    ensures { result ≡ is_covered now.now known.now level }
+{
+    is_divided(now, level)
+        && known
+            .covered
+            .covers(known.request, now.given(level), now.asked(level))
+}
+
+/// The same of the level at which the arena stands, if it lives.
+#[inline]
+fn is_covered_at(now: &Shares, known: &Known, stands: Option<Level>) -> bool
+    ensures { result ≡ is_covered_at now.now known.now stands }
+{
+    match stands {
+        Some(level) => is_covered(now, known, level),
+        None => false,
     }
 }
 
-/// Takes the moment after a command and its reply, which are about one arena, into the column of a row at a place, which has the moment
-/// before: what is then known of its arena.
-fn near_row(
+/// An arena that stands at such a level, or at none, is allotted what it was.
+#[inline]
+fn stands_kept(kept: &[bool; 8], stands: Option<Level>) -> bool
+    ensures { result ≡ stands_kept kept.now stands }
+{
+    match stands {
+        Some(level) => kept[level.index()],
+        None => true,
+    }
+}
+
+/// What an arena is allotted, where that is told by what its level is given.
+fn share_told(now: &Shares, known: &Known, stands: Option<Level>) -> Option<u32>
+    ensures { result ≡ share_told now.now known.now stands }
+{
+    match stands {
+        Some(level) if is_divided(now, level) => exactly(
+            known.request,
+            now.given(level),
+            now.asked(level),
+        ),
+        _ => None,
+    }
+}
+
+/// Takes the moment after a command and its reply into the column of a row at a place, where this is known of its arena: what is then
+/// known. The market is asked only for what is not told by that.
+#[inline(never)]
+fn settle(
     row: &mut Row,
     place: usize,
     market: &Market,
     cmd: &Cmd,
     reply: &Reply,
-    known: Known,
-    about: &Option<ArenaId>,
-    holding: &Holding,
+    now: &Shares,
+    known: &Known,
 ) -> Known
-    requires about { about.now ≡ subject cmd.now reply.now }
-    requires holding { IsHolding market.now cmd.now holding.now }
-    requires safe { IsSafe holding.now }
-    ensures { (row.new, result) ≡ near_row place market.now cmd.now reply.now row.old known }
+    ensures { (row.new, result) ≡ settled_row place market.now cmd.now reply.now now.now known.now row.old }
 {
-    if !is_just(row.arena, about) {
-        if is_held(row, place, known, holding) {
-            return known;
+    match share_told(now, known, row.stands) {
+        Some(allot) => {
+            row.add_share(place, known, allot);
+            row.known(place, known.request, known.active)
         }
+        None => row.look(place, market, cmd, reply),
     }
-    row.look(place, market, cmd, reply)
 }
 
-/// Takes the moment after a command and its reply into the column of all rows at a place, which has the moment before, and what is then known
-/// of their arenas. A row to which the moment adds nothing is left as it is.
-pub(crate) fn near_rows(
+/// What is known of an arena after an entry that says what it asks for.
+fn requested(reply: &Reply, known: &Known) -> Option<Known>
+    ensures { result ≡ requested reply.now known.now }
+{
+    match reply {
+        Reply::Requested(request) | Reply::Resized(request) => Some(Known {
+            request: *request,
+            active: known.active,
+            covered: known.covered,
+        }),
+        _ => None,
+    }
+}
+
+/// What is known of an arena after an entry by which a seat is no longer placed at it.
+fn unplaced(place: usize, reply: &Reply, known: &Known, row: &Row) -> Option<Known>
+    ensures { result ≡ unplaced place reply.now known.now row.now }
+{
+    match reply {
+        Reply::Recalled(_) | Reply::Left(_) => Some(row.known(
+            place,
+            known.request,
+            known.active.saturating_sub(1),
+        )),
+        _ => None,
+    }
+}
+
+/// What is known of an arena after an entry that is about it, where the reply tells that.
+fn retold(place: usize, cmd: &Cmd, reply: &Reply, known: &Known, row: &Row) -> Option<Known>
+    ensures { result ≡ retold place cmd.now reply.now known.now row.now }
+{
+    match cmd {
+        Cmd::Resize(_, _, _) | Cmd::Request(_, _, _) => requested(reply, known),
+        Cmd::Stay | Cmd::Leave => unplaced(place, reply, known, row),
+        _ => None,
+    }
+}
+
+/// Takes the moment after an entry into the column of the row of the arena that it is about, which has the moment before: what is then
+/// known of the arena.
+fn own_row(
+    row: &mut Row,
+    place: usize,
+    market: &Market,
+    cmd: &Cmd,
+    reply: &Reply,
+    now: &Shares,
+    known: &Known,
+) -> Known
+    ensures { (row.new, result) ≡ own_row place market.now cmd.now reply.now now.now row.old (retold place cmd.now reply.now known.now row.old) }
+{
+    let Some(told) = retold(place, cmd, reply, known, row) else {
+        return row.look(place, market, cmd, reply);
+    };
+    if is_covered_at(now, &told, row.stands) {
+        row.add_needs(place, &told);
+        return told;
+    }
+    settle(row, place, market, cmd, reply, now, &told)
+}
+
+/// Takes the moment after a command and its reply, which are about one arena, into the column of a row at a place, which has the moment
+/// before, and what is then known of its arena. A row to which the moment adds nothing is left as it is.
+#[inline]
+fn near_row(
+    row: &mut Row,
+    known: &mut Known,
+    place: usize,
+    market: &Market,
+    cmd: &Cmd,
+    reply: &Reply,
+    now: &Shares,
+    about: &Option<ArenaId>,
+    kept: &[bool; 8],
+)
+    requires about { about.now ≡ subject cmd.now reply.now }
+    ensures { (row.new, known.new) ≡ near_row place market.now cmd.now reply.now now.now kept.now row.old known.old }
+{
+    if is_just(row.arena, about) {
+        *known = own_row(row, place, market, cmd, reply, now, known);
+        return;
+    }
+    if stands_kept(kept, row.stands) {
+        return;
+    }
+    if is_covered_at(now, known, row.stands) {
+        return;
+    }
+    *known = settle(row, place, market, cmd, reply, now, known);
+}
+
+/// Takes the moment into the columns of all rows, and what is then known of their arenas, where the levels were given this at the moment
+/// before, and now this.
+fn each_row(
     rows: &mut [Row],
     known: &mut [Known],
     place: usize,
     market: &Market,
     cmd: &Cmd,
     reply: &Reply,
+    was: &Shares,
+    now: &Shares,
 )
     requires each { length known.old ≡ length rows.old }
-    ensures rows { rows.new ≡ (near_rows place market.now cmd.now reply.now rows.old known.old).0 }
-    ensures known { known.new ≡ (near_rows place market.now cmd.now reply.now rows.old known.old).1 }
+    ensures rows { rows.new ≡ (pairwise (near_row place market.now cmd.now reply.now now.now (kept_levels cmd.now was.now now.now)) rows.old known.old).0 }
+    ensures known { known.new ≡ (pairwise (near_row place market.now cmd.now reply.now now.now (kept_levels cmd.now was.now now.now)) rows.old known.old).1 }
 {
     let about = subject(cmd, reply);
-    let holding = Holding::of(market, cmd);
+    let kept = kept_levels(cmd, was, now);
     for index in 0..rows.len() {
-        known[index] = near_row(
+        near_row(
             &mut rows[index],
+            &mut known[index],
             place,
             market,
             cmd,
             reply,
-            known[index],
+            now,
             &about,
-            &holding,
+            &kept,
         );
     }
+}
+
+/// Takes the moment after a command and its reply into the column of all rows at a place, which has the moment before, what is then known
+/// of their arenas, and what the levels are given.
+pub(crate) fn near_rows(
+    rows: &mut [Row],
+    known: &mut [Known],
+    shares: &mut Shares,
+    place: usize,
+    market: &Market,
+    limits: &LimitView,
+    cmd: &Cmd,
+    reply: &Reply,
+)
+    requires each { length known.old ≡ length rows.old }
+    requires limits { limits.now ≡ limits_of market.now }
+    ensures rows { rows.new ≡ (near_rows place market.now cmd.now reply.now shares.old rows.old known.old).0 }
+    ensures known { known.new ≡ (near_rows place market.now cmd.now reply.now shares.old rows.old known.old).1 }
+    ensures shares { shares.new ≡ now_shared cmd.now market.now shares.old }
+{
+    if moves_seat(cmd) {
+        each_row(rows, known, place, market, cmd, reply, shares, shares);
+        return;
+    }
+    let now = Shares::of(market, limits);
+    each_row(rows, known, place, market, cmd, reply, shares, &now);
+    *shares = now;
 }
 
 /// Takes the first moment of a column into all rows, and what is then known of their arenas.
@@ -157,7 +331,7 @@ pub(crate) fn look_rows(
 )
     requires each { length known.old ≡ length rows.old }
     ensures rows { rows.new ≡ map (taken_row place market.now cmd.now reply.now) rows.old }
-    ensures known { known.new ≡ known_rows market.now rows.old }
+    ensures known { known.new ≡ known_rows place market.now cmd.now reply.now rows.old }
 {
     for index in 0..rows.len() {
         known[index] = rows[index].look(place, market, cmd, reply);

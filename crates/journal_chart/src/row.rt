@@ -1,12 +1,9 @@
 //! The lines of an arena.
-ghost use Rattle.std.specs.Prelude.{◌≡◌, IfOk, Some, map};
-ghost use Rattle.journal_chart.specs.Steps.{empty_row, halved_row, has_between, has_share, known_of, passed_row, standing_row, stands_after, taken_row, viewed_row};
-ghost use Rattle.journal_chart.specs.Shares.{AreFew, AreSharesOf};
-ghost use Rattle.journal_chart.specs.Numbers.{view_at};
-ghost use Rattle.market_types.specs.State.{State};
+ghost use Rattle.std.specs.Prelude.{◌≡◌, IfOk, map};
+ghost use Rattle.journal_chart.specs.Steps.{empty_row, halved_row, known_in, needing_row, nothing_known, passed_row, seen_row, shared_row, standing_row, stands_after, taken_row, viewed_row};
 
+use crate::covered::Covered;
 use crate::line::Line;
-use crate::shares::{Bounds, Shares};
 use market_core::Market;
 use market_types::{ArenaId, ArenaView, Cmd, Level, Reply};
 use std::alloc::{AllocError, Global};
@@ -18,22 +15,19 @@ pub(crate) struct Known {
     pub(crate) request: u32,
     /// How many seats are placed at it.
     pub(crate) active: u32,
+    /// The allotments that add nothing to its column.
+    pub(crate) covered: Covered,
 }
 
 impl Known {
-    /// What is known of an arena that is seen so.
-    pub(crate) fn of(view: &Option<ArenaView>) -> Known
-        ensures { result ≡ known_of view.now }
+    /// Nothing is known yet.
+    pub(crate) fn nothing() -> Known
+        ensures { result ≡ nothing_known }
     {
-        match view {
-            Some(view) => Known {
-                request: view.request,
-                active: view.active,
-            },
-            None => Known {
-                request: 0,
-                active: 0,
-            },
+        Known {
+            request: 0,
+            active: 0,
+            covered: Covered { from: 0, below: 0 },
         }
     }
 }
@@ -91,65 +85,59 @@ impl Row {
     pub(crate) fn take(&mut self, place: usize, market: &Market, cmd: &Cmd, reply: &Reply)
         ensures { self.new ≡ taken_row place market.now cmd.now reply.now self.old }
     {
-        let _ = self.look(place, market, cmd, reply);
+        self.stands = stands_after(self.arena, self.stands, cmd, reply);
+        self.add_level(place);
+        self.add_view(place, &market.view(self.arena));
     }
 
     /// Takes the moment, as `take` does: what is then known of the arena.
     pub(crate) fn look(&mut self, place: usize, market: &Market, cmd: &Cmd, reply: &Reply) -> Known
-        ensures row { self.new ≡ taken_row place market.now cmd.now reply.now self.old }
-        ensures known { result ≡ known_of (view_at self.old.arena market.now) }
+        ensures { (self.new, result) ≡ seen_row place market.now cmd.now reply.now self.old }
     {
         self.stands = stands_after(self.arena, self.stands, cmd, reply);
         self.add_level(place);
         let view = market.view(self.arena);
-        let known = Known::of(&view);
-        self.add_view(place, view);
-        known
-    }
-
-    /// The column at a place has an allotment between these, and the recalls and the hires that so many active workers then have.
-    #[inline]
-    pub(crate) fn has_between(&self, place: usize, bounds: Bounds, active: u32) -> bool
-        ensures { result ≡ has_between place bounds.least bounds.most active self.now }
-    {
-        let Bounds { least, most } = bounds;
-        let active = u64::from(active);
-        self.allot.spans(place, least, most)
-            && self.recall.spans(
-                place,
-                active.saturating_sub(most),
-                active.saturating_sub(least),
-            )
-            && self.hire.spans(
-                place,
-                least.saturating_sub(active),
-                most.saturating_sub(active),
-            )
-    }
-
-    /// The column at a place has what the arena may be allotted at its level.
-    #[inline]
-    pub(crate) fn has_share(&self, place: usize, known: Known, shares: &Shares) -> bool
-        requires { AreFew shares.now }
-        ensures { (s : State) → AreSharesOf s shares.now → result ≡ has_share place s known self.now self.now.stands }
-    {
-        match self.stands {
-            Some(level) => self.has_share_at(place, known, shares, level),
-            None => true,
+        self.add_view(place, &view);
+        match view {
+            Some(view) => self.known(place, view.request, view.active),
+            None => self.known(place, 0, 0),
         }
     }
 
-    /// The column at a place has what the arena may be allotted at a level.
-    #[inline]
-    fn has_share_at(&self, place: usize, known: Known, shares: &Shares, level: Level) -> bool
-        requires { AreFew shares.now }
-        ensures { (s : State) → AreSharesOf s shares.now → result ≡ has_share place s known self.now (Some level) }
+    /// What is known of the arena, if it asks for so many workers and has so many, and the column at a place is that of the last moment.
+    pub(crate) fn known(&self, place: usize, request: u32, active: u32) -> Known
+        ensures { result ≡ known_in place request active self.now }
     {
-        if level.get() > shares.levels {
-            return false;
+        let covered = Covered::of(
+            self.allot.at(place),
+            self.recall.at(place),
+            self.hire.at(place),
+            active,
+        );
+        Known {
+            request,
+            active,
+            covered,
         }
-        let bounds = shares.bounds(level, known.request);
-        self.has_between(place, bounds, known.active)
+    }
+
+    /// Puts into the column at a place what the arena asks for and has, and what it is allotted.
+    pub(crate) fn add_share(&mut self, place: usize, known: &Known, allot: u32)
+        ensures { self.new ≡ shared_row place known.now allot self.old }
+    {
+        self.add_level(place);
+        self.add_needs(place, known);
+        self.allot.add(place, allot);
+        self.recall.add(place, known.active.saturating_sub(allot));
+        self.hire.add(place, allot.saturating_sub(known.active));
+    }
+
+    /// Puts into the column at a place what the arena asks for and has.
+    pub(crate) fn add_needs(&mut self, place: usize, known: &Known)
+        ensures { self.new ≡ needing_row place known.now self.old }
+    {
+        self.request.add(place, known.request);
+        self.active.add(place, known.active);
     }
 
     /// Lets the moment after a command and its reply pass: nothing is drawn, but where the arena stands is known after it.
@@ -169,8 +157,8 @@ impl Row {
     }
 
     /// Puts what is seen of the arena into the column at a place.
-    fn add_view(&mut self, place: usize, view: Option<ArenaView>)
-        ensures { self.new ≡ viewed_row place view self.old }
+    fn add_view(&mut self, place: usize, view: &Option<ArenaView>)
+        ensures { self.new ≡ viewed_row place view.now self.old }
     {
         let Some(view) = view else {
             return;

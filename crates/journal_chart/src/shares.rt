@@ -1,93 +1,102 @@
-//! Between which numbers the allotments of a market's arenas lie.
-ghost use Rattle.std.specs.Prelude.{◌≡◌, ℕ, ◌-◌, ◌*◌, ◌≤◌, length, slice_index};
-ghost use Rattle.market_types.specs.Allotment.{effective_limit_of};
-ghost use Rattle.allotment.specs.Levels.{AreDemandsOf};
-ghost use Rattle.journal_chart.specs.Shares.{AreFew, AreSharesOf, least_share, most_share};
+//! What the levels of a market are given of what they ask for.
+ghost use Rattle.std.specs.Prelude.{◌≡◌, ℕ, ◌-◌, ◌*◌, ◌<◌, ◌≤◌, slice_index};
+ghost use Rattle.market_types.specs.Step.{limits_of};
+ghost use Rattle.journal_chart.specs.Shares.{asked_at, no_shares, shared_of};
 
 use allotment::assign;
 use market_core::Market;
-use market_types::Level;
+use market_types::{Level, LimitView};
+use std::marker::Model;
 
-/// What each level of a market is given of what it asks for.
-#[derive(Clone, Copy)]
+/// What each level of a market is given of what it asks for, and how many workers may be active: contracts see it as `Shared`.
+#[derive(Drop)]
 pub(crate) struct Shares {
-    pub(crate) levels: u32,
-    pub(crate) given: [u64; 8],
-    pub(crate) asked: [u64; 8],
+    limit: u32,
+    given: [u64; 8],
+    asked: [u64; 8],
 }
 
-/// Between which numbers an allotment lies.
-#[derive(Clone, Copy)]
-pub(crate) struct Bounds {
-    pub(crate) least: u64,
-    pub(crate) most: u64,
+impl Model for Shares {
+    ghost use Rattle.journal_chart.specs.Shares.{AreFew, Shared};
+
+    ghost Value = { Shared };
+
+    ghost view = { λ s. record { limit = s.limit; given = s.given; asked = s.asked } };
+
+    ghost invariant = { λ s. AreFew s.given s.asked };
 }
 
-/// What each level of a market asks for, and 0 above its levels.
-fn demands(market: &Market) -> [u64; 8]
-    ensures exact { AreDemandsOf market.now result }
-    ensures size { length result ≡ 8 }
-    ensures small { (place : ℕ) → slice_index result place ≤ 1024 * 65535 }
+/// What the level at a place asks for, and 0 above the levels of the market.
+fn asked_at(market: &Market, place: usize) -> u64
+    requires { place < 8 }
+    ensures exact { result ≡ asked_at market.now place }
+    ensures small { result ≤ 1024 * 65535 }
 {
-    let mut demands = [0; 8];
-    for index in 0..market.levels() as usize {
-        demands[index] = market.demand(Level::from_index(index));
+    if place < market.levels() as usize {
+        market.demand(Level::from_index(place))
+    } else {
+        0
     }
-    demands
 }
 
 impl Shares {
-    /// Those of a market.
-    #[inline]
-    pub(crate) fn of(market: &Market, limit: u32) -> Shares
-        requires { limit ≡ effective_limit_of market.now }
-        ensures exact { AreSharesOf market.now result }
-        ensures few { AreFew result }
+    /// Those of no market.
+    pub(crate) fn none() -> Shares
+        ensures { result ≡ no_shares }
     {
-        let asked = demands(market);
         Shares {
-            levels: market.levels(),
-            given: assign(&asked, u64::from(limit)),
+            limit: 0,
+            given: [0; 8],
+            asked: [0; 8],
+        }
+    }
+
+    /// Those of a market with these limits.
+    #[inline]
+    pub(crate) fn of(market: &Market, limits: &LimitView) -> Shares
+        requires { limits.now ≡ limits_of market.now }
+        ensures { result ≡ shared_of market.now }
+    {
+        let asked = [
+            asked_at(market, 0),
+            asked_at(market, 1),
+            asked_at(market, 2),
+            asked_at(market, 3),
+            asked_at(market, 4),
+            asked_at(market, 5),
+            asked_at(market, 6),
+            asked_at(market, 7),
+        ];
+        Shares {
+            limit: limits.limit,
+            given: assign(&asked, u64::from(limits.effective)),
             asked,
         }
     }
 
-    /// Between which numbers the allotment lies of an arena of a level that asks for so many workers.
+    /// How many workers may be active.
     #[inline]
-    pub(crate) fn bounds(&self, level: Level, request: u32) -> Bounds
-        requires { AreFew self.now }
-        ensures least { result.least ≡ least_share request (slice_index self.now.given (level - 1)) (slice_index self.now.asked (level - 1)) }
-        ensures most { result.most ≡ most_share request (slice_index self.now.given (level - 1)) (slice_index self.now.asked (level - 1)) }
+    pub(crate) fn limit(&self) -> u32
+        ensures { result ≡ self.now.limit }
     {
-        let index = level.index();
-        Bounds::of(request, self.given[index], self.asked[index])
+        self.limit
     }
-}
 
-impl Bounds {
-    /// Those of what an arena is allotted that asks for so many workers of a level that is given so many of what it asks for. It divides
-    /// only where the level is given fewer.
+    /// What a level is given.
     #[inline]
-    fn of(request: u32, given: u64, asked: u64) -> Bounds
-        requires within { given ≤ asked }
-        requires small { asked ≤ 1024 * 65535 }
-        ensures least { result.least ≡ least_share request given asked }
-        ensures most { result.most ≡ most_share request given asked }
+    pub(crate) fn given(&self, level: Level) -> u64
+        ensures exact { result ≡ slice_index self.now.given (level - 1) }
+        ensures few { result ≤ 1024 * 65535 }
     {
-        if request == 0 || given == 0 {
-            return Bounds { least: 0, most: 0 };
-        }
-        let request = u64::from(request);
-        if given == asked {
-            return Bounds {
-                least: request,
-                most: request,
-            };
-        }
-        let least = request * given / asked;
-        Bounds {
-            least,
-            most: least + 1,
-        }
+        self.given[level.index()]
+    }
+
+    /// What a level asks for.
+    #[inline]
+    pub(crate) fn asked(&self, level: Level) -> u64
+        ensures exact { result ≡ slice_index self.now.asked (level - 1) }
+        ensures few { result ≤ 1024 * 65535 }
+    {
+        self.asked[level.index()]
     }
 }

@@ -18,6 +18,6 @@ pub returns-clause-charts : goal.returns-clause-charts
 returns-clause-charts g c =
     let left = g.R.Source.left c.args.source.now in
     let left' = g.R.Source.left c.watch_source.new.source in
-    subst (λ (m : Making). Charts c.args.columns c.args.arenas.now c.args.from c.args.to left left' c.in_ok-found.found m.chart) (sym c.making.view_is)
-    (charts c.no_carry_to_keep.ensures.after_a_level c.args.columns c.args.arenas.now c.args.from c.args.to c.in_ok-new.field-0 _ c.in_ok-found.making left left' c.in_ok-found.found
+    subst (λ (m : Making). Charts c.args.columns c.args.arenas.now c.args.from c.args.to left left' c.in_ok-found.found m.followed.chart) (sym c.making.view_is)
+    (charts c.no_carry_to_keep.ensures.after_a_level c.args.columns c.args.arenas.now c.args.from c.args.to c.in_ok-new.field-0 _ _ c.in_ok-found.making left left' c.in_ok-found.found
     c.requires.some c.in_ok-new.ensures.opened c.in_ok-found.ensures.watches)

@@ -19,8 +19,8 @@ returns-clause-chart c =
     let width : c.self.inside.width ≡ width_of c.self.inside.columns (n + 1) =
     c.self.invariant.1 ∙ width-still c.self.inside.columns n c.self.invariant.0 (ap goes_on c.self.view_is ∙ c.requires.on) in
     (λ i. charted c.self.inside.columns (n + 1) (c.near.ensures.lines i))
-    ∙ (λ i. charted c.self.inside.columns (n + 1) (near_lines (n / width i) s c.args.cmd.now c.args.reply.now c.args.known.now c.self.inside.lines))
-    ∙ ap (λ (d : Charted). (near_chart s c.args.cmd.now c.args.reply.now d c.args.known.now).0) c.self.view_is
+    ∙ (λ i. charted c.self.inside.columns (n + 1) (near_lines (n / width i) s c.args.cmd.now c.args.reply.now c.args.shares.now c.args.known.now c.self.inside.lines))
+    ∙ ap (λ (d : Charted). (near_chart s c.args.cmd.now c.args.reply.now (record { chart = d; known = c.args.known.now; shares = c.args.shares.now })).chart) c.self.view_is
 
 pub returns-clause-known : goal.returns-clause-known
 returns-clause-known c =
@@ -29,5 +29,5 @@ returns-clause-known c =
     let width : c.self.inside.width ≡ width_of c.self.inside.columns (n + 1) =
     c.self.invariant.1 ∙ width-still c.self.inside.columns n c.self.invariant.0 (ap goes_on c.self.view_is ∙ c.requires.on) in
     c.near.ensures.known
-    ∙ (λ i. (near_rows (n / width i) s c.args.cmd.now c.args.reply.now c.self.inside.lines.rows c.args.known.now).1)
-    ∙ ap (λ (d : Charted). (near_chart s c.args.cmd.now c.args.reply.now d c.args.known.now).1) c.self.view_is
+    ∙ (λ i. (near_rows (n / width i) s c.args.cmd.now c.args.reply.now c.args.shares.now c.self.inside.lines.rows c.args.known.now).1)
+    ∙ ap (λ (d : Charted). (near_chart s c.args.cmd.now c.args.reply.now (record { chart = d; known = c.args.known.now; shares = c.args.shares.now })).known) c.self.view_is
