@@ -169,11 +169,13 @@ impl<'a, G: Gate, Y: Yard> Worker<'a, G, Y> {
 }
 
 impl<'a, G: Gate, Y: Yard> Task for Worker<'a, G, Y> {
-    ghost use Rattle.std.specs.Prelude.{◌≡◌, [], None, IsSomeAnd};
+    ghost use Rattle.std.specs.Prelude.{◌≡◌, true, [], None, IsSomeAnd};
     ghost use Rattle.market_drive.specs.Causes.{HasEndedSo};
     ghost use Rattle.market_drive.specs.Opening.{HasTakenTurns};
 
     ghost worked = { λ before p after q. before ≡ None → IsSomeAnd after (λ ended. Y.ends ended × HasEndedSo p q ended) × (p.seen ≡ [] → IsSomeAnd after (HasTakenTurns Y.turns p q)) };
+
+    ghost lets = { λ worker lets. lets ≡ true };
 
     /// Where it has not worked before, it ends in one of the ways in which its yard's workers can end. With a caller that has seen
     /// nothing, which is not placed, it takes turns and makes no other call.
