@@ -9,12 +9,13 @@ use crate::progress::{Meter, MeteredSource, ProgressGate};
 use byte_devices::{ReadSource, WriteSink};
 use clap::Error;
 use clap::error::ErrorKind;
+use drive_engine::{DriveEnd, run_drive, run_drive_through, status_of_drive};
 use journal_replay::Verdict;
 use market_drive::DriveFault;
 use market_prog::{
-    ChartOptions, Choice, DriveEnd, DriveOptions, ReplayOptions, RunFault, ScriptOptions,
-    ScriptTask, explain_script, read_words, run_chart, run_drive, run_drive_through, run_journal,
-    run_replay, run_script, status_of_drive, status_of_replay, status_of_run,
+    ChartOptions, Choice, DriveOptions, ReplayOptions, RunFault, ScriptOptions, ScriptTask,
+    explain_script, read_words, run_chart, run_journal, run_replay, run_script, status_of_replay,
+    status_of_run,
 };
 use std::fmt::Display;
 use std::io::IsTerminal;

@@ -1,6 +1,5 @@
 mod Telling
 mod Examples
-mod DriveExamples
 pub mod Rows
 pub mod Walked
 pub mod Entered
@@ -12,6 +11,5 @@ pub mod Runs
 pub mod Explaining
 pub mod History
 pub mod Journaling
-pub mod Driven
 pub mod Spelling
 pub mod Drawn

@@ -11,5 +11,3 @@ pub mod Status
 pub mod Recorded
 pub mod Recording
 pub mod Journal
-pub mod DriveTexts
-pub mod Drive

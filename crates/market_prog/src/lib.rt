@@ -1,10 +1,8 @@
-//! What the program `market` does: it reads the words of its command line, and runs scripts, writes their journals, explains
-//! the markets that they lead to, replays journals, draws them, or drives plans, from a source to a sink.
+//! What the program `market` does, but for plans (`drive_engine`): it reads the words of its command line, and runs scripts, writes
+//! their journals, explains the markets that they lead to, replays journals, or draws them, from a source to a sink.
 #![tactic(auto)]
 
 mod chart;
-mod drive;
-mod drive_text;
 mod engine;
 mod explain;
 mod fault;
@@ -17,7 +15,6 @@ mod session;
 mod words;
 
 pub use chart::{ChartOptions, run_chart};
-pub use drive::{DriveEnd, run_drive, run_drive_through, status_of_drive};
 pub use engine::run_script;
 pub use explain::explain_script;
 pub use fault::{RunFault, status_of_run};

@@ -5,9 +5,8 @@ ghost use Rattle.std.specs.Prelude.{◌≡◌, ◌<◌, ◌≤◌, false};
 use crate::asserts::{holds, same};
 use crate::work::new_sink;
 use byte_devices::{DeviceFault, Refusal, Sink, Source, TestSink, TestSource};
-use market_prog::{
-    RunFault, USUAL_MARKET, explain_script, run_drive, run_journal, run_replay, run_script,
-};
+use drive_engine::run_drive;
+use market_prog::{RunFault, USUAL_MARKET, explain_script, run_journal, run_replay, run_script};
 use std::alloc::Global;
 use std::process::Abort;
 use std::rt::HostRuntime;
