@@ -270,8 +270,8 @@ module _ (xs : List Arena) (lists : List (List Row)) (n i : ℕ) (x : Arena) (h 
     promoted-newest = rw there (level_rows-older y.level y.stamp (without x.number (by_stamp xs)) older-mid)
 
     -- the visits to both lists are within the bound for all arenas
-    pub promoted-visits : (v : ℕ) → v ≤ 2 * bits (length (rows_at from lists)) + 2 * bits (length (rows_at to (without_at from x.stamp lists))) + 1 → v ≤ 4 * bits (length (by_stamp xs)) + 1
-    promoted-visits v k =
+    pub promoted-visits : (b v : ℕ) → v ≤ b + 2 * bits (length (rows_at from lists)) + 2 * bits (length (rows_at to (without_at from x.stamp lists))) + 1 → v ≤ b + 4 * bits (length (by_stamp xs)) + 1
+    promoted-visits b v k =
         let own = level-here in
         let here : rows_at from lists ≡ level_rows x.level (by_stamp xs) = ap (λ j. get_or lists j []) p ∙ h.listed.rows x.level [] own.0 own.1 in
         let part : length (rows_at from lists) ≤ length (by_stamp xs) = omega (arith, ap length here, length-level_rows x.level (by_stamp xs)) in
@@ -280,25 +280,25 @@ module _ (xs : List Arena) (lists : List (List Row)) (n i : ℕ) (x : Arena) (h 
         omega (arith, k, bits-more (length (rows_at from lists)) (length (by_stamp xs)) part, bits-more (length (rows_at to (without_at from x.stamp lists))) (length (by_stamp xs)) less)
 
     -- what is counted for both lists at least, by the arenas of their levels
-    pub promoted-least : (v : ℕ) → least_way (length (rows_at from lists)) + least_put (length (rows_at to (without_at from x.stamp lists))) ≤ v
-        → least_way (length (at_level x.level (by_stamp xs))) + least_put (length (at_level y.level (without x.number (by_stamp xs)))) ≤ v
-    promoted-least v k =
+    pub promoted-least : (b v : ℕ) → b + least_way (length (rows_at from lists)) + least_put (length (rows_at to (without_at from x.stamp lists))) ≤ v
+        → b + least_way (length (at_level x.level (by_stamp xs))) + least_put (length (at_level y.level (without x.number (by_stamp xs)))) ≤ v
+    promoted-least b v k =
         let own = level-here in
         let here : rows_at from lists ≡ level_rows x.level (by_stamp xs) = ap (λ j. get_or lists j []) p ∙ h.listed.rows x.level [] own.0 own.1 in
         let long : length (rows_at from lists) ≡ length (at_level x.level (by_stamp xs)) = ap length here ∙ length-map (at_level x.level (by_stamp xs)) level_row in
         let longer : length (rows_at to (without_at from x.stamp lists)) ≡ length (at_level y.level (without x.number (by_stamp xs))) = ap length there ∙ length-map (at_level y.level (without x.number (by_stamp xs))) level_row in
-        subst (λ (n : ℕ). least_way (length (at_level x.level (by_stamp xs))) + least_put n ≤ v) longer (subst (λ (n : ℕ). least_way n + least_put (length (rows_at to (without_at from x.stamp lists))) ≤ v) long k)
+        subst (λ (n : ℕ). b + least_way (length (at_level x.level (by_stamp xs))) + least_put n ≤ v) longer (subst (λ (n : ℕ). b + least_way n + least_put (length (rows_at to (without_at from x.stamp lists))) ≤ v) long k)
 
     -- and just so many where they are few
-    pub promoted-alone : (v : ℕ) → (length (rows_at from lists) ≤ 12 → length (rows_at to (without_at from x.stamp lists)) ≤ 12 → v ≡ bits (length (rows_at from lists)) + bits (length (rows_at to (without_at from x.stamp lists)) + 1))
+    pub promoted-alone : (b v : ℕ) → (length (rows_at from lists) ≤ 12 → length (rows_at to (without_at from x.stamp lists)) ≤ 12 → v ≡ b + bits (length (rows_at from lists)) + bits (length (rows_at to (without_at from x.stamp lists)) + 1))
         → length (at_level x.level (by_stamp xs)) ≤ 12 → length (at_level y.level (without x.number (by_stamp xs))) ≤ 12
-        → v ≡ bits (length (at_level x.level (by_stamp xs))) + bits (length (at_level y.level (without x.number (by_stamp xs))) + 1)
-    promoted-alone v k few less =
+        → v ≡ b + bits (length (at_level x.level (by_stamp xs))) + bits (length (at_level y.level (without x.number (by_stamp xs))) + 1)
+    promoted-alone b v k few less =
         let own = level-here in
         let here : rows_at from lists ≡ level_rows x.level (by_stamp xs) = ap (λ j. get_or lists j []) p ∙ h.listed.rows x.level [] own.0 own.1 in
         let long : length (rows_at from lists) ≡ length (at_level x.level (by_stamp xs)) = ap length here ∙ length-map (at_level x.level (by_stamp xs)) level_row in
         let longer : length (rows_at to (without_at from x.stamp lists)) ≡ length (at_level y.level (without x.number (by_stamp xs))) = ap length there ∙ length-map (at_level y.level (without x.number (by_stamp xs))) level_row in
-        k (omega (arith, few, long)) (omega (arith, less, longer)) ∙ ap (λ n. bits n + bits (length (rows_at to (without_at from x.stamp lists)) + 1)) long ∙ ap (λ n. bits (length (at_level x.level (by_stamp xs))) + bits (n + 1)) longer
+        k (omega (arith, few, long)) (omega (arith, less, longer)) ∙ ap (λ n. b + bits n + bits (length (rows_at to (without_at from x.stamp lists)) + 1)) long ∙ ap (λ n. b + bits (length (at_level x.level (by_stamp xs))) + bits (n + 1)) longer
 
     pub stored-promoted : y.number ≡ x.number → y.claim ≡ x.claim → IsStored (set xs i y) (with_first to (level_row y) (without_at from x.stamp lists)) n
     stored-promoted number claim =
@@ -335,34 +335,34 @@ module _ (xs : List Arena) (lists : List (List Row)) (n : ℕ) (h : IsStored xs 
   list-long = ap length list-at ∙ length-map (at_level level (by_stamp xs)) level_row
 
   -- so a visit to it counts what the level's arenas say
-  pub list-least : (v : ℕ) → least_way (length (rows_at index lists)) ≤ v → least_way (length (at_level level (by_stamp xs))) ≤ v
-  list-least v e = subst (λ (n : ℕ). least_way n ≤ v) list-long e
+  pub list-least : (b v : ℕ) → b + least_way (length (rows_at index lists)) ≤ v → b + least_way (length (at_level level (by_stamp xs))) ≤ v
+  list-least b v e = subst (λ (n : ℕ). b + least_way n ≤ v) list-long e
 
-  pub list-node : (v : ℕ) → least_node (length (rows_at index lists)) ≤ v → least_node (length (at_level level (by_stamp xs))) ≤ v
-  list-node v e = subst (λ (n : ℕ). least_node n ≤ v) list-long e
+  pub list-node : (b v : ℕ) → b + least_node (length (rows_at index lists)) ≤ v → b + least_node (length (at_level level (by_stamp xs))) ≤ v
+  list-node b v e = subst (λ (n : ℕ). b + least_node n ≤ v) list-long e
 
-  pub list-put : (v : ℕ) → least_put (length (rows_at index lists)) ≤ v → least_put (length (at_level level (by_stamp xs))) ≤ v
-  list-put v e = subst (λ (n : ℕ). least_put n ≤ v) list-long e
+  pub list-put : (b v : ℕ) → b + least_put (length (rows_at index lists)) ≤ v → b + least_put (length (at_level level (by_stamp xs))) ≤ v
+  list-put b v e = subst (λ (n : ℕ). b + least_put n ≤ v) list-long e
 
-  pub list-alone : (v : ℕ) → (length (rows_at index lists) ≤ 12 → v ≡ bits (length (rows_at index lists))) → length (at_level level (by_stamp xs)) ≤ 12 → v ≡ bits (length (at_level level (by_stamp xs)))
-  list-alone v e few = e (omega (arith, few, list-long)) ∙ ap bits list-long
+  pub list-alone : (b v : ℕ) → (length (rows_at index lists) ≤ 12 → v ≡ b + bits (length (rows_at index lists))) → length (at_level level (by_stamp xs)) ≤ 12 → v ≡ b + bits (length (at_level level (by_stamp xs)))
+  list-alone b v e few = e (omega (arith, few, list-long)) ∙ ap (λ k. b + bits k) list-long
 
-  pub list-put_alone : (v : ℕ) → (length (rows_at index lists) ≤ 12 → v ≡ bits (length (rows_at index lists) + 1)) → length (at_level level (by_stamp xs)) ≤ 12 → v ≡ bits (length (at_level level (by_stamp xs)) + 1)
-  list-put_alone v e few = e (omega (arith, few, list-long)) ∙ ap (λ k. bits (k + 1)) list-long
+  pub list-put_alone : (b v : ℕ) → (length (rows_at index lists) ≤ 12 → v ≡ b + bits (length (rows_at index lists) + 1)) → length (at_level level (by_stamp xs)) ≤ 12 → v ≡ b + bits (length (at_level level (by_stamp xs)) + 1)
+  list-put_alone b v e few = e (omega (arith, few, list-long)) ∙ ap (λ k. b + bits (k + 1)) list-long
 
   pub list-newest : (t : ℕ) → All (IsOlder t) (by_stamp xs) → All (λ (r : Row). r.stamp < t) (rows_at index lists)
   list-newest t older = rw list-at (level_rows-older level t (by_stamp xs) older)
 
   -- a visit to a list is within the bound for all arenas
-  pub list-visits : (v : ℕ) → v ≤ 2 * bits (length (rows_at index lists)) → v ≤ 2 * bits (length (by_stamp xs))
-  list-visits v e = omega (arith, bits-more (length (rows_at index lists)) (length (by_stamp xs)) (omega (arith, list-few, length-by_stamp xs)))
+  pub list-visits : (b v : ℕ) → v ≤ b + 2 * bits (length (rows_at index lists)) → v ≤ b + 2 * bits (length (by_stamp xs))
+  list-visits b v e = omega (arith, bits-more (length (rows_at index lists)) (length (by_stamp xs)) (omega (arith, list-few, length-by_stamp xs)))
 
   -- so is a way down
   pub list-height : 2 * bits (length (rows_at index lists)) ≤ 2 * bits (length (by_stamp xs))
-  list-height = list-visits (2 * bits (length (rows_at index lists))) (omega arith)
+  list-height = omega (arith, list-visits 0 (2 * bits (length (rows_at index lists))) (omega arith))
 
-  pub list-visits_one : (v : ℕ) → v ≤ 2 * bits (length (rows_at index lists)) + 1 → v ≤ 2 * bits (length (by_stamp xs)) + 1
-  list-visits_one v e = omega (arith, bits-more (length (rows_at index lists)) (length (by_stamp xs)) (omega (arith, list-few, length-by_stamp xs)))
+  pub list-visits_one : (b v : ℕ) → v ≤ b + 2 * bits (length (rows_at index lists)) + 1 → v ≤ b + 2 * bits (length (by_stamp xs)) + 1
+  list-visits_one b v e = omega (arith, bits-more (length (rows_at index lists)) (length (by_stamp xs)) (omega (arith, list-few, length-by_stamp xs)))
 
   -- the first mandated row is that of the first mandated arena
   pub list-mandated : (o : Option Row) → o ≡ find (λ (r : Row). r.mandated) (rows_at index lists)

@@ -5,8 +5,8 @@
 //! shows a level as a [`Span`] to whoever walks. A claim is changed by a [`Change`]; a new arena, or one that gets a new
 //! stamp, goes first. Only `push` takes memory.
 //!
-//! Each call that goes into a level's rows says how many visits it made, as `wide_rows` counts them. To find an arena by its number makes
-//! none.
+//! Each call that goes into a level's rows adds the visits that it makes to its last argument, as `wide_rows` counts them. To find an
+//! arena by its number makes none, and a call that is refused adds none.
 #![tactic(auto)]
 
 mod change;

@@ -1,5 +1,5 @@
 //! The living arenas: a table by number, and for each level a list of rows by stamp.
-ghost use Rattle.std.specs.Prelude.{◌≡◌, ℕ, ◌-◌, slice_index, ◌+◌, ◌*◌, ◌<◌, ◌≤◌, ◌∷◌, [], None, Some, Ok, Err, length, take, slice_get, nat_lt, if◌then◌else◌, option_map, IsSome, OnSome, IfNone, IfSome, IfOk, IfErr, OnOk, OnErr};
+ghost use Rattle.std.specs.Prelude.{◌≡◌, ℕ, ◌-◌, slice_index, ◌+◌, ◌*◌, ◌^◌, ◌<◌, ◌≤◌, ◌∷◌, [], None, Some, Ok, Err, length, take, slice_get, nat_lt, if◌then◌else◌, option_map, IsSome, OnSome, IfNone, IfSome, IfOk, IfErr, OnOk, OnErr};
 ghost use Rattle.std.specs.List.{All, find};
 ghost use Rattle.market_types.specs.State.{Arena};
 ghost use Rattle.market_types.specs.Claims.{is_mandated};
@@ -101,14 +101,15 @@ impl Arenas {
     }
 
     /// What the arenas of a level ask for that are newer than this stamp.
-    pub fn before(&self, level: Level, stamp: u32) -> (u64, u32)
-        ensures exact { result.0 ≡ total_request (at_level level (newer stamp self.now)) }
-        ensures least { least_way (length (at_level level self.now)) ≤ result.1 }
-        ensures alone { length (at_level level self.now) ≤ 12 → result.1 ≡ bits (length (at_level level self.now)) }
-        ensures visits { result.1 ≤ 2 * bits (length self.now) }
-        ensures few { result.1 ≤ 22 }
+    pub fn before(&self, level: Level, stamp: u32, visits: &mut u32) -> u64
+        requires few { visits.old < 2 ^ 30 }
+        ensures exact { result ≡ total_request (at_level level (newer stamp self.now)) }
+        ensures least { visits.old + least_way (length (at_level level self.now)) ≤ visits.new }
+        ensures alone { length (at_level level self.now) ≤ 12 → visits.new ≡ visits.old + bits (length (at_level level self.now)) }
+        ensures visits { visits.new ≤ visits.old + 2 * bits (length self.now) }
+        ensures few { visits.new ≤ visits.old + 22 }
     {
-        self.lists.before(level.index(), stamp)
+        self.lists.before(level.index(), stamp, visits)
     }
 
     /// What each level asks for, level 1 first.
@@ -126,19 +127,20 @@ impl Arenas {
     }
 
     /// The first arena of a level that has enqueued work and asks for workers.
-    pub fn first_mandated(&self, level: Level) -> (Option<ArenaId>, u32)
-        ensures exact { result.0
+    pub fn first_mandated(&self, level: Level, visits: &mut u32) -> Option<ArenaId>
+        requires few { visits.old < 2 ^ 30 }
+        ensures exact { result
             ≡ option_map (λ (a : Arena). a.number) (find (λ (a : Arena). is_mandated a.claim) (at_level level self.now)) }
-        ensures entered { least_node (length (at_level level self.now)) ≤ result.1 }
-        ensures least { IfSome result.0 (λ _. least_way (length (at_level level self.now)) ≤ result.1) }
-        ensures alone { length (at_level level self.now) ≤ 12 → result.1 ≡ bits (length (at_level level self.now)) }
-        ensures visits { result.1 ≤ 2 * bits (length self.now) }
-        ensures few { result.1 ≤ 22 }
+        ensures entered { visits.old + least_node (length (at_level level self.now)) ≤ visits.new }
+        ensures least { IfSome result (λ _. visits.old + least_way (length (at_level level self.now)) ≤ visits.new) }
+        ensures alone { length (at_level level self.now) ≤ 12 → visits.new ≡ visits.old + bits (length (at_level level self.now)) }
+        ensures visits { visits.new ≤ visits.old + 2 * bits (length self.now) }
+        ensures few { visits.new ≤ visits.old + 22 }
     {
-        let (row, visits) = self.lists.first_mandated(level.index());
+        let row = self.lists.first_mandated(level.index(), visits);
         match row {
-            Some(row) => (Some(row.arena), visits),
-            None => (None, visits),
+            Some(row) => Some(row.arena),
+            None => None,
         }
     }
 
@@ -147,8 +149,8 @@ impl Arenas {
         ensures exact { result ≡ slice_get (at_level level self.now) index }
         ensures there { IfSome result (λ found. arena_at found.number self.now ≡ Some found) }
     {
-        let (row, _visits) = self.lists.walk(level.index(), index);
-        let row = row?;
+        let mut visits = 0;
+        let row = self.lists.walk(level.index(), index, &mut visits)?;
         self.get(row.arena)
     }
 
@@ -164,33 +166,48 @@ impl Arenas {
     }
 
     /// A new arena, newer than all others.
-    pub fn push(&mut self, alloc: Global, arena: StoredArena) -> Result<u32, AllocError>
+    pub fn push(
+        &mut self,
+        alloc: Global,
+        arena: StoredArena,
+        visits: &mut u32,
+    ) -> Result<(), AllocError>
         requires room { length self.old < 1024 }
         requires newest { All (λ (a : Arena). a.stamp < arena.stamp) self.old }
         requires last { All (λ (a : Arena). a.number < arena.number) self.old }
+        requires few { visits.old < 2 ^ 30 }
         ensures pushed { OnOk result (self.new ≡ arena ∷ self.old) }
         ensures unchanged { OnErr result (self.new ≡ self.old) }
-        ensures least { IfOk result (λ visits. least_put (length (at_level arena.level self.old)) ≤ visits) }
-        ensures alone { length (at_level arena.level self.old) ≤ 12 → IfOk result (λ visits. visits ≡ bits (length (at_level arena.level self.old) + 1)) }
-        ensures visits { IfOk result (λ visits. visits ≤ 2 * bits (length self.old) + 1) }
+        ensures least { OnOk result (visits.old + least_put (length (at_level arena.level self.old)) ≤ visits.new) }
+        ensures alone { length (at_level arena.level self.old) ≤ 12
+            → OnOk result (visits.new ≡ visits.old + bits (length (at_level arena.level self.old) + 1)) }
+        ensures visits { OnOk result (visits.new ≤ visits.old + 2 * bits (length self.old) + 1) }
     {
         self.table.reserve()?;
-        let visits = self.lists.push(alloc, arena.level().index(), arena.row())?;
+        self.lists
+            .push(alloc, arena.level().index(), arena.row(), visits)?;
         self.table.push_reserved(arena);
         self.enqueued += counted(arena.claim());
-        Ok(visits)
+        Ok(())
     }
 
     /// Changes an arena's claim, unless the change is refused or no living arena has this number. Gives the claim then.
     #[inline(always)]
-    pub fn change(&mut self, arena: ArenaId, change: Change) -> Result<(ArenaRecord, u32), Fault>
-        ensures claim { IfOk result (λ done. changed_at (arena_at arena self.old) change ≡ Ok done.0) }
-        ensures next { IfOk result (λ done. self.new ≡ with_claim arena done.0 self.old) }
+    pub fn change(
+        &mut self,
+        arena: ArenaId,
+        change: Change,
+        visits: &mut u32,
+    ) -> Result<ArenaRecord, Fault>
+        requires few { visits.old < 2 ^ 30 }
+        ensures claim { IfOk result (λ claim. changed_at (arena_at arena self.old) change ≡ Ok claim) }
+        ensures next { IfOk result (λ claim. self.new ≡ with_claim arena claim self.old) }
         ensures fault { IfErr result (λ fault. changed_at (arena_at arena self.old) change ≡ Err fault) }
         ensures unchanged { OnErr result (self.new ≡ self.old) }
-        ensures least { IfOk result (λ done. least_node (beside arena self.old) ≤ done.1) }
-        ensures alone { beside arena self.old ≤ 12 → IfOk result (λ done. done.1 ≡ bits (beside arena self.old)) }
-        ensures visits { IfOk result (λ done. done.1 ≤ 2 * bits (length self.old)) }
+        ensures least { OnOk result (visits.old + least_node (beside arena self.old) ≤ visits.new) }
+        ensures alone { beside arena self.old ≤ 12 → OnOk result (visits.new ≡ visits.old + bits (beside arena self.old)) }
+        ensures visits { OnOk result (visits.new ≤ visits.old + 2 * bits (length self.old)) }
+        ensures uncounted { OnErr result (visits.new ≡ visits.old) }
     {
         let Some(place) = self.table.place_to_change(arena) else {
             return Err(Fault::NoArena);
@@ -202,50 +219,67 @@ impl Arenas {
         self.enqueued = self.enqueued - counted(old.claim()) + counted(claim);
         let row = new.row();
         let level = old.level().index();
-        let visits = self
-            .lists
-            .update(level, old.row(), row.request, row.mandated, &mut near);
+        self.lists.update(
+            level,
+            old.row(),
+            row.request,
+            row.mandated,
+            &mut near,
+            visits,
+        );
         self.table.set(place, new, near);
-        Ok((claim, visits))
+        Ok(claim)
     }
 
     /// The arena goes; `None` where no living arena has this number.
-    pub fn remove(&mut self, arena: ArenaId) -> Option<u32>
+    pub fn remove(&mut self, arena: ArenaId, visits: &mut u32) -> Option<()>
+        requires few { visits.old < 2 ^ 30 }
         ensures exact { self.new ≡ without arena self.old }
         ensures there { OnSome result (IsSome (arena_at arena self.old)) }
         ensures missing { IfNone result (arena_at arena self.old ≡ None) }
         ensures unchanged { IfNone result (self.new ≡ self.old) }
-        ensures least { IfSome result (λ visits. least_way (beside arena self.old) ≤ visits) }
-        ensures alone { beside arena self.old ≤ 12 → IfSome result (λ visits. visits ≡ bits (beside arena self.old)) }
-        ensures visits { IfSome result (λ visits. visits ≤ 2 * bits (length self.old)) }
+        ensures least { OnSome result (visits.old + least_way (beside arena self.old) ≤ visits.new) }
+        ensures alone { beside arena self.old ≤ 12 → OnSome result (visits.new ≡ visits.old + bits (beside arena self.old)) }
+        ensures visits { OnSome result (visits.new ≤ visits.old + 2 * bits (length self.old)) }
+        ensures uncounted { IfNone result (visits.new ≡ visits.old) }
     {
         let index = self.table.index_of(arena)?;
         let old = self.table.remove(index);
         self.enqueued -= counted(old.claim());
-        let (_taken, visits) = self.lists.take(old.level().index(), old.stamp());
-        Some(visits)
+        let _taken = self.lists.take(old.level().index(), old.stamp(), visits);
+        Some(())
     }
 
     /// The arena goes first at this level, with a new stamp; `None` where no living arena has this number.
-    pub fn promote(&mut self, arena: ArenaId, stamp: u32, level: Level) -> Option<u32>
+    pub fn promote(
+        &mut self,
+        arena: ArenaId,
+        stamp: u32,
+        level: Level,
+        visits: &mut u32,
+    ) -> Option<()>
         requires newest { All (λ (a : Arena). a.stamp < stamp) self.old }
+        requires few { visits.old < 2 ^ 30 }
         ensures there { OnSome result (IsSome (arena_at arena self.old)) }
         ensures exact { (a : Arena) → arena_at arena self.old ≡ Some a
             → self.new ≡ record a { stamp = stamp; level = level } ∷ without a.number self.old }
         ensures missing { IfNone result (arena_at arena self.old ≡ None) }
         ensures unchanged { IfNone result (self.new ≡ self.old) }
-        ensures least { IfSome result (λ visits. least_way (beside arena self.old) + least_put (length (at_level level (without arena self.old))) ≤ visits) }
+        ensures least { OnSome result
+            (visits.old + least_way (beside arena self.old) + least_put (length (at_level level (without arena self.old))) ≤ visits.new) }
         ensures alone { beside arena self.old ≤ 12 → length (at_level level (without arena self.old)) ≤ 12
-            → IfSome result (λ visits. visits ≡ bits (beside arena self.old) + bits (length (at_level level (without arena self.old)) + 1)) }
-        ensures visits { IfSome result (λ visits. visits ≤ 4 * bits (length self.old) + 1) }
+            → OnSome result (visits.new ≡ visits.old + bits (beside arena self.old) + bits (length (at_level level (without arena self.old)) + 1)) }
+        ensures visits { OnSome result (visits.new ≤ visits.old + 4 * bits (length self.old) + 1) }
+        ensures uncounted { IfNone result (visits.new ≡ visits.old) }
     {
         let place = self.table.place_to_change(arena)?;
         let old = self.table.at(place);
         let from = old.level().index();
-        let visits = self.lists.promote(from, old.stamp(), level.index(), stamp);
+        self.lists
+            .promote(from, old.stamp(), level.index(), stamp, visits);
         self.table
             .set(place, old.promoted(stamp, level), self.table.near(place));
-        Some(visits)
+        Some(())
     }
 }
 

@@ -53,13 +53,13 @@ way-alone n few = omega (arith, length-digits_of-le 2 4 n (omega arith) (omega (
 
 -- ---- a look for the arena whose enqueued work is served
 
-pub picked-next : (arenas : List Arena) (k level v more : ℕ) → level ≡ k + 1 → least_picked arenas k ≤ v → least_node (length (at_level level arenas)) ≤ more → least_picked arenas (k + 1) ≤ v + more
+pub picked-next : (arenas : List Arena) (k level v more : ℕ) → level ≡ k + 1 → least_picked arenas k ≤ v → v + least_node (length (at_level level arenas)) ≤ more → least_picked arenas (k + 1) ≤ more
 picked-next arenas k level v more e before here =
     let one : k + 1 ≡ suc k = omega arith in
     let at : level ≡ suc k = omega (arith, e) in
     rw one (omega (arith, before, here, ap (λ l. least_node (length (at_level l arenas))) at))
 
-pub picked-alone : (arenas : List Arena) (k level v more : ℕ) → level ≡ k + 1 → v ≡ least_picked arenas k → more ≡ least_node (length (at_level level arenas)) → v + more ≡ least_picked arenas (k + 1)
+pub picked-alone : (arenas : List Arena) (k level v more : ℕ) → level ≡ k + 1 → v ≡ least_picked arenas k → more ≡ v + least_node (length (at_level level arenas)) → more ≡ least_picked arenas (k + 1)
 picked-alone arenas k level v more e before here =
     let one : k + 1 ≡ suc k = omega arith in
     let at : level ≡ suc k = omega (arith, e) in

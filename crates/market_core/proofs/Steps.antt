@@ -35,9 +35,9 @@ sound-claimed s n c h =
     }
 
 -- whether the change was made or refused
-pub sound-changed : (s : State) (n : ℕ) (arenas : List Arena) (r : Result (Claim × ℕ) Fault) → IsSound s
-    → IfOk r (λ done. arenas ≡ with_claim n done.0 s.arenas) → OnErr r (arenas ≡ s.arenas) → IsSound (record s { arenas = arenas })
-sound-changed s n arenas (Ok done) h next same = rw next (sound-claimed s n done.0 h)
+pub sound-changed : (s : State) (n : ℕ) (arenas : List Arena) (r : Result Claim Fault) → IsSound s
+    → IfOk r (λ claim. arenas ≡ with_claim n claim s.arenas) → OnErr r (arenas ≡ s.arenas) → IsSound (record s { arenas = arenas })
+sound-changed s n arenas (Ok claim) h next same = rw next (sound-claimed s n claim h)
 sound-changed s n arenas (Err fault) h next same = rw same h
 
 pub sound-removed : (s : State) (n : ℕ) → IsSound s → IsSound (record s { arenas = without n s.arenas })

@@ -20,8 +20,6 @@ pub struct Division {
     pub assigned: ByLevel<u64>,
     /// Where no worker may be active, the arena whose enqueued work is served.
     pub picked: Option<ArenaId>,
-    /// How many visits it took to find that arena.
-    pub visits: u32,
 }
 
 impl Division {

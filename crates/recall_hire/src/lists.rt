@@ -16,7 +16,7 @@ use wide_rows::{Quad, Span, Walk};
 const FIRST_ROOM: usize = 16;
 
 /// Puts a level's arenas, newest first, at the end of lists, each with how many workers it has too many or too few; and
-/// says how many visits that made: one at least for each arena that it lists, for each up to the last that has some of the seats,
+/// adds the visits that it makes: one at least for each arena that it lists, for each up to the last that has some of the seats,
 /// and for each behind it that is allotted a worker; and no more than one for each that it looks at or passes over. Wants memory
 /// only for what it lists.
 ///
@@ -28,33 +28,35 @@ pub fn list(
     sharing: Sharing,
     unmet: &mut u32,
     lists: &mut Lists,
-) -> Result<u32, AllocError>
+    visits: &mut u32,
+) -> Result<(), AllocError>
     requires shared { CanShareAll sharing 0 (requests rows.now.0) }
     requires few { length rows.now.0 ≤ 1024 }
+    requires room { visits.old + length rows.now.0 < 2 ^ 30 }
     requires unmet { actives (staffed sharing roster.now 0 rows.now.0) ≤ unmet.old }
     ensures listed { OnOk result (IsListed (staffed sharing roster.now 0 rows.now.0) lists.old lists.new) }
     ensures met { OnOk result (unmet.old ≡ unmet.new + actives (staffed sharing roster.now 0 rows.now.0)) }
-    ensures looked { IfOk result (λ visits. imbalances (staffed sharing roster.now 0 rows.now.0) ≤ visits) }
-    ensures met_first { IfOk result (λ visits. looks unmet.old (staffed sharing roster.now 0 rows.now.0) ≤ visits) }
-    ensures once { IfOk result (λ visits. visits ≤ length rows.now.0) }
+    ensures looked { OnOk result (visits.old + imbalances (staffed sharing roster.now 0 rows.now.0) ≤ visits.new) }
+    ensures met_first { OnOk result (visits.old + looks unmet.old (staffed sharing roster.now 0 rows.now.0) ≤ visits.new) }
+    ensures once { OnOk result (visits.new ≤ visits.old + length rows.now.0) }
     ensures succeeds { counts_in (staffed sharing roster.now 0 rows.now.0) ≡ record { recalls = []; hires = [] } → IsOk result }
 {
     let listing = Listing { roster, sharing };
     // A market with one arena needs no walk.
     if let Some(row) = rows.only() {
         listing.add(row, 0, unmet, lists)?;
-        return Ok(1);
+        *visits += 1;
+        return Ok(());
     }
-    let mut visits = 0;
     let Some(walk) = rows.walk() else {
-        return Ok(visits);
+        return Ok(());
     };
     let mut rest = walk;
     let mut carry = 0;
-    while let Some(quad) = listing.next(&mut rest, &mut carry, *unmet, &mut visits) {
-        carry = listing.list(quad, carry, unmet, &mut visits, lists)?;
+    while let Some(quad) = listing.next(&mut rest, &mut carry, *unmet, visits) {
+        carry = listing.list(quad, carry, unmet, visits, lists)?;
     }
-    Ok(visits)
+    Ok(())
 }
 
 /// Who has workers, and how those of the level are shared out.

@@ -16,7 +16,7 @@ use market_types::{ArenaId, Row};
 use wide_rows::{Quad, Span, Walk};
 
 /// The first arena of a level, newest first, that is allotted more workers than it has, where the level is assigned
-/// `workers` of its `demand`; and how many visits that made: one at least for each arena that is allotted a worker, up to and
+/// `workers` of its `demand`. It adds the visits that it makes: one at least for each arena that is allotted a worker, up to and
 /// with the one that was found, and no more than a way down for each of these. None is looked at twice, and those that are passed
 /// over count no more than one each.
 pub fn first_in_need(
@@ -24,40 +24,38 @@ pub fn first_in_need(
     rows: &Span,
     workers: u64,
     demand: u64,
-) -> (Option<ArenaId>, u32)
+    visits: &mut u32,
+) -> Option<ArenaId>
     requires within { workers ≤ demand }
     requires small { demand ≤ 1024 * 65535 }
     requires part { requests rows.now.0 ≤ demand }
     requires few { length rows.now.0 ≤ 1024 }
-    ensures exact { result.0 ≡ first_in_need (staffed (Carried workers demand) roster.now 0 rows.now.0) }
-    ensures looked { searches (staffed (Carried workers demand) roster.now 0 rows.now.0) ≤ result.1 }
-    ensures once { result.1 ≤ length rows.now.0 }
-    ensures most { result.1 ≤ rows.now.1 * searches (staffed (Carried workers demand) roster.now 0 rows.now.0) }
+    requires room { visits.old + length rows.now.0 < 2 ^ 30 }
+    ensures exact { result ≡ first_in_need (staffed (Carried workers demand) roster.now 0 rows.now.0) }
+    ensures looked { visits.old + searches (staffed (Carried workers demand) roster.now 0 rows.now.0) ≤ visits.new }
+    ensures once { visits.new ≤ visits.old + length rows.now.0 }
+    ensures most { visits.new ≤ visits.old + rows.now.1 * searches (staffed (Carried workers demand) roster.now 0 rows.now.0) }
 {
     if workers == 0 {
-        return (None, 0);
+        return None;
     }
     let search = Search {
         roster,
         workers,
         demand,
     };
-    let mut visits = 0;
     // A market with one arena needs no walk.
     if let Some(row) = rows.only() {
-        let found = search.only_needing(row, &mut visits);
-        return (found, visits);
+        return search.only_needing(row, visits);
     }
     let Some(walk) = rows.walk() else {
-        return (None, 0);
+        return None;
     };
     let asked = rows.requests();
     if workers == demand {
-        let found = first_short(roster, walk, asked, &mut visits);
-        return (found, visits);
+        return first_short(roster, walk, asked, visits);
     }
-    let found = search.first_needing(walk, workers * asked, &mut visits);
-    (found, visits)
+    search.first_needing(walk, workers * asked, visits)
 }
 
 /// Where some worker may be active: who has workers, how many the level is assigned, and what it asks for.

@@ -23,7 +23,7 @@
 //!   use, and as many shelves as they can. So a leaf is always spare. A row that finds its level's one leaf full needs a shelf:
 //!   that level counts among those with 13 rows and has none yet, so a shelf is spare too.
 //! - A promoted row is out for a moment: n - 1 rows need no more than n.
-ghost use Rattle.std.specs.Prelude.{◌≡◌, ◌≢◌, ℕ, ◌+◌, ◌*◌, ◌<◌, ◌≤◌, [], ◌∷◌, length, replicate, slice_get, slice_set, Some, All, IsSome, IfOk, IfSome, OnOk, OnErr};
+ghost use Rattle.std.specs.Prelude.{◌≡◌, ◌≢◌, ℕ, ◌+◌, ◌*◌, ◌^◌, ◌<◌, ◌≤◌, [], ◌∷◌, length, replicate, slice_get, slice_set, Some, All, IsSome, IfSome, OnOk, OnErr};
 ghost use Rattle.market_types.specs.declared.row.Row.{Row};
 ghost use Rattle.prefix_tree.specs.Rows.{IsNewestFirst, requests, requests_above, first_mandated, row_at, without, set_row};
 ghost use Rattle.prefix_tree.specs.Bits.{bits};
@@ -42,7 +42,7 @@ use std::marker::Model;
 /// level's rows, newest first, level 1 at index 0.
 ///
 /// A call that searches a level of `n` rows makes at most twice as many visits as `n` has binary digits, and one more where it
-/// puts a row in. The last part of its answer is their number. Up to 12 rows stand in one leaf, so that the number of rows alone
+/// puts a row in. It adds their number to its last argument. Up to 12 rows stand in one leaf, so that the number of rows alone
 /// says what a call counts: `alone`. More may stand in two leaves or more, and then a way down to a row is through three nodes,
 /// which count 4 or more: `least`. Only a row that is put in, or changed in the leaf that is looked at first, takes no way down.
 #[derive(Drop)]
@@ -119,51 +119,49 @@ impl Levels {
 
     /// The sum of the requests of the rows of a level whose stamp is above `stamp`, which need not be that of a row.
     #[inline]
-    pub fn before(&self, level: usize, stamp: u32) -> (u64, u32)
+    pub fn before(&self, level: usize, stamp: u32, visits: &mut u32) -> u64
         requires level { level < 8 }
-        ensures exact { result.0 ≡ requests_above stamp (rows_at level self.now) }
-        ensures least { least_way (length (rows_at level self.now)) ≤ result.1 }
-        ensures alone { length (rows_at level self.now) ≤ 12 → result.1 ≡ bits (length (rows_at level self.now)) }
-        ensures visits { result.1 ≤ 2 * bits (length (rows_at level self.now)) }
+        requires few { visits.old < 2 ^ 30 }
+        ensures exact { result ≡ requests_above stamp (rows_at level self.now) }
+        ensures least { visits.old + least_way (length (rows_at level self.now)) ≤ visits.new }
+        ensures alone { length (rows_at level self.now) ≤ 12 → visits.new ≡ visits.old + bits (length (rows_at level self.now)) }
+        ensures visits { visits.new ≤ visits.old + 2 * bits (length (rows_at level self.now)) }
     {
-        let mut visits = 0;
-        let sum = self.levels[level].sum_above(stamp, &mut visits);
-        (u64::from(sum), visits)
+        u64::from(self.levels[level].sum_above(stamp, visits))
     }
 
     /// The row at an index of a level, from 0 on, None beyond its end.
-    pub fn walk(&self, level: usize, index: usize) -> (Option<Row>, u32)
+    pub fn walk(&self, level: usize, index: usize, visits: &mut u32) -> Option<Row>
         requires level { level < 8 }
-        ensures exact { result.0 ≡ slice_get (rows_at level self.now) index }
-        ensures entered { least_node (length (rows_at level self.now)) ≤ result.1 }
-        ensures least { IfSome result.0 (λ _. least_way (length (rows_at level self.now)) ≤ result.1) }
-        ensures alone { length (rows_at level self.now) ≤ 12 → result.1 ≡ bits (length (rows_at level self.now)) }
-        ensures visits { result.1 ≤ 2 * bits (length (rows_at level self.now)) }
+        requires few { visits.old < 2 ^ 30 }
+        ensures exact { result ≡ slice_get (rows_at level self.now) index }
+        ensures entered { visits.old + least_node (length (rows_at level self.now)) ≤ visits.new }
+        ensures least { IfSome result (λ _. visits.old + least_way (length (rows_at level self.now)) ≤ visits.new) }
+        ensures alone { length (rows_at level self.now) ≤ 12 → visits.new ≡ visits.old + bits (length (rows_at level self.now)) }
+        ensures visits { visits.new ≤ visits.old + 2 * bits (length (rows_at level self.now)) }
     {
-        let mut visits = 0;
-        let row = self.levels[level].row(index, &mut visits);
-        (row, visits)
+        self.levels[level].row(index, visits)
     }
 
     /// The first mandated row of a level.
-    pub fn first_mandated(&self, level: usize) -> (Option<Row>, u32)
+    pub fn first_mandated(&self, level: usize, visits: &mut u32) -> Option<Row>
         requires level { level < 8 }
-        ensures exact { result.0 ≡ first_mandated (rows_at level self.now) }
-        ensures entered { least_node (length (rows_at level self.now)) ≤ result.1 }
-        ensures least { IfSome result.0 (λ _. least_way (length (rows_at level self.now)) ≤ result.1) }
-        ensures alone { length (rows_at level self.now) ≤ 12 → result.1 ≡ bits (length (rows_at level self.now)) }
-        ensures visits { result.1 ≤ 2 * bits (length (rows_at level self.now)) }
+        requires few { visits.old < 2 ^ 30 }
+        ensures exact { result ≡ first_mandated (rows_at level self.now) }
+        ensures entered { visits.old + least_node (length (rows_at level self.now)) ≤ visits.new }
+        ensures least { IfSome result (λ _. visits.old + least_way (length (rows_at level self.now)) ≤ visits.new) }
+        ensures alone { length (rows_at level self.now) ≤ 12 → visits.new ≡ visits.old + bits (length (rows_at level self.now)) }
+        ensures visits { visits.new ≤ visits.old + 2 * bits (length (rows_at level self.now)) }
     {
-        let mut visits = 0;
-        let row = self.levels[level].first_mandated(&mut visits);
-        (row, visits)
+        self.levels[level].first_mandated(visits)
     }
 
     /// Sets the request and the mandate of a row that a level has, as it stands there, and leaves all others.
     ///
     /// `near` names the leaf to look at first, and afterwards the one where the row is: keep it with the row for the next call, which
     /// then searches one leaf in place of three nodes. It is never trusted, so any number will do at first.
-    #[inline]
+    // Inlined, since a count that goes through memory is made even where nobody reads it.
+    #[inline(always)]
     pub fn update(
         &mut self,
         level: usize,
@@ -171,87 +169,92 @@ impl Levels {
         request: u32,
         mandated: bool,
         near: &mut u8,
-    ) -> u32
+        visits: &mut u32,
+    )
         requires level { level < 8 }
         requires request { request ≤ 65535 }
         requires there { row_at row.stamp (rows_at level self.old) ≡ Some row }
+        requires few { visits.old < 2 ^ 30 }
         ensures rows { self.new ≡ slice_set self.old level (set_row row.stamp request mandated (rows_at level self.old)) }
         ensures newest_first { IsNewestFirst (rows_at level self.new) }
-        ensures least { least_node (length (rows_at level self.old)) ≤ result }
-        ensures far { near.new ≢ near.old → least_way (length (rows_at level self.old)) ≤ result }
-        ensures alone { length (rows_at level self.old) ≤ 12 → result ≡ bits (length (rows_at level self.old)) }
-        ensures visits { result ≤ 2 * bits (length (rows_at level self.old)) }
+        ensures least { visits.old + least_node (length (rows_at level self.old)) ≤ visits.new }
+        ensures far { near.new ≢ near.old → visits.old + least_way (length (rows_at level self.old)) ≤ visits.new }
+        ensures alone { length (rows_at level self.old) ≤ 12 → visits.new ≡ visits.old + bits (length (rows_at level self.old)) }
+        ensures visits { visits.new ≤ visits.old + 2 * bits (length (rows_at level self.old)) }
     {
-        let mut visits = 0;
-        self.levels[level].update(&row, request, mandated, near, &mut visits);
-        visits
+        self.levels[level].update(&row, request, mandated, near, visits);
     }
 
     /// Adds a row that is newer than all others of its level at the front. An error says that memory ran out, and leaves the rows
     /// as they were.
-    pub fn push(&mut self, alloc: Global, level: usize, row: Row) -> Result<u32, AllocError>
+    pub fn push(
+        &mut self,
+        alloc: Global,
+        level: usize,
+        row: Row,
+        visits: &mut u32,
+    ) -> Result<(), AllocError>
         requires level { level < 8 }
         requires room { total_rows self.old < 1024 }
         requires request { row.request ≤ 65535 }
         requires newest { All (λ older. older.stamp < row.stamp) (rows_at level self.old) }
+        requires few { visits.old < 2 ^ 30 }
         ensures pushed { OnOk result (self.new ≡ with_first level row self.old) }
         ensures unchanged { OnErr result (self.new ≡ self.old) }
         ensures newest_first { OnOk result (IsNewestFirst (rows_at level self.new)) }
-        ensures least { IfOk result (λ visits. least_put (length (rows_at level self.old)) ≤ visits) }
-        ensures alone { length (rows_at level self.old) ≤ 12 → IfOk result (λ visits. visits ≡ bits (length (rows_at level self.old) + 1)) }
-        ensures visits { IfOk result (λ visits. visits ≤ 2 * bits (length (rows_at level self.old)) + 1) }
+        ensures least { OnOk result (visits.old + least_put (length (rows_at level self.old)) ≤ visits.new) }
+        ensures alone { length (rows_at level self.old) ≤ 12 → OnOk result (visits.new ≡ visits.old + bits (length (rows_at level self.old) + 1)) }
+        ensures visits { OnOk result (visits.new ≤ visits.old + 2 * bits (length (rows_at level self.old)) + 1) }
     {
         self.spare.reserve(alloc, self.rows + 1)?;
-        let mut visits = 0;
-        self.levels[level].push(&row, &mut self.spare, &mut visits);
+        self.levels[level].push(&row, &mut self.spare, visits);
         self.rows += 1;
-        Ok(visits)
+        Ok(())
     }
 
     /// Takes the row of a level with that stamp out, None where no row has it. Its memory stays, for rows to come.
-    pub fn take(&mut self, level: usize, stamp: u32) -> (Option<Row>, u32)
+    pub fn take(&mut self, level: usize, stamp: u32, visits: &mut u32) -> Option<Row>
         requires level { level < 8 }
-        ensures taken { result.0 ≡ row_at stamp (rows_at level self.old) }
+        requires few { visits.old < 2 ^ 30 }
+        ensures taken { result ≡ row_at stamp (rows_at level self.old) }
         ensures rows { self.new ≡ without_at level stamp self.old }
         ensures newest_first { IsNewestFirst (rows_at level self.new) }
-        ensures least { least_way (length (rows_at level self.old)) ≤ result.1 }
-        ensures alone { length (rows_at level self.old) ≤ 12 → result.1 ≡ bits (length (rows_at level self.old)) }
-        ensures visits { result.1 ≤ 2 * bits (length (rows_at level self.old)) }
+        ensures least { visits.old + least_way (length (rows_at level self.old)) ≤ visits.new }
+        ensures alone { length (rows_at level self.old) ≤ 12 → visits.new ≡ visits.old + bits (length (rows_at level self.old)) }
+        ensures visits { visits.new ≤ visits.old + 2 * bits (length (rows_at level self.old)) }
     {
-        let mut visits = 0;
-        let row = self.levels[level].take(stamp, &mut self.spare, &mut visits);
+        let row = self.levels[level].take(stamp, &mut self.spare, visits);
         let Some(row) = row else {
-            return (None, visits);
+            return None;
         };
         self.rows -= 1;
-        (Some(row), visits)
+        Some(row)
     }
 
     /// Takes the row with that stamp out of one level, and adds it at the front of another, or of the same, under a stamp that is
     /// newer than all others there. It takes no memory.
-    pub fn promote(&mut self, from: usize, stamp: u32, to: usize, newest: u32) -> u32
+    pub fn promote(&mut self, from: usize, stamp: u32, to: usize, newest: u32, visits: &mut u32)
         requires from { from < 8 }
         requires to { to < 8 }
         requires there { IsSome (row_at stamp (rows_at from self.old)) }
         requires newest { All (λ older. older.stamp < newest) (rows_at to (without_at from stamp self.old)) }
+        requires few { visits.old < 2 ^ 30 }
         ensures promoted { (row : Row) → row_at stamp (rows_at from self.old) ≡ Some row
             → self.new ≡ with_first to (record row { stamp = newest }) (without_at from stamp self.old) }
         ensures newest_first_from { IsNewestFirst (rows_at from self.new) }
         ensures newest_first_to { IsNewestFirst (rows_at to self.new) }
-        ensures least { least_way (length (rows_at from self.old)) + least_put (length (rows_at to (without_at from stamp self.old))) ≤ result }
+        ensures least { visits.old + least_way (length (rows_at from self.old)) + least_put (length (rows_at to (without_at from stamp self.old))) ≤ visits.new }
         ensures alone { length (rows_at from self.old) ≤ 12 → length (rows_at to (without_at from stamp self.old)) ≤ 12
-            → result ≡ bits (length (rows_at from self.old)) + bits (length (rows_at to (without_at from stamp self.old)) + 1) }
-        ensures visits { result ≤ 2 * bits (length (rows_at from self.old)) + 2 * bits (length (rows_at to (without_at from stamp self.old))) + 1 }
+            → visits.new ≡ visits.old + bits (length (rows_at from self.old)) + bits (length (rows_at to (without_at from stamp self.old)) + 1) }
+        ensures visits { visits.new ≤ visits.old + 2 * bits (length (rows_at from self.old)) + 2 * bits (length (rows_at to (without_at from stamp self.old))) + 1 }
     {
-        let mut visits = 0;
-        let Some(row) = self.levels[from].take(stamp, &mut self.spare, &mut visits) else {
+        let Some(row) = self.levels[from].take(stamp, &mut self.spare, visits) else {
             unreachable!()
         };
         let row = Row {
             stamp: newest,
             ..row
         };
-        self.levels[to].push(&row, &mut self.spare, &mut visits);
-        visits
+        self.levels[to].push(&row, &mut self.spare, visits);
     }
 }

@@ -30,14 +30,22 @@ fn pushed(rt: &impl Abort, alloc: Global, rows: &mut Levels, row: Row)
     requires newest { All (λ older. older.stamp < row.stamp) (rows_at 0 rows.old) }
     ensures { rows.new ≡ with_first 0 row rows.old }
 {
-    holds(rt, rows.push(alloc, 0, row).is_ok());
+    holds(rt, rows.push(alloc, 0, row, &mut 0).is_ok());
 }
 
 /// The first arena in need of a level that is assigned so many workers, or all that it asks for.
 fn need(roster: &Roster, rows: &Levels, workers: u64) -> (Option<ArenaId>, u32) {
     let _ = rows.len();
     let demand = rows.demand(0);
-    first_in_need(roster, &rows.whole(0), workers.min(demand), demand)
+    let mut visits = 0;
+    let found = first_in_need(
+        roster,
+        &rows.whole(0),
+        workers.min(demand),
+        demand,
+        &mut visits,
+    );
+    (found, visits)
 }
 
 #[test]
@@ -129,7 +137,15 @@ fn listed(rt: &impl Abort, alloc: Global, rows: &Levels, roster: &Roster, all: b
     let mut unmet = u32::MAX;
     holds(
         rt,
-        list(roster, &rows.whole(0), sharing, &mut unmet, &mut lists).is_ok(),
+        list(
+            roster,
+            &rows.whole(0),
+            sharing,
+            &mut unmet,
+            &mut lists,
+            &mut 0,
+        )
+        .is_ok(),
     );
     lists
 }

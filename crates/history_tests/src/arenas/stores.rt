@@ -23,26 +23,31 @@ fn two_arenas_are_told_by_number_and_by_level(rt: HostRuntime) {
     let (Ok(old), Ok(new)) = (arena(1, level), arena(2, level)) else {
         panic!(&rt; "no arena");
     };
-    same(&rt, arenas.push(rt.alloc(), old), Ok(1));
-    same(&rt, arenas.push(rt.alloc(), new), Ok(2));
+    let mut visits = 0;
+    holds(&rt, arenas.push(rt.alloc(), old, &mut visits).is_ok());
+    same(&rt, visits, 1);
+    let mut visits = 0;
+    holds(&rt, arenas.push(rt.alloc(), new, &mut visits).is_ok());
+    same(&rt, visits, 2);
     for (number, workers) in [(1, 3), (2, 2)] {
-        let asked = arenas.change(ArenaId::new(number), Change::Add(workers, 1));
-        holds(
-            &rt,
-            matches!(asked, Ok((claim, _)) if claim.mandatory() == 1),
-        );
+        let asked = arenas.change(ArenaId::new(number), Change::Add(workers, 1), &mut 0);
+        holds(&rt, matches!(asked, Ok(claim) if claim.mandatory() == 1));
     }
     holds(&rt, arenas.len() == 2 && arenas.has_mandatory());
     same(&rt, arenas.demand(level), 5);
     holds(
         &rt,
-        arenas.before(level, 1).0 == 2 && arenas.whole(level).requests() == 5,
+        arenas.before(level, 1, &mut 0) == 2 && arenas.whole(level).requests() == 5,
     );
-    same(&rt, arenas.first_mandated(level).0, Some(ArenaId::new(2)));
+    same(
+        &rt,
+        arenas.first_mandated(level, &mut 0),
+        Some(ArenaId::new(2)),
+    );
     let first = arenas.nth_of(level, 0);
     holds(&rt, matches!(first, Some(found) if found.stamp() == 2));
     holds(&rt, arenas.nth_of(level, 2).is_none());
-    holds(&rt, arenas.remove(ArenaId::new(1)).is_some());
+    holds(&rt, arenas.remove(ArenaId::new(1), &mut 0).is_some());
     holds(&rt, arenas.get(ArenaId::new(1)).is_none());
     same(&rt, arenas.demands(), [0, 0, 2, 0, 0, 0, 0, 0]);
     drop(arenas);

@@ -90,7 +90,7 @@ fn taken_row(tree: &mut Tree, stamp: u32) -> Option<Row> {
 fn take_both(rt: &impl Abort, wide: &mut Levels, tree: &mut Tree, level: usize, stamp: u32)
     requires level { level < 8 }
 {
-    same(rt, wide.take(level, stamp).0, taken_row(tree, stamp));
+    same(rt, wide.take(level, stamp, &mut 0), taken_row(tree, stamp));
 }
 
 /// Sets the row at an index.
@@ -148,10 +148,18 @@ fn promote_both(
 fn ask_both(rt: &impl Abort, wide: &Levels, tree: &Tree, level: usize, stamp: u32, index: usize)
     requires level { level < 8 }
 {
-    same(rt, wide.before(level, stamp).0, tree.sum_before(stamp).0);
+    same(
+        rt,
+        wide.before(level, stamp, &mut 0),
+        tree.sum_before(stamp).0,
+    );
     same(rt, wide.demand(level), tree.total());
-    same(rt, wide.first_mandated(level).0, tree.first_mandated().0);
-    same(rt, wide.walk(level, index).0, tree.walk(index).0);
+    same(
+        rt,
+        wide.first_mandated(level, &mut 0),
+        tree.first_mandated().0,
+    );
+    same(rt, wide.walk(level, index, &mut 0), tree.walk(index).0);
 }
 
 /// Walks through all rows of a level four by four: they are those of its tree, in order.

@@ -44,23 +44,23 @@ fn shows_full_level(rt: &impl Abort, levels: &Levels, level: u32)
     );
     same(
         rt,
-        levels.first_mandated(level as usize).0,
+        levels.first_mandated(level as usize, &mut 0),
         Some(row(8 * 63 + level + 1, level + 1, true)),
     );
     for newer in 0..128u32 {
         let stamp = 8 * (127 - newer) + level + 1;
         same(
             rt,
-            levels.before(level as usize, stamp).0,
+            levels.before(level as usize, stamp, &mut 0),
             u64::from(newer * (level + 1)),
         );
         same(
             rt,
-            levels.walk(level as usize, newer as usize).0,
+            levels.walk(level as usize, newer as usize, &mut 0),
             Some(row(stamp, level + 1, newer == 124 || newer == 64)),
         );
     }
-    same(rt, levels.walk(level as usize, 128).0, None);
+    same(rt, levels.walk(level as usize, 128, &mut 0), None);
 }
 
 /// A full store shows its rows, and rows of it are changed, taken out and moved.
@@ -75,28 +75,32 @@ fn keeps_rows_at_eight_levels(rt: HostRuntime) {
     // the row of round 63 at level 2 asks for 100 more, and is no longer mandated
     updated(&rt, &mut levels, 2, 64, 103, false);
     same(&rt, levels.demand(2), 484);
-    same(&rt, levels.before(2, 0).0, 484);
-    same(&rt, levels.before(2, u32::MAX).0, 0);
-    same(&rt, levels.walk(2, 64).0, Some(row(507, 103, false)));
-    same(&rt, levels.first_mandated(2).0, Some(row(27, 3, true)));
+    same(&rt, levels.before(2, 0, &mut 0), 484);
+    same(&rt, levels.before(2, u32::MAX, &mut 0), 0);
+    same(&rt, levels.walk(2, 64, &mut 0), Some(row(507, 103, false)));
+    same(
+        &rt,
+        levels.first_mandated(2, &mut 0),
+        Some(row(27, 3, true)),
+    );
     // the newest row of level 7 goes
-    same(&rt, levels.take(7, 1024).0, Some(row(1024, 8, false)));
-    same(&rt, levels.take(7, 1024).0, None);
+    same(&rt, levels.take(7, 1024, &mut 0), Some(row(1024, 8, false)));
+    same(&rt, levels.take(7, 1024, &mut 0), None);
     same(&rt, levels.len(), 1023);
-    same(&rt, levels.walk(7, 0).0, Some(row(1016, 8, false)));
+    same(&rt, levels.walk(7, 0, &mut 0), Some(row(1016, 8, false)));
     same(&rt, levels.demand(7), 1016);
     // the oldest row of level 0 comes first at level 7, and the next one first at its own
     promoted(&rt, &mut levels, 0, 127, 7, 2000);
     same(&rt, levels.demand(0), 127);
     same(&rt, levels.demand(7), 1017);
-    same(&rt, levels.walk(0, 127).0, None);
-    same(&rt, levels.walk(0, 126).0, Some(row(9, 1, false)));
+    same(&rt, levels.walk(0, 127, &mut 0), None);
+    same(&rt, levels.walk(0, 126, &mut 0), Some(row(9, 1, false)));
     promoted(&rt, &mut levels, 0, 126, 0, 2001);
     same(&rt, levels.demand(0), 127);
-    same(&rt, levels.before(0, 2000).0, 1);
-    same(&rt, levels.before(0, 17).0, 126);
+    same(&rt, levels.before(0, 2000, &mut 0), 1);
+    same(&rt, levels.before(0, 17, &mut 0), 126);
     same(&rt, levels.len(), 1023);
-    holds(&rt, levels.walk(0, 0).0.is_some());
+    holds(&rt, levels.walk(0, 0, &mut 0).is_some());
     drop(levels);
 }
 
@@ -111,16 +115,21 @@ fn keeps_all_rows_at_one_level(rt: HostRuntime) {
     same(&rt, levels.demand(4), 1024 * 65535);
     same(&rt, levels.demand(3), 0);
     for stamp in 1..=1024u32 {
-        let (before, visits) = levels.before(4, stamp);
+        let mut visits = 0;
+        let before = levels.before(4, stamp, &mut visits);
         same(&rt, before, u64::from(1024 - stamp) * 65535);
         holds(&rt, 1 <= visits && visits <= 22);
     }
     for stamp in 1..=1024u32 {
-        same(&rt, levels.take(4, stamp).0, Some(row(stamp, 65535, false)));
+        same(
+            &rt,
+            levels.take(4, stamp, &mut 0),
+            Some(row(stamp, 65535, false)),
+        );
         same(&rt, levels.demand(4), u64::from(1024 - stamp) * 65535);
     }
     same(&rt, levels.len(), 0);
-    same(&rt, levels.walk(4, 0).0, None);
+    same(&rt, levels.walk(4, 0, &mut 0), None);
     drop(levels);
 }
 

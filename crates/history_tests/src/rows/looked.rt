@@ -15,8 +15,7 @@ pub(crate) fn is_newest(levels: &Levels, level: usize, stamp: u32) -> bool
     ensures { IsTrue result → All (λ older. older.stamp < stamp) (rows_at level levels.now) }
 {
     let _rows = levels.len();
-    let (first, _visits) = levels.walk(level, 0);
-    let Some(newest) = first else {
+    let Some(newest) = levels.walk(level, 0, &mut 0) else {
         return true;
     };
     newest.stamp < stamp
@@ -28,7 +27,7 @@ pub(crate) fn row_there(levels: &Levels, level: usize, index: usize) -> Option<R
     ensures { IfSome result (λ row. row_at row.stamp (rows_at level levels.now) ≡ Some row) }
 {
     let _rows = levels.len();
-    levels.walk(level, index).0
+    levels.walk(level, index, &mut 0)
 }
 
 /// Pushes a row that is the newest of its level, where there is room and memory.
@@ -44,7 +43,8 @@ pub(crate) fn pushed(
 {
     holds(rt, levels.len() < 1024);
     holds(rt, is_newest(levels, level, row.stamp));
-    let Ok(visits) = levels.push(alloc, level, row) else {
+    let mut visits = 0;
+    let Ok(()) = levels.push(alloc, level, row, &mut visits) else {
         panic!(rt; "no memory");
     };
     visits
@@ -66,7 +66,9 @@ pub(crate) fn updated(
         panic!(rt; "no row there");
     };
     let mut near = 0;
-    levels.update(level, row, request, mandated, &mut near)
+    let mut visits = 0;
+    levels.update(level, row, request, mandated, &mut near, &mut visits);
+    visits
 }
 
 /// Promotes the row at an index of a level, to be the newest of another or of the same.
@@ -86,5 +88,7 @@ pub(crate) fn promoted(
         panic!(rt; "no row there");
     };
     let _rows = levels.len();
-    levels.promote(from, row.stamp, to, newest)
+    let mut visits = 0;
+    levels.promote(from, row.stamp, to, newest, &mut visits);
+    visits
 }

@@ -29,59 +29,59 @@ impl Market {
     }
 
     /// The first arena of each level that has enqueued work and asks for workers.
-    fn first_mandated_by_level(&self) -> ([Option<ArenaId>; 8], u32)
-        ensures exact { ArePicksOf self.now result.0 }
-        ensures least { least_picked self.now.arenas self.now.levels ≤ result.1 }
-        ensures alone { HasSmallLevels self.now → result.1 ≡ least_picked self.now.arenas self.now.levels }
-        ensures visits { result.1 ≤ self.now.levels * (2 * bits (length self.now.arenas)) }
-        ensures few { result.1 ≤ 176 }
+    fn first_mandated_by_level(&self, visits: &mut u32) -> [Option<ArenaId>; 8]
+        requires uncounted { visits.old ≡ 0 }
+        ensures exact { ArePicksOf self.now result }
+        ensures least { least_picked self.now.arenas self.now.levels ≤ visits.new }
+        ensures alone { HasSmallLevels self.now → visits.new ≡ least_picked self.now.arenas self.now.levels }
+        ensures visits { visits.new ≤ self.now.levels * (2 * bits (length self.now.arenas)) }
+        ensures few { visits.new ≤ 176 }
     {
         let mut picks = [None; 8];
-        let mut visits = 0;
         for index in 0..self.opening.levels {
-            let (pick, more) = self
+            let pick = self
                 .arenas
-                .first_mandated(Level::from_index(index as usize));
+                .first_mandated(Level::from_index(index as usize), visits);
             picks[index as usize] = pick;
-            visits += more;
         }
-        (picks, visits)
+        picks
     }
 
     /// The arena whose enqueued work is served where no worker may be active.
     // Apart, since each command that divides workers would else make room for the picks at its start, and few need them.
     #[cold]
     #[inline(never)]
-    fn mandatory_arena(&self) -> (Option<ArenaId>, u32)
-        ensures exact { result.0 ≡ pick_of self.now }
-        ensures least { least_picked self.now.arenas self.now.levels ≤ result.1 }
-        ensures alone { HasSmallLevels self.now → result.1 ≡ least_picked self.now.arenas self.now.levels }
-        ensures visits { result.1 ≤ self.now.levels * (2 * bits (length self.now.arenas)) }
-        ensures few { result.1 ≤ 176 }
+    fn mandatory_arena(&self, visits: &mut u32) -> Option<ArenaId>
+        requires uncounted { visits.old ≡ 0 }
+        ensures exact { result ≡ pick_of self.now }
+        ensures least { least_picked self.now.arenas self.now.levels ≤ visits.new }
+        ensures alone { HasSmallLevels self.now → visits.new ≡ least_picked self.now.arenas self.now.levels }
+        ensures visits { visits.new ≤ self.now.levels * (2 * bits (length self.now.arenas)) }
+        ensures few { visits.new ≤ 176 }
     {
-        let (picks, visits) = self.first_mandated_by_level();
-        (mandatory_pick(&picks), visits)
+        mandatory_pick(&self.first_mandated_by_level(visits))
     }
 
     /// How workers are divided now.
     // Else each caller copies the division once more, which takes longer than to make it.
     #[inline(always)]
-    pub(super) fn divide(&self) -> Division
+    pub(super) fn divide(&self, visits: &mut u32) -> Division
+        requires uncounted { visits.old ≡ 0 }
         ensures exact { IsDivisionOf self.now result }
-        ensures least { least_extra self.now ≤ result.visits }
-        ensures alone { HasSmallLevels self.now → result.visits ≡ least_extra self.now }
-        ensures visits { result.visits ≤ extra_visits self.now }
-        ensures few { result.visits ≤ 176 }
+        ensures least { least_extra self.now ≤ visits.new }
+        ensures alone { HasSmallLevels self.now → visits.new ≡ least_extra self.now }
+        ensures visits { visits.new ≤ extra_visits self.now }
+        ensures few { visits.new ≤ 176 }
     {
         bound_is_given_out();
         self.arenas.stand_once();
         let limits = self.limits();
         let demands = self.demands();
         let bound = sum_of(&demands).min(u64::from(limits.effective)) as u32;
-        let (picked, visits) = if limits.limit == 0 {
-            self.mandatory_arena()
+        let picked = if limits.limit == 0 {
+            self.mandatory_arena(visits)
         } else {
-            (None, 0)
+            None
         };
         Division {
             limit: limits.limit,
@@ -91,49 +91,55 @@ impl Market {
                 values: assign(&demands, u64::from(bound)),
             },
             picked,
-            visits,
         }
     }
 
     /// How many workers a living arena is allotted.
-    pub(super) fn allotment_of(&self, stored: StoredArena, division: &Division) -> (u32, u32)
+    pub(super) fn allotment_of(
+        &self,
+        stored: StoredArena,
+        division: &Division,
+        visits: &mut u32,
+    ) -> u32
         requires there { arena_at stored.number self.now.arenas ≡ Some stored }
         requires divided { IsDivisionOf self.now division.now }
-        ensures exact { result.0 ≡ allotment_of self.now stored.number }
-        ensures least { least_share self.now stored ≤ result.1 }
-        ensures alone { HasSmallLevels self.now → result.1 ≡ least_share self.now stored }
-        ensures visits { result.1 ≤ 2 * bits (length self.now.arenas) }
-        ensures few { result.1 ≤ 22 }
+        requires room { visits.old ≤ 176 }
+        ensures exact { result ≡ allotment_of self.now stored.number }
+        ensures least { visits.old + least_share self.now stored ≤ visits.new }
+        ensures alone { HasSmallLevels self.now → visits.new ≡ visits.old + least_share self.now stored }
+        ensures visits { visits.new ≤ visits.old + 2 * bits (length self.now.arenas) }
+        ensures few { visits.new ≤ visits.old + 22 }
     {
         if division.limit == 0 {
-            return (division.mandatory_workers(stored.arena()), 0);
+            return division.mandatory_workers(stored.arena());
         }
         no_carry_to_keep();
         let request = u64::from(stored.claim().request());
         if request == 0 {
-            return (0, 0);
+            return 0;
         }
         let level = stored.level();
         let given = division.assigned.at(level);
         let asked = division.demands.at(level);
-        let (before, visits) = self.arenas.before(level, stored.stamp());
+        let before = self.arenas.before(level, stored.stamp(), visits);
         let workers = share(given, asked, before, request);
-        (workers as u32, visits)
+        workers as u32
     }
 
     /// What is seen of a living arena.
-    pub(super) fn view_of(&self, stored: StoredArena) -> (ArenaView, u32)
+    pub(super) fn view_of(&self, stored: StoredArena, visits: &mut u32) -> ArenaView
         requires there { arena_at stored.number self.now.arenas ≡ Some stored }
-        ensures exact { result.0 ≡ view_of self.now stored }
-        ensures small { result.0.request ≤ 65535 }
-        ensures least { least_seen self.now (Some stored) ≤ result.1 }
-        ensures alone { HasSmallLevels self.now → result.1 ≡ least_seen self.now (Some stored) }
-        ensures visits { result.1 ≤ 2 * bits (length self.now.arenas) + extra_visits self.now }
+        requires uncounted { visits.old ≡ 0 }
+        ensures exact { result ≡ view_of self.now stored }
+        ensures small { result.request ≤ 65535 }
+        ensures least { least_seen self.now (Some stored) ≤ visits.new }
+        ensures alone { HasSmallLevels self.now → visits.new ≡ least_seen self.now (Some stored) }
+        ensures visits { visits.new ≤ 2 * bits (length self.now.arenas) + extra_visits self.now }
     {
-        let division = &self.divide();
-        let (allot, more) = self.allotment_of(stored, division);
+        let division = &self.divide(visits);
+        let allot = self.allotment_of(stored, division, visits);
         let active = self.roster.active(stored.arena());
-        let view = ArenaView {
+        ArenaView {
             arena: stored.arena(),
             request: stored.claim().request(),
             allot,
@@ -141,8 +147,7 @@ impl Market {
             active,
             recall: recall(active, allot),
             hire: hire(active, allot),
-        };
-        (view, division.visits + more)
+        }
     }
 
     /// What is seen of an arena, or `None` where no living arena has this number. An arena is allotted no more than it
@@ -153,8 +158,8 @@ impl Market {
     {
         self.arenas_are_within();
         let stored = self.arenas.get(arena)?;
-        let (view, _) = self.view_of(stored);
-        Some(view)
+        let mut visits = 0;
+        Some(self.view_of(stored, &mut visits))
     }
 
     /// What is seen of the arena at an index, from 0 on, of a level; `None` beyond its last, which is below 1,024, and where
@@ -169,8 +174,8 @@ impl Market {
         // That there are at most 1,024 arenas is what this call promises.
         let _ = self.arenas.len();
         let stored = self.arenas.nth_of(level, index)?;
-        let (view, _) = self.view_of(stored);
-        Some(view)
+        let mut visits = 0;
+        Some(self.view_of(stored, &mut visits))
     }
 
     /// What the arenas of a level ask for together, 0 to 67,107,840; 0 where the market has no such level. It takes no
@@ -190,7 +195,8 @@ impl Market {
     {
         bound_is_given_out();
         no_carry_to_keep();
-        let division = &self.divide();
+        let mut visits = 0;
+        let division = &self.divide(&mut visits);
         if division.limit > 0 {
             return division.assigned.at(level);
         }
@@ -204,19 +210,19 @@ impl Market {
     }
 
     /// How many workers an arena is allotted; none where no living arena has this number.
-    pub(super) fn allotment_by_number(&self, arena: ArenaId) -> (u32, u32)
-        ensures exact { result.0 ≡ allotment_of self.now arena }
-        ensures least { least_seen self.now (arena_at arena self.now.arenas) ≤ result.1 }
-        ensures alone { HasSmallLevels self.now → result.1 ≡ least_seen self.now (arena_at arena self.now.arenas) }
-        ensures visits { result.1 ≤ 2 * bits (length self.now.arenas) + extra_visits self.now }
+    pub(super) fn allotment_by_number(&self, arena: ArenaId, visits: &mut u32) -> u32
+        requires uncounted { visits.old ≡ 0 }
+        ensures exact { result ≡ allotment_of self.now arena }
+        ensures least { least_seen self.now (arena_at arena self.now.arenas) ≤ visits.new }
+        ensures alone { HasSmallLevels self.now → visits.new ≡ least_seen self.now (arena_at arena self.now.arenas) }
+        ensures visits { visits.new ≤ 2 * bits (length self.now.arenas) + extra_visits self.now }
     {
         self.arenas_are_within();
         let Some(stored) = self.arenas.get(arena) else {
-            return (0, 0);
+            return 0;
         };
-        let division = &self.divide();
-        let (allot, more) = self.allotment_of(stored, division);
-        (allot, division.visits + more)
+        let division = &self.divide(visits);
+        self.allotment_of(stored, division, visits)
     }
 }
 

@@ -34,7 +34,9 @@ impl Market {
         match cmd {
             Cmd::Join if self.is_unneeded(seat) => Ok(Reply::Idle),
             _ => {
-                let (reply, _visits) = self.apply_counted(alloc, seat, cmd)?;
+                let mut visits = 0;
+                // Taken out of its result and put into one again: a result that is handed on whole goes through memory.
+                let reply = self.answer(alloc, seat, cmd, &mut visits)?;
                 Ok(reply)
             }
         }
@@ -71,24 +73,55 @@ impl Market {
         ensures listed { lists_all cmd ≡ true → IfOk result (λ answer. answer.1 ≤ most_listed self.old) }
         ensures joined { cmd ≡ Join → IfOk result (λ answer. answer.1 ≤ most_joined self.old) }
     {
-        match cmd {
-            Cmd::Open(slots, reserved, level) => self.open(alloc, slots, reserved, level),
-            Cmd::Close(arena) => Ok(self.close(arena)),
-            Cmd::Priority(arena, level) => Ok(self.priority(arena, level)),
-            Cmd::Resize(arena, slots, reserved) => Ok(self.resize(arena, slots, reserved)),
-            Cmd::Request(arena, workers, mandatory) => Ok(self.request(arena, workers, mandatory)),
-            Cmd::Control(value) => Ok((self.control(value)?, 0)),
-            Cmd::Uncontrol(control) => Ok((self.uncontrol(control), 0)),
-            Cmd::Join => Ok(self.join(seat)),
-            Cmd::Stay => Ok(self.stay(seat)),
-            Cmd::Leave => Ok((self.leave(seat), 0)),
-            Cmd::Show(arena) => Ok(self.show(arena)),
-            Cmd::Lists => self.list(alloc),
-            Cmd::Limit => Ok((Reply::Limits(self.limits()), 0)),
-        }
+        let mut visits = 0;
+        let reply = self.answer(alloc, seat, cmd, &mut visits)?;
+        Ok((reply, u64::from(visits)))
     }
 
     // Each command's function is inlined, since a reply that goes through memory is read in other pieces than it was written in.
+
+    /// Does what a seat asks, or refuses it, and counts the visits that it makes, of which there are none yet.
+    #[inline(always)]
+    fn answer(
+        &mut self,
+        alloc: Global,
+        seat: SeatNo,
+        cmd: Cmd,
+        visits: &mut u32,
+    ) -> Result<Reply, AllocError>
+        requires seat { seat < length self.old.seats }
+        requires uncounted { visits.old ≡ 0 }
+        ensures reply { IfOk result (λ reply. reply ≡ (step self.old seat cmd).0) }
+        ensures next { OnOk result (self.new ≡ (step self.old seat cmd).1) }
+        ensures unchanged { OnErr result (self.new ≡ self.old) }
+        ensures no_memory { takes_memory cmd ≡ false → IsOk result }
+        ensures memory_last { OnErr result (is_refusal (step self.old seat cmd).0 ≡ false) }
+        ensures least { IfOk result (λ reply. least_visits self.old cmd reply ≤ visits.new) }
+        ensures alone { HasSmallLevels self.old → looks_in_order cmd ≡ false → IfOk result (λ reply. visits.new ≡ least_visits self.old cmd reply) }
+        ensures visits { looks_in_order cmd ≡ false → OnOk result (visits.new ≤ most_visits self.old) }
+        ensures listed { lists_all cmd ≡ true → OnOk result (visits.new ≤ most_listed self.old) }
+        ensures joined { cmd ≡ Join → OnOk result (visits.new ≤ most_joined self.old) }
+    {
+        match cmd {
+            Cmd::Open(slots, reserved, level) => self.open(alloc, slots, reserved, level, visits),
+            Cmd::Close(arena) => Ok(self.close(arena, visits)),
+            Cmd::Priority(arena, level) => Ok(self.priority(arena, level, visits)),
+            Cmd::Resize(arena, slots, reserved) => {
+                Ok(self.resize(arena, slots, reserved, visits))
+            }
+            Cmd::Request(arena, workers, mandatory) => {
+                Ok(self.request(arena, workers, mandatory, visits))
+            }
+            Cmd::Control(value) => self.control(value),
+            Cmd::Uncontrol(control) => Ok(self.uncontrol(control)),
+            Cmd::Join => Ok(self.join(seat, visits)),
+            Cmd::Stay => Ok(self.stay(seat, visits)),
+            Cmd::Leave => Ok(self.leave(seat)),
+            Cmd::Show(arena) => Ok(self.show(arena, visits)),
+            Cmd::Lists => self.list(alloc, visits),
+            Cmd::Limit => Ok(Reply::Limits(self.limits())),
+        }
+    }
 
     /// A new arena, before all others.
     #[inline(always)]
@@ -98,122 +131,134 @@ impl Market {
         slots: u32,
         reserved: u32,
         level: Level,
-    ) -> Result<(Reply, u64), AllocError>
-        ensures reply { IfOk result (λ answer. answer.0 ≡ (open_step self.old slots reserved level).0) }
+        visits: &mut u32,
+    ) -> Result<Reply, AllocError>
+        requires uncounted { visits.old ≡ 0 }
+        ensures reply { IfOk result (λ reply. reply ≡ (open_step self.old slots reserved level).0) }
         ensures next { OnOk result (self.new ≡ (open_step self.old slots reserved level).1) }
         ensures unchanged { OnErr result (self.new ≡ self.old) }
         ensures memory_last { OnErr result (is_refusal (open_step self.old slots reserved level).0 ≡ false) }
-        ensures least { IfOk result (λ answer. least_visits self.old (Open slots reserved level) answer.0 ≤ answer.1) }
-        ensures alone { HasSmallLevels self.old → IfOk result (λ answer. answer.1 ≡ least_visits self.old (Open slots reserved level) answer.0) }
-        ensures visits { IfOk result (λ answer. answer.1 ≤ most_visits self.old) }
+        ensures least { IfOk result (λ reply. least_visits self.old (Open slots reserved level) reply ≤ visits.new) }
+        ensures alone { HasSmallLevels self.old → IfOk result (λ reply. visits.new ≡ least_visits self.old (Open slots reserved level) reply) }
+        ensures visits { OnOk result (visits.new ≤ most_visits self.old) }
     {
         let claim = match ArenaRecord::new(slots, reserved) {
             Ok(claim) => claim,
-            Err(fault) => return Ok((Reply::Refused(fault), 0)),
+            Err(fault) => return Ok(Reply::Refused(fault)),
         };
         if level.get() > self.opening.levels {
-            return Ok((Reply::Refused(Fault::BadLevel), 0));
+            return Ok(Reply::Refused(Fault::BadLevel));
         }
         if self.arenas.len() >= Arenas::MOST_ARENAS {
-            return Ok((Reply::Refused(Fault::TooManyArenas), 0));
+            return Ok(Reply::Refused(Fault::TooManyArenas));
         }
         let last = self.opening.last.get();
         if self.next_arena > last {
-            return Ok((Reply::Refused(Fault::OutOfNumbers), 0));
+            return Ok(Reply::Refused(Fault::OutOfNumbers));
         }
         if self.next_stamp > last {
-            return Ok((Reply::Refused(Fault::OutOfNumbers), 0));
+            return Ok(Reply::Refused(Fault::OutOfNumbers));
         }
         let arena = ArenaId::new(self.next_arena);
         let stored = StoredArena::new(arena, self.next_stamp, level, claim);
         self.nobody_needed = false;
-        let visits = self.arenas.push(alloc, stored)?;
+        self.arenas.push(alloc, stored, visits)?;
         self.next_arena += 1;
         self.next_stamp += 1;
-        Ok((Reply::Opened(arena), u64::from(visits)))
+        Ok(Reply::Opened(arena))
     }
 
     /// The arena goes, unless a seat is placed at it.
     #[inline(always)]
-    fn close(&mut self, arena: ArenaId) -> (Reply, u64)
-        ensures reply { result.0 ≡ (close_step self.old arena).0 }
+    fn close(&mut self, arena: ArenaId, visits: &mut u32) -> Reply
+        requires uncounted { visits.old ≡ 0 }
+        ensures reply { result ≡ (close_step self.old arena).0 }
         ensures next { self.new ≡ (close_step self.old arena).1 }
-        ensures least { least_visits self.old (Close arena) result.0 ≤ result.1 }
-        ensures alone { HasSmallLevels self.old → result.1 ≡ least_visits self.old (Close arena) result.0 }
-        ensures visits { result.1 ≤ most_visits self.old }
+        ensures least { least_visits self.old (Close arena) result ≤ visits.new }
+        ensures alone { HasSmallLevels self.old → visits.new ≡ least_visits self.old (Close arena) result }
+        ensures visits { visits.new ≤ most_visits self.old }
     {
         let active = self.roster.active(arena);
         if active > 0 {
             return match self.arenas.get(arena) {
-                Some(_) => (Reply::Refused(Fault::Busy(active)), 0),
-                None => (Reply::Refused(Fault::NoArena), 0),
+                Some(_) => Reply::Refused(Fault::Busy(active)),
+                None => Reply::Refused(Fault::NoArena),
             };
         }
         self.nobody_needed = false;
-        match self.arenas.remove(arena) {
-            Some(visits) => (Reply::Closed, u64::from(visits)),
-            None => (Reply::Refused(Fault::NoArena), 0),
+        match self.arenas.remove(arena, visits) {
+            Some(()) => Reply::Closed,
+            None => Reply::Refused(Fault::NoArena),
         }
     }
 
     /// The arena goes first, at this level.
     #[inline(always)]
-    fn priority(&mut self, arena: ArenaId, level: Level) -> (Reply, u64)
-        ensures reply { result.0 ≡ (priority_step self.old arena level).0 }
+    fn priority(&mut self, arena: ArenaId, level: Level, visits: &mut u32) -> Reply
+        requires uncounted { visits.old ≡ 0 }
+        ensures reply { result ≡ (priority_step self.old arena level).0 }
         ensures next { self.new ≡ (priority_step self.old arena level).1 }
-        ensures least { least_visits self.old (Priority arena level) result.0 ≤ result.1 }
-        ensures alone { HasSmallLevels self.old → result.1 ≡ least_visits self.old (Priority arena level) result.0 }
-        ensures visits { result.1 ≤ most_visits self.old }
+        ensures least { least_visits self.old (Priority arena level) result ≤ visits.new }
+        ensures alone { HasSmallLevels self.old → visits.new ≡ least_visits self.old (Priority arena level) result }
+        ensures visits { visits.new ≤ most_visits self.old }
     {
         if self.opening.levels < level.get() {
-            return (Reply::Refused(Fault::BadLevel), 0);
+            return Reply::Refused(Fault::BadLevel);
         }
         if self.next_stamp > self.opening.last.get() {
             return match self.arenas.get(arena) {
-                Some(_) => (Reply::Refused(Fault::OutOfNumbers), 0),
-                None => (Reply::Refused(Fault::NoArena), 0),
+                Some(_) => Reply::Refused(Fault::OutOfNumbers),
+                None => Reply::Refused(Fault::NoArena),
             };
         }
         self.nobody_needed = false;
-        let Some(visits) = self.arenas.promote(arena, self.next_stamp, level) else {
-            return (Reply::Refused(Fault::NoArena), 0);
+        let Some(()) = self.arenas.promote(arena, self.next_stamp, level, visits) else {
+            return Reply::Refused(Fault::NoArena);
         };
         self.next_stamp += 1;
-        (Reply::Moved, u64::from(visits))
+        Reply::Moved
     }
 
     /// The arena gets other slots, at its place.
     #[inline(always)]
-    fn resize(&mut self, arena: ArenaId, slots: u32, reserved: u32) -> (Reply, u64)
-        ensures reply { result.0 ≡ (resize_step self.old arena slots reserved).0 }
+    fn resize(&mut self, arena: ArenaId, slots: u32, reserved: u32, visits: &mut u32) -> Reply
+        requires uncounted { visits.old ≡ 0 }
+        ensures reply { result ≡ (resize_step self.old arena slots reserved).0 }
         ensures next { self.new ≡ (resize_step self.old arena slots reserved).1 }
-        ensures least { least_visits self.old (Resize arena slots reserved) result.0 ≤ result.1 }
-        ensures alone { HasSmallLevels self.old → result.1 ≡ least_visits self.old (Resize arena slots reserved) result.0 }
-        ensures visits { result.1 ≤ most_visits self.old }
+        ensures least { least_visits self.old (Resize arena slots reserved) result ≤ visits.new }
+        ensures alone { HasSmallLevels self.old → visits.new ≡ least_visits self.old (Resize arena slots reserved) result }
+        ensures visits { visits.new ≤ most_visits self.old }
     {
         if let Err(fault) = ArenaRecord::new(slots, reserved) {
-            return (Reply::Refused(fault), 0);
+            return Reply::Refused(fault);
         }
         self.nobody_needed = false;
-        match self.arenas.change(arena, Change::Resize(slots, reserved)) {
-            Ok((claim, visits)) => (Reply::Resized(claim.request()), u64::from(visits)),
-            Err(fault) => (Reply::Refused(fault), 0),
+        match self
+            .arenas
+            .change(arena, Change::Resize(slots, reserved), visits)
+        {
+            Ok(claim) => Reply::Resized(claim.request()),
+            Err(fault) => Reply::Refused(fault),
         }
     }
 
     /// Adds to what the arena asks for.
     #[inline(always)]
-    fn request(&mut self, arena: ArenaId, workers: i32, mandatory: i32) -> (Reply, u64)
-        ensures reply { result.0 ≡ (request_step self.old arena workers mandatory).0 }
+    fn request(&mut self, arena: ArenaId, workers: i32, mandatory: i32, visits: &mut u32) -> Reply
+        requires uncounted { visits.old ≡ 0 }
+        ensures reply { result ≡ (request_step self.old arena workers mandatory).0 }
         ensures next { self.new ≡ (request_step self.old arena workers mandatory).1 }
-        ensures least { least_visits self.old (Request arena workers mandatory) result.0 ≤ result.1 }
-        ensures alone { HasSmallLevels self.old → result.1 ≡ least_visits self.old (Request arena workers mandatory) result.0 }
-        ensures visits { result.1 ≤ most_visits self.old }
+        ensures least { least_visits self.old (Request arena workers mandatory) result ≤ visits.new }
+        ensures alone { HasSmallLevels self.old → visits.new ≡ least_visits self.old (Request arena workers mandatory) result }
+        ensures visits { visits.new ≤ most_visits self.old }
     {
         self.nobody_needed = false;
-        match self.arenas.change(arena, Change::Add(workers, mandatory)) {
-            Ok((claim, visits)) => (Reply::Requested(claim.request()), u64::from(visits)),
-            Err(fault) => (Reply::Refused(fault), 0),
+        match self
+            .arenas
+            .change(arena, Change::Add(workers, mandatory), visits)
+        {
+            Ok(claim) => Reply::Requested(claim.request()),
+            Err(fault) => Reply::Refused(fault),
         }
     }
 
@@ -257,44 +302,46 @@ impl Market {
 
     /// An unplaced seat goes to the first arena in need of a worker.
     #[inline(always)]
-    fn join(&mut self, seat: SeatNo) -> (Reply, u64)
+    fn join(&mut self, seat: SeatNo, visits: &mut u32) -> Reply
         requires seat { seat < length self.old.seats }
-        ensures reply { result.0 ≡ (join_from self.old seat (place_of self.old seat)).0 }
-        ensures least { least_visits self.old Join result.0 ≤ result.1 }
-        ensures joined { result.1 ≤ most_joined self.old }
+        requires uncounted { visits.old ≡ 0 }
+        ensures reply { result ≡ (join_from self.old seat (place_of self.old seat)).0 }
+        ensures least { least_visits self.old Join result ≤ visits.new }
+        ensures joined { visits.new ≤ most_joined self.old }
         ensures next { self.new ≡ (join_from self.old seat (place_of self.old seat)).1 }
     {
         if let Some(arena) = self.roster.at(seat) {
-            return (Reply::Refused(Fault::AlreadyPlaced(arena)), 0);
+            return Reply::Refused(Fault::AlreadyPlaced(arena));
         }
-        let (arena, visits) = self.first_in_need();
+        let arena = self.first_in_need(visits);
         self.nobody_needed = arena.is_none();
         let Some(arena) = arena else {
-            return (Reply::Idle, u64::from(visits));
+            return Reply::Idle;
         };
         self.roster.place(seat, arena);
-        (Reply::Placed(arena), u64::from(visits))
+        Reply::Placed(arena)
     }
 
     /// The seat stays at its arena, unless that has a worker too many.
     #[inline(always)]
-    fn stay(&mut self, seat: SeatNo) -> (Reply, u64)
+    fn stay(&mut self, seat: SeatNo, visits: &mut u32) -> Reply
         requires seat { seat < length self.old.seats }
-        ensures reply { result.0 ≡ (stay_from self.old seat (place_of self.old seat)).0 }
+        requires uncounted { visits.old ≡ 0 }
+        ensures reply { result ≡ (stay_from self.old seat (place_of self.old seat)).0 }
         ensures next { self.new ≡ (stay_from self.old seat (place_of self.old seat)).1 }
-        ensures least { least_visits self.old Stay result.0 ≤ result.1 }
-        ensures alone { HasSmallLevels self.old → result.1 ≡ least_visits self.old Stay result.0 }
-        ensures visits { result.1 ≤ most_visits self.old }
+        ensures least { least_visits self.old Stay result ≤ visits.new }
+        ensures alone { HasSmallLevels self.old → visits.new ≡ least_visits self.old Stay result }
+        ensures visits { visits.new ≤ most_visits self.old }
     {
         let Some(arena) = self.roster.at(seat) else {
-            return (Reply::Refused(Fault::NotPlaced), 0);
+            return Reply::Refused(Fault::NotPlaced);
         };
-        let (allotted, visits) = self.allotment_by_number(arena);
+        let allotted = self.allotment_by_number(arena, visits);
         if recall(self.roster.active(arena), allotted) == 0 {
-            return (Reply::Stays(arena), u64::from(visits));
+            return Reply::Stays(arena);
         }
         self.unplace(seat);
-        (Reply::Recalled(arena), u64::from(visits))
+        Reply::Recalled(arena)
     }
 
     /// The seat leaves its arena.
@@ -322,27 +369,27 @@ impl Market {
 
     /// What is seen of an arena, or that there is none.
     #[inline(always)]
-    fn show(&self, arena: ArenaId) -> (Reply, u64)
-        ensures reply { result.0 ≡ (show_step self.now arena).0 }
-        ensures least { least_visits self.now (Show arena) result.0 ≤ result.1 }
-        ensures alone { HasSmallLevels self.now → result.1 ≡ least_visits self.now (Show arena) result.0 }
-        ensures visits { result.1 ≤ most_visits self.now }
+    fn show(&self, arena: ArenaId, visits: &mut u32) -> Reply
+        requires uncounted { visits.old ≡ 0 }
+        ensures reply { result ≡ (show_step self.now arena).0 }
+        ensures least { least_visits self.now (Show arena) result ≤ visits.new }
+        ensures alone { HasSmallLevels self.now → visits.new ≡ least_visits self.now (Show arena) result }
+        ensures visits { visits.new ≤ most_visits self.now }
     {
         let Some(stored) = self.arenas.get(arena) else {
-            return (Reply::Refused(Fault::NoArena), 0);
+            return Reply::Refused(Fault::NoArena);
         };
-        let (view, visits) = self.view_of(stored);
-        (Reply::Shown(view), u64::from(visits))
+        Reply::Shown(self.view_of(stored, visits))
     }
 
     /// The arenas with workers too many, and those with too few.
     #[inline(always)]
-    fn list(&self, alloc: Global) -> Result<(Reply, u64), AllocError>
-        ensures reply { IfOk result (λ answer. answer.0 ≡ Listed (counts_of self.now)) }
-        ensures least { IfOk result (λ answer. least_visits self.now Lists answer.0 ≤ answer.1) }
-        ensures listed { IfOk result (λ answer. answer.1 ≤ most_listed self.now) }
+    fn list(&self, alloc: Global, visits: &mut u32) -> Result<Reply, AllocError>
+        requires uncounted { visits.old ≡ 0 }
+        ensures reply { IfOk result (λ reply. reply ≡ Listed (counts_of self.now)) }
+        ensures least { IfOk result (λ reply. least_visits self.now Lists reply ≤ visits.new) }
+        ensures listed { OnOk result (visits.new ≤ most_listed self.now) }
     {
-        let (lists, visits) = self.lists(alloc)?;
-        Ok((Reply::Listed(lists), u64::from(visits)))
+        Ok(Reply::Listed(self.lists(alloc, visits)?))
     }
 }

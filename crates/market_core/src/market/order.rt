@@ -31,41 +31,47 @@ impl Market {
     }
 
     /// The first arena in order that is allotted more workers than it has.
-    pub(super) fn first_in_need(&self) -> (Option<ArenaId>, u32)
-        ensures exact { result.0 ≡ need_of self.now }
-        ensures entered { IfSome result.0 (λ _. 1 ≤ result.1) }
-        ensures every_search { searched self.now + least_extra self.now ≤ result.1 }
-        ensures most { result.1 ≤ most_joined self.now }
+    pub(super) fn first_in_need(&self, visits: &mut u32) -> Option<ArenaId>
+        requires uncounted { visits.old ≡ 0 }
+        ensures exact { result ≡ need_of self.now }
+        ensures entered { IfSome result (λ _. 1 ≤ visits.new) }
+        ensures every_search { searched self.now + least_extra self.now ≤ visits.new }
+        ensures most { visits.new ≤ most_joined self.now }
     {
         let levels = self.opening.levels;
-        let division = &self.divide();
-        let mut visits = division.visits;
+        let division = &self.divide(visits);
         if division.limit == 0 {
-            return (self.mandatory_in_need(division), visits);
+            return self.mandatory_in_need(division);
         }
         for level in 0..levels {
-            let (found, more) = self.in_need_at(division, Level::from_index(level as usize));
-            visits += more;
+            let found = self.in_need_at(division, Level::from_index(level as usize), visits);
             if found.is_some() {
-                return (found, visits);
+                return found;
             }
         }
-        (None, visits)
+        None
     }
 
     /// The first arena of a level that is allotted more workers than it has, where some worker may be active.
-    fn in_need_at(&self, division: &Division, level: Level) -> (Option<ArenaId>, u32)
+    fn in_need_at(&self, division: &Division, level: Level, visits: &mut u32) -> Option<ArenaId>
         requires shared { IsSharedAt level self.now division.now }
-        ensures exact { result.0 ≡ need_among self.now (at_level level self.now.arenas) }
-        ensures looked { searches (rows_at self.now level) ≤ result.1 }
-        ensures once { result.1 ≤ length (rows_at self.now level) }
-        ensures most { result.1 ≤ searches (rows_at self.now level) * (2 * bits (length self.now.arenas)) }
+        requires room { visits.old ≤ length self.now.arenas }
+        ensures exact { result ≡ need_among self.now (at_level level self.now.arenas) }
+        ensures looked { visits.old + searches (rows_at self.now level) ≤ visits.new }
+        ensures once { visits.new ≤ visits.old + length (rows_at self.now level) }
+        ensures most { visits.new ≤ visits.old + searches (rows_at self.now level) * (2 * bits (length self.now.arenas)) }
         ensures few { length self.now.arenas ≤ 1024 }
     {
         no_carry_to_keep();
         let given = division.assigned.at(level);
         let asked = division.demands.at(level);
-        first_in_need(&self.roster, &self.arenas.whole(level), given, asked)
+        first_in_need(
+            &self.roster,
+            &self.arenas.whole(level),
+            given,
+            asked,
+            visits,
+        )
     }
 
     /// Puts a level's arenas at the end of lists, each with how many workers it has too many or too few. Their seats are met.
@@ -75,15 +81,17 @@ impl Market {
         level: Level,
         unmet: &mut u32,
         lists: &mut Lists,
-    ) -> Result<u32, AllocError>
+        visits: &mut u32,
+    ) -> Result<(), AllocError>
         requires divided { IsDivisionOf self.now division.now }
         requires high { level ≤ self.now.levels }
         requires unmet { actives (rows_at self.now level) ≤ unmet.old }
+        requires room { visits.old ≤ length self.now.arenas + 176 }
         ensures listed { OnOk result (IsListed (rows_at self.now level) lists.old lists.new) }
         ensures met { OnOk result (unmet.old ≡ unmet.new + actives (rows_at self.now level)) }
-        ensures looked { IfOk result (λ visits. imbalances (rows_at self.now level) ≤ visits) }
-        ensures met_first { IfOk result (λ visits. looks unmet.old (rows_at self.now level) ≤ visits) }
-        ensures once { IfOk result (λ visits. visits ≤ length (rows_at self.now level)) }
+        ensures looked { OnOk result (visits.old + imbalances (rows_at self.now level) ≤ visits.new) }
+        ensures met_first { OnOk result (visits.old + looks unmet.old (rows_at self.now level) ≤ visits.new) }
+        ensures once { OnOk result (visits.new ≤ visits.old + length (rows_at self.now level)) }
         ensures few { length self.now.arenas ≤ 1024 }
     {
         no_carry_to_keep();
@@ -93,26 +101,30 @@ impl Market {
             division.sharing(level),
             unmet,
             lists,
+            visits,
         )
     }
 
     /// The arenas with workers too many, and those with too few.
-    pub(super) fn lists(&self, alloc: Global) -> Result<(Lists, u32), AllocError>
-        ensures exact { IfOk result (λ answer. answer.0 ≡ counts_of self.now) }
-        ensures looked { IfOk result (λ answer. length answer.0.recalls + length answer.0.hires ≤ answer.1) }
-        ensures met_first { IfOk result (λ answer. least_listed self.now ≤ answer.1) }
-        ensures once { IfOk result (λ answer. answer.1 ≤ most_listed self.now) }
+    pub(super) fn lists(&self, alloc: Global, visits: &mut u32) -> Result<Lists, AllocError>
+        requires uncounted { visits.old ≡ 0 }
+        ensures exact { IfOk result (λ lists. lists ≡ counts_of self.now) }
+        ensures looked { IfOk result (λ lists. length lists.recalls + length lists.hires ≤ visits.new) }
+        ensures met_first { OnOk result (least_listed self.now ≤ visits.new) }
+        ensures once { OnOk result (visits.new ≤ most_listed self.now) }
     {
-        let division = &self.divide();
-        let mut visits = division.visits;
+        let division = &self.divide(visits);
+        // A count of its own stays in a register while rows are walked.
+        let mut made = *visits;
         let mut unmet = self.roster.placed();
         let mut lists = Lists {
             arenas: Vec::new(alloc),
         };
         for level in 0..self.opening.levels {
             let level = Level::from_index(level as usize);
-            visits += self.list_level(division, level, &mut unmet, &mut lists)?;
+            self.list_level(division, level, &mut unmet, &mut lists, &mut made)?;
         }
-        Ok((lists, visits))
+        *visits = made;
+        Ok(lists)
     }
 }

@@ -35,7 +35,7 @@ fn what_is_written_is_granted(rt: HostRuntime) {
     let mut rows = LevelList::new();
     holds(&rt, rows.push(alloc, row()).is_ok());
     let mut levels = Levels::new(alloc);
-    holds(&rt, levels.push(alloc, 0, row()).is_ok());
+    holds(&rt, levels.push(alloc, 0, row(), &mut 0).is_ok());
     holds(&rt, Roster::new(alloc, 64).is_ok());
     let request = Cmd::Request(ArenaId::new(1_048_576), -1, -1);
     for _ in 0..9 {

@@ -97,11 +97,11 @@ fn push_first(rt: &impl Abort, alloc: Global, levels: &mut Levels, stamp: u32)
 {
     let count = levels.len();
     let demand = levels.demand(0);
-    if levels.push(alloc, 0, row(stamp)).is_ok() {
+    if levels.push(alloc, 0, row(stamp), &mut 0).is_ok() {
         return;
     }
     holds(rt, levels.len() == count && levels.demand(0) == demand);
-    let Ok(_) = levels.push(alloc, 0, row(stamp)) else {
+    let Ok(()) = levels.push(alloc, 0, row(stamp), &mut 0) else {
         panic!(rt; "no memory");
     };
 }
@@ -120,7 +120,7 @@ fn a_refused_growth_leaves_the_levels(rt: HostRuntime) {
     let levels = three_arenas(&rt, rt.alloc());
     same(&rt, levels.demand(0), 15);
     for (index, arena) in [(0, 3), (1, 2), (2, 1)] {
-        same(&rt, levels.walk(0, index).0, Some(row(arena)));
+        same(&rt, levels.walk(0, index, &mut 0), Some(row(arena)));
     }
     drop(levels);
 }
@@ -173,7 +173,14 @@ fn listed(levels: &Levels, roster: &Roster, alloc: Global) -> Result<Lists, Allo
     };
     let _ = roster.seats();
     let mut unmet = u32::MAX;
-    list(roster, &levels.whole(0), all, &mut unmet, &mut lists)?;
+    list(
+        roster,
+        &levels.whole(0),
+        all,
+        &mut unmet,
+        &mut lists,
+        &mut 0,
+    )?;
     Ok(lists)
 }
 

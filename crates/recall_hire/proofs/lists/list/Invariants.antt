@@ -9,7 +9,7 @@ abbrev pub invariant-loop-quad : goal.invariant-loop-quad
 invariant-loop-quad l = record {
   ready : IsReady l.fn.sharing l.roster l.rest l.carry l.unmet;
   few : l.visits + length l.rest < 2 ^ 30;
-  goes : (after left more : ℕ) (lists : Counts) → IsWalk l.fn.sharing l.roster l.rest l.carry after l.unmet left l.visits more l.lists lists → IsWalk l.fn.sharing l.roster l.rows.0 0 after l.fn.unmet left 0 more l.fn.lists lists;
+  goes : (after left more : ℕ) (lists : Counts) → IsWalk l.fn.sharing l.roster l.rest l.carry after l.unmet left l.visits more l.lists lists → IsWalk l.fn.sharing l.roster l.rows.0 0 after l.fn.unmet left l.fn.visits more l.fn.lists lists;
   nothing : ListsNothing l.fn.sharing l.roster 0 l.rows.0 → ListsNothing l.fn.sharing l.roster l.carry l.rest;
 }
 

@@ -16,22 +16,22 @@ pub returns-clause-visits : goal.returns-clause-visits
 returns-clause-visits c =
     let s = c.self.inside in
     let index : c.index.result ≡ c.args.level - 1 = omega arith in
-    rw (← c.self.view_is) (list-visits s.table.arenas s.lists s.enqueued c.self.invariant c.args.level c.index.result (omega arith) (omega arith) index c.before-2.result.1 c.before-2.ensures.visits)
+    rw (← c.self.view_is) (list-visits s.table.arenas s.lists s.enqueued c.self.invariant c.args.level c.index.result (omega arith) (omega arith) index c.args.visits.now c.before-2.new.visits c.before-2.ensures.visits)
 
 pub returns-clause-few : goal.returns-clause-few
 returns-clause-few c =
     let s = c.self.inside in
     let index : c.index.result ≡ c.args.level - 1 = omega arith in
-    omega (arith, all-visits s.table.arenas s.lists s.enqueued c.self.invariant, list-visits s.table.arenas s.lists s.enqueued c.self.invariant c.args.level c.index.result (omega arith) (omega arith) index c.before-2.result.1 c.before-2.ensures.visits)
+    omega (arith, all-visits s.table.arenas s.lists s.enqueued c.self.invariant, list-visits s.table.arenas s.lists s.enqueued c.self.invariant c.args.level c.index.result (omega arith) (omega arith) index c.args.visits.now c.before-2.new.visits c.before-2.ensures.visits)
 
 pub returns-clause-least : goal.returns-clause-least
 returns-clause-least c =
     let s = c.self.inside in
     let index : c.index.result ≡ c.args.level - 1 = omega arith in
-    rw (← c.self.view_is) (list-least s.table.arenas s.lists s.enqueued c.self.invariant c.args.level c.index.result (omega arith) (omega arith) index c.before-2.result.1 c.before-2.ensures.least)
+    rw (← c.self.view_is) (list-least s.table.arenas s.lists s.enqueued c.self.invariant c.args.level c.index.result (omega arith) (omega arith) index c.args.visits.now c.before-2.new.visits c.before-2.ensures.least)
 
 pub returns-clause-alone : goal.returns-clause-alone
 returns-clause-alone c =
     let s = c.self.inside in
     let index : c.index.result ≡ c.args.level - 1 = omega arith in
-    rw (← c.self.view_is) (list-alone s.table.arenas s.lists s.enqueued c.self.invariant c.args.level c.index.result (omega arith) (omega arith) index c.before-2.result.1 c.before-2.ensures.alone)
+    rw (← c.self.view_is) (list-alone s.table.arenas s.lists s.enqueued c.self.invariant c.args.level c.index.result (omega arith) (omega arith) index c.args.visits.now c.before-2.new.visits c.before-2.ensures.alone)

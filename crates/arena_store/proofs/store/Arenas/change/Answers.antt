@@ -37,8 +37,8 @@ returns-clause-claim c =
     let here : arena_at c.args.arena (by_stamp s.table.arenas) ≡ Some x = found-by_stamp c.args.arena (index_in s.table.places c.in-Some.place) s.table.arenas x c.self.invariant.by_number there (rw c.in-Some.ensures.unchanged at c.at-old.ensures) found in
     rw (← c.self.view_is, here) (ap (changed c.args.change) (sym c.claim.ensures) ∙ sym c.made_to.ensures ∙ c.in_ok-claim.was)
 
-pub update-visits-requires-clause-there : goal.update-visits-requires-clause-there
-update-visits-requires-clause-there c =
+pub update-requires-clause-there : goal.update-requires-clause-there
+update-requires-clause-there c =
     let s = c.self.inside in
     let x = c.at-old.result in
     let there = c.in-Some.ensures.there in
@@ -56,7 +56,7 @@ invariant_of-self-2 c =
     let row = c.row-row.ensures.exact ∙ ap level_row c.with_claim-new.ensures in
     let written : Row → Row → List (List Row) =
     λ old new. set s.lists c.index-level.result (set_row old.stamp new.request new.mandated (rows_at c.index-level.result s.lists)) in
-    let lists = c.update-visits.ensures.rows ∙ ap (λ (old : Row). written old c.row-row.result) c.row.ensures.exact ∙ ap (written (level_row x)) row in
+    let lists = c.update.ensures.rows ∙ ap (λ (old : Row). written old c.row-row.result) c.row.ensures.exact ∙ ap (written (level_row x)) row in
     let old : c.counted.result ≡ cond (ltb 0 x.claim.mandatory) 1 0 = c.counted.ensures ∙ ap (λ (q : Claim). cond (ltb 0 q.mandatory) 1 0) c.claim-2.ensures in
     let new : c.counted-2.result ≡ cond (ltb 0 c.in_ok-claim.claim.mandatory) 1 0 = c.counted-2.ensures in
     rw (c.set.ensures, c.in-Some.ensures.unchanged, c.with_claim-new.ensures, lists)
@@ -81,7 +81,7 @@ returns-clause-visits c =
     let there = c.in-Some.ensures.there in
     let level : c.index-level.result ≡ x.level - 1 = omega (arith, c.level.ensures) in
     let within = level-here s.table.arenas s.lists s.enqueued (index_in s.table.places c.in-Some.place) x c.self.invariant there (rw c.in-Some.ensures.unchanged at c.at-old.ensures) in
-    rw (← c.self.view_is) (list-visits s.table.arenas s.lists s.enqueued c.self.invariant x.level c.index-level.result within.0 within.1 level c.update-visits.result c.update-visits.ensures.visits)
+    rw (← c.self.view_is) (list-visits s.table.arenas s.lists s.enqueued c.self.invariant x.level c.index-level.result within.0 within.1 level c.args.visits.now c.update.new.visits c.update.ensures.visits)
 
 pub returns-clause-alone : goal.returns-clause-alone
 returns-clause-alone c =
@@ -93,7 +93,7 @@ returns-clause-alone c =
     let here : arena_at c.args.arena (by_stamp s.table.arenas) ≡ Some x = found-by_stamp c.args.arena (index_in s.table.places c.in-Some.place) s.table.arenas x c.self.invariant.by_number there at found in
     let level : c.index-level.result ≡ x.level - 1 = omega (arith, c.level.ensures) in
     let within = level-here s.table.arenas s.lists s.enqueued (index_in s.table.places c.in-Some.place) x c.self.invariant there at in
-    rw (← c.self.view_is, here) (list-alone s.table.arenas s.lists s.enqueued c.self.invariant x.level c.index-level.result within.0 within.1 level c.update-visits.result c.update-visits.ensures.alone)
+    rw (← c.self.view_is, here) (list-alone s.table.arenas s.lists s.enqueued c.self.invariant x.level c.index-level.result within.0 within.1 level c.args.visits.now c.update.new.visits c.update.ensures.alone)
 
 pub returns-clause-least : goal.returns-clause-least
 returns-clause-least c =
@@ -105,4 +105,4 @@ returns-clause-least c =
     let here : arena_at c.args.arena (by_stamp s.table.arenas) ≡ Some x = found-by_stamp c.args.arena (index_in s.table.places c.in-Some.place) s.table.arenas x c.self.invariant.by_number there at found in
     let level : c.index-level.result ≡ x.level - 1 = omega (arith, c.level.ensures) in
     let within = level-here s.table.arenas s.lists s.enqueued (index_in s.table.places c.in-Some.place) x c.self.invariant there at in
-    rw (← c.self.view_is, here) (list-node s.table.arenas s.lists s.enqueued c.self.invariant x.level c.index-level.result within.0 within.1 level c.update-visits.result c.update-visits.ensures.least)
+    rw (← c.self.view_is, here) (list-node s.table.arenas s.lists s.enqueued c.self.invariant x.level c.index-level.result within.0 within.1 level c.args.visits.now c.update.new.visits c.update.ensures.least)

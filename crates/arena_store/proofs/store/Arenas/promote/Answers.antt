@@ -21,11 +21,11 @@ row-there c =
     ap (λ k. row_at k (rows_at c.index-from.result s.lists)) c.stamp.ensures
     ∙ row-here s.table.arenas s.lists s.enqueued (index_in s.table.places c.in_ok-place.place) x c.self.invariant c.in_ok-place.ensures.there e c.index-from.result from
 
-pub promote-visits-requires-clause-there : goal.promote-visits-requires-clause-there
-promote-visits-requires-clause-there c = rw (row-there c) refl
+pub promote-requires-clause-there : goal.promote-requires-clause-there
+promote-requires-clause-there c = rw (row-there (goal.at.promote-requires-clause-there c).After-index) refl
 
-pub promote-visits-requires-clause-newest : goal.promote-visits-requires-clause-newest
-promote-visits-requires-clause-newest c =
+pub promote-requires-clause-newest : goal.promote-requires-clause-newest
+promote-requires-clause-newest c =
     let s = c.self.inside in
     let x = c.at-old.result in
     let y : Arena = record x { stamp = c.args.stamp; level = c.args.level } in
@@ -47,7 +47,7 @@ invariant_of-self-2 c =
     let older = rw (← c.self.view_is) at c.requires.newest in
     let e = (rw c.in_ok-place.ensures.unchanged at c.at-old.ensures) in
     let from : c.index-from.result ≡ x.level - 1 = omega (arith, c.level.ensures) in
-    let moved = c.promote-visits.ensures.promoted (level_row x) (row-there (goal.at.invariant_of-self-2 c).After-index)
+    let moved = c.promote.ensures.promoted (level_row x) (row-there (goal.at.invariant_of-self-2 c).After-index)
     ∙ ap (λ k. with_first c.index.result (level_row y) (without_at c.index-from.result k s.lists)) c.stamp.ensures in
     rw (c.set.ensures, c.in_ok-place.ensures.unchanged, c.promoted.ensures, moved)
     (stored-promoted s.table.arenas s.lists s.enqueued i x c.self.invariant within e y older (omega arith, omega arith) c.index-from.result c.index.result from (omega (arith, c.index.ensures.exact)) refl refl)
@@ -96,10 +96,10 @@ returns-clause-visits c =
     let older = rw (← c.self.view_is) at c.requires.newest in
     let e = (rw c.in_ok-place.ensures.unchanged at c.at-old.ensures) in
     let from : c.index-from.result ≡ x.level - 1 = omega (arith, c.level.ensures) in
-    let visits = rw c.stamp.ensures at c.promote-visits.ensures.visits in
+    let visits = rw c.stamp.ensures at c.promote.ensures.visits in
     rw (← c.self.view_is)
     (promoted-visits s.table.arenas s.lists s.enqueued i x c.self.invariant within e y older (omega arith, omega arith) c.index-from.result c.index.result from (omega (arith, c.index.ensures.exact))
-    c.promote-visits.result visits)
+    c.args.visits.now c.promote.new.visits visits)
 
 pub returns-clause-least : goal.returns-clause-least
 returns-clause-least c =
@@ -114,10 +114,10 @@ returns-clause-least c =
     let y : Arena = record x { stamp = c.args.stamp; level = c.args.level } in
     let older = rw (← c.self.view_is) at c.requires.newest in
     let number : x.number ≡ c.args.arena = ap (λ (a : Arena). a.number) e ∙ found x in
-    let least = rw c.stamp.ensures at c.promote-visits.ensures.least in
+    let least = rw c.stamp.ensures at c.promote.ensures.least in
     rw (← c.self.view_is, here, ← number)
     (promoted-least s.table.arenas s.lists s.enqueued i x c.self.invariant there e y older (omega arith, omega arith) c.index-from.result c.index.result from (omega (arith, c.index.ensures.exact))
-    c.promote-visits.result least)
+    c.args.visits.now c.promote.new.visits least)
 
 pub returns-clause-alone : goal.returns-clause-alone
 returns-clause-alone c =
@@ -132,7 +132,7 @@ returns-clause-alone c =
     let y : Arena = record x { stamp = c.args.stamp; level = c.args.level } in
     let older = rw (← c.self.view_is) at c.requires.newest in
     let number : x.number ≡ c.args.arena = ap (λ (a : Arena). a.number) e ∙ found x in
-    let alone = rw c.stamp.ensures at c.promote-visits.ensures.alone in
+    let alone = rw c.stamp.ensures at c.promote.ensures.alone in
     rw (← c.self.view_is, here, ← number)
     (promoted-alone s.table.arenas s.lists s.enqueued i x c.self.invariant there e y older (omega arith, omega arith) c.index-from.result c.index.result from (omega (arith, c.index.ensures.exact))
-    c.promote-visits.result alone)
+    c.args.visits.now c.promote.new.visits alone)

@@ -30,7 +30,7 @@ invariant_of-self-2 c =
     let older = rw (← c.self.view_is) at c.requires.newest in
     let last = rw (← c.self.view_is) at c.requires.last in
     let room : length s.table.arenas < 1024 = omega (arith, length-by_stamp s.table.arenas, ap length c.self.view_is, c.requires.room) in
-    let lists = c.in_ok-visits.ensures.pushed ∙ ap (λ (r : Row). with_first c.index.result r s.lists) c.row.ensures.exact in
+    let lists = c.in_ok-push.ensures.pushed ∙ ap (λ (r : Row). with_first c.index.result r s.lists) c.row.ensures.exact in
     rw (c.push_reserved.ensures, c.in_ok-reserve.ensures.unchanged, lists)
     (stored-pushed s.table.arenas s.lists s.enqueued c.args.arena c.index.result _ c.self.invariant room older last (omega arith, omega arith) level
     (ap (λ k. s.enqueued + k) (c.counted.ensures ∙ ap (λ (q : Claim). cond (ltb 0 q.mandatory) 1 0) c.claim.ensures)))
@@ -46,18 +46,18 @@ returns-clause-visits c =
     let s = c.self.inside in
     let level : c.index.result ≡ c.args.arena.level - 1 = omega (arith, c.level.ensures) in
     rw (← c.self.view_is) (list-visits_one s.table.arenas s.lists s.enqueued c.self.invariant c.args.arena.level c.index.result (omega arith) (omega arith) level
-    c.in_ok-visits.visits c.in_ok-visits.ensures.visits)
+    c.args.visits.now c.push.new.visits c.in_ok-push.ensures.visits)
 
 pub returns-clause-alone : goal.returns-clause-alone
 returns-clause-alone c =
     let s = c.self.inside in
     let level : c.index.result ≡ c.args.arena.level - 1 = omega (arith, c.level.ensures) in
     rw (← c.self.view_is) (list-put_alone s.table.arenas s.lists s.enqueued c.self.invariant c.args.arena.level c.index.result (omega arith) (omega arith) level
-    c.in_ok-visits.visits c.in_ok-visits.ensures.alone)
+    c.args.visits.now c.push.new.visits c.in_ok-push.ensures.alone)
 
 pub returns-clause-least : goal.returns-clause-least
 returns-clause-least c =
     let s = c.self.inside in
     let level : c.index.result ≡ c.args.arena.level - 1 = omega (arith, c.level.ensures) in
     rw (← c.self.view_is) (list-put s.table.arenas s.lists s.enqueued c.self.invariant c.args.arena.level c.index.result (omega arith) (omega arith) level
-    c.in_ok-visits.visits c.in_ok-visits.ensures.least)
+    c.args.visits.now c.push.new.visits c.in_ok-push.ensures.least)

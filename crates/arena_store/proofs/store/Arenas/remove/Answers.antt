@@ -56,7 +56,7 @@ returns-clause-visits c =
     let there = c.in_ok-index.ensures.there in
     let level : c.index.result ≡ x.level - 1 = omega (arith, c.level.ensures) in
     let within = level-here s.table.arenas s.lists s.enqueued c.in_ok-index.index x c.self.invariant there c.remove-old.ensures.value in
-    rw (← c.self.view_is) (list-visits s.table.arenas s.lists s.enqueued c.self.invariant x.level c.index.result within.0 within.1 level c.take-taken.result.1 c.take-taken.ensures.visits)
+    rw (← c.self.view_is) (list-visits s.table.arenas s.lists s.enqueued c.self.invariant x.level c.index.result within.0 within.1 level c.args.visits.now c.take-taken.new.visits c.take-taken.ensures.visits)
 
 pub returns-clause-least : goal.returns-clause-least
 returns-clause-least c =
@@ -67,7 +67,7 @@ returns-clause-least c =
     let here : arena_at c.args.arena (by_stamp s.table.arenas) ≡ Some x = found-by_stamp c.args.arena c.in_ok-index.index s.table.arenas x c.self.invariant.by_number there c.remove-old.ensures.value found in
     let level : c.index.result ≡ x.level - 1 = omega (arith, c.level.ensures) in
     let within = level-here s.table.arenas s.lists s.enqueued c.in_ok-index.index x c.self.invariant there c.remove-old.ensures.value in
-    rw (← c.self.view_is, here) (list-least s.table.arenas s.lists s.enqueued c.self.invariant x.level c.index.result within.0 within.1 level c.take-taken.result.1 c.take-taken.ensures.least)
+    rw (← c.self.view_is, here) (list-least s.table.arenas s.lists s.enqueued c.self.invariant x.level c.index.result within.0 within.1 level c.args.visits.now c.take-taken.new.visits c.take-taken.ensures.least)
 
 pub returns-clause-alone : goal.returns-clause-alone
 returns-clause-alone c =
@@ -78,4 +78,4 @@ returns-clause-alone c =
     let here : arena_at c.args.arena (by_stamp s.table.arenas) ≡ Some x = found-by_stamp c.args.arena c.in_ok-index.index s.table.arenas x c.self.invariant.by_number there c.remove-old.ensures.value found in
     let level : c.index.result ≡ x.level - 1 = omega (arith, c.level.ensures) in
     let within = level-here s.table.arenas s.lists s.enqueued c.in_ok-index.index x c.self.invariant there c.remove-old.ensures.value in
-    rw (← c.self.view_is, here) (list-alone s.table.arenas s.lists s.enqueued c.self.invariant x.level c.index.result within.0 within.1 level c.take-taken.result.1 c.take-taken.ensures.alone)
+    rw (← c.self.view_is, here) (list-alone s.table.arenas s.lists s.enqueued c.self.invariant x.level c.index.result within.0 within.1 level c.args.visits.now c.take-taken.new.visits c.take-taken.ensures.alone)

@@ -11,5 +11,5 @@ returns c older =
     let rows = rows_at c.args.level c.args.levels.now in
     first-older c.args.stamp rows c.in-Some.newest
     (All-get_or IsNewestFirst c.args.levels.now c.args.level [] (omega (arith, c.requires.level, c.len-rows.ensures.eight)) c.len-rows.ensures.newest_first)
-    (sym c.walk-first.ensures.exact ∙ c.in-Some.is)
+    (sym c.walk.ensures.exact ∙ c.in-Some.is)
     (ltb-true c.in-Some.newest.stamp c.args.stamp older)

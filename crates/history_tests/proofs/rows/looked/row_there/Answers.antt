@@ -7,6 +7,6 @@ use Rattle.history_tests.proofs.rows.looked.row_there.Goals as goal
 
 pub returns : goal.returns
 returns c =
-    if-there (rows_at c.args.level c.args.levels.now) c.args.index c.walk.result.0
+    if-there (rows_at c.args.level c.args.levels.now) c.args.index c.walk.result
     (All-get_or IsNewestFirst c.args.levels.now c.args.level [] (omega (arith, c.requires.level, c.len-rows.ensures.eight)) c.len-rows.ensures.newest_first)
     c.walk.ensures.exact

@@ -19,24 +19,24 @@ returns-in_default-clause-least c =
 pub returns-in_default-clause-alone : goal.returns-in_default-clause-alone
 returns-in_default-clause-alone c few =
     let missing : arena_at c.args.arena c.args.self.now.arenas ≡ None = ap (λ (s : State). arena_at c.args.arena s.arenas) (sym c.self.view_is) ∙ sym c.get.ensures.exact ∙ c.in_default.is in
-    sym (seen-none c.args.self.now (arena_at c.args.arena c.args.self.now.arenas) missing)
+    omega (arith, c.requires.uncounted, seen-none c.args.self.now (arena_at c.args.arena c.args.self.now.arenas) missing)
 
-pub allotment_of-allot-requires-clause-there : goal.allotment_of-allot-requires-clause-there
-allotment_of-allot-requires-clause-there c =
+pub allotment_of-requires-clause-there : goal.allotment_of-requires-clause-there
+allotment_of-requires-clause-there c =
     ap (λ n. arena_at n c.args.self.now.arenas) c.in-Some.ensures.number
     ∙ ap (λ (s : State). arena_at c.args.arena s.arenas) (sym c.self.view_is) ∙ sym c.get.ensures.exact ∙ c.in-Some.is
 
 pub returns-clause-exact : goal.returns-clause-exact
-returns-clause-exact c = c.allotment_of-allot.ensures.exact ∙ ap (allotment_of c.args.self.now) c.in-Some.ensures.number
+returns-clause-exact c = c.allotment_of.ensures.exact ∙ ap (allotment_of c.args.self.now) c.in-Some.ensures.number
 
 pub returns-clause-least : goal.returns-clause-least
 returns-clause-least c =
     let there : arena_at c.args.arena c.args.self.now.arenas ≡ Some c.in-Some.stored = ap (λ (t : State). arena_at c.args.arena t.arenas) (sym c.self.view_is) ∙ sym c.get.ensures.exact ∙ c.in-Some.is in
     let seen = seen-some c.args.self.now (arena_at c.args.arena c.args.self.now.arenas) c.in-Some.stored there in
-    omega (arith, seen, c.allotment_of-allot.ensures.least, c.divide.ensures.least)
+    omega (arith, seen, c.allotment_of.ensures.least, c.divide.ensures.least)
 
 pub returns-clause-alone : goal.returns-clause-alone
 returns-clause-alone c few =
     let there : arena_at c.args.arena c.args.self.now.arenas ≡ Some c.in-Some.stored = ap (λ (t : State). arena_at c.args.arena t.arenas) (sym c.self.view_is) ∙ sym c.get.ensures.exact ∙ c.in-Some.is in
     let seen = seen-some c.args.self.now (arena_at c.args.arena c.args.self.now.arenas) c.in-Some.stored there in
-    omega (arith, seen, c.allotment_of-allot.ensures.alone few, c.divide.ensures.alone few)
+    omega (arith, seen, c.allotment_of.ensures.alone few, c.divide.ensures.alone few)

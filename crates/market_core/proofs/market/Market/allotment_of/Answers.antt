@@ -46,14 +46,14 @@ module _ (c : After-before-before) where
       ∙ ap (λ l. get_or c.args.division.now.assigned.values (l - 1) 0) c.level-level.ensures
       ∙ c.requires.divided.assigned c.args.stored.level level-within.0 level-within.1
 
-  before : c.before-before.result.0 ≡ total_request (at_level c.args.stored.level (newer c.args.stored.stamp c.args.self.now.arenas))
+  before : c.before-before.result ≡ total_request (at_level c.args.stored.level (newer c.args.stored.stamp c.args.self.now.arenas))
   before =
       c.before-before.ensures.exact
       ∙ ap (λ l. total_request (at_level l (newer c.stamp.result c.self.inside.arenas))) c.level-level.ensures
       ∙ ap (λ t. total_request (at_level c.args.stored.level (newer t c.self.inside.arenas))) c.stamp.ensures
       ∙ ap (λ (s : State). total_request (at_level c.args.stored.level (newer c.args.stored.stamp s.arenas))) c.self.view_is
 
-  part : c.before-before.result.0 + c.from-request.result ≤ c.at-asked.result
+  part : c.before-before.result + c.from-request.result ≤ c.at-asked.result
   part = omega (arith, before, asked, demanded, request-within c.args.stored.number c.args.stored c.args.self.now.arenas found-here)
 
 -- a demand fits 32 bits
@@ -91,7 +91,7 @@ pub returns-then-division-eq0-clause-least : goal.returns-then-division-eq0-clau
 returns-then-division-eq0-clause-least c = omega (arith, share-nobody c.args.self.now c.args.stored (sym c.requires.divided.limit ∙ c.if-division-eq0.true))
 
 pub returns-then-division-eq0-clause-alone : goal.returns-then-division-eq0-clause-alone
-returns-then-division-eq0-clause-alone c few = sym (share-nobody c.args.self.now c.args.stored (sym c.requires.divided.limit ∙ c.if-division-eq0.true))
+returns-then-division-eq0-clause-alone c few = omega (arith, share-nobody c.args.self.now c.args.stored (sym c.requires.divided.limit ∙ c.if-division-eq0.true))
 
 pub returns-then-request-eq0-clause-least : goal.returns-then-request-eq0-clause-least
 returns-then-request-eq0-clause-least c =
@@ -101,7 +101,7 @@ returns-then-request-eq0-clause-least c =
 pub returns-then-request-eq0-clause-alone : goal.returns-then-request-eq0-clause-alone
 returns-then-request-eq0-clause-alone c few =
     let idle : request_of c.args.stored.claim ≡ 0 = sym (c.from-request.ensures ∙ c.request.ensures.exact ∙ ap request_of c.claim.ensures) ∙ c.if-request-eq0.true in
-    sym (share-unasked c.args.self.now c.args.stored idle)
+    omega (arith, share-unasked c.args.self.now c.args.stored idle)
 
 -- the way down that an allotment takes
 way : (c : After-before-before) → 0 < limit_of c.args.self.now → 0 < c.from-request.result → least_share c.args.self.now c.args.stored ≡ least_way (length (at_level c.args.stored.level c.args.self.now.arenas))
@@ -112,7 +112,7 @@ returns-clause-least c =
     let at : c.level-level.result ≡ c.args.stored.level = c.level-level.ensures in
     let arenas : c.self.inside.arenas ≡ c.args.self.now.arenas = ap (λ (s : State). s.arenas) c.self.view_is in
     let is = way (goal.at.returns-clause-least c).After-before-before (omega (arith, c.requires.divided.limit, c.if-division-eq0.false)) (omega (arith, c.if-request-eq0.false)) in
-    let least : least_way (length (at_level c.args.stored.level c.args.self.now.arenas)) ≤ c.before-before.result.1 = rw (← at, ← arenas) c.before-before.ensures.least in
+    let least : c.args.visits.now + least_way (length (at_level c.args.stored.level c.args.self.now.arenas)) ≤ c.before-before.new.visits = rw (← at, ← arenas) c.before-before.ensures.least in
     omega (arith, is, least)
 
 pub returns-clause-alone : goal.returns-clause-alone
@@ -121,5 +121,5 @@ returns-clause-alone c few =
     let arenas : c.self.inside.arenas ≡ c.args.self.now.arenas = ap (λ (s : State). s.arenas) c.self.view_is in
     let here : length (at_level c.args.stored.level c.args.self.now.arenas) ≤ 12 = few c.args.stored.level in
     let is = way (goal.at.returns-clause-alone c).After-before-before (omega (arith, c.requires.divided.limit, c.if-division-eq0.false)) (omega (arith, c.if-request-eq0.false)) in
-    let alone : length (at_level c.args.stored.level c.args.self.now.arenas) ≤ 12 → c.before-before.result.1 ≡ bits (length (at_level c.args.stored.level c.args.self.now.arenas)) = rw (← at, ← arenas) c.before-before.ensures.alone in
+    let alone : length (at_level c.args.stored.level c.args.self.now.arenas) ≤ 12 → c.before-before.new.visits ≡ c.args.visits.now + bits (length (at_level c.args.stored.level c.args.self.now.arenas)) = rw (← at, ← arenas) c.before-before.ensures.alone in
     omega (arith, is, alone here, way-alone (length (at_level c.args.stored.level c.args.self.now.arenas)) here)

@@ -1,4 +1,4 @@
-use Rattle.std.proofs.Common.{◌≡◌, ◌≤◌, refl, ap, arith}
+use Rattle.std.proofs.Common.{◌≡◌, ◌+◌, ◌≤◌, ap, ◌∙◌, arith}
 use Rattle.market_types.specs.State.{State}
 use Rattle.market_types.specs.declared.command.Cmd.TheVariants.{Close}
 use Rattle.arena_store.specs.Arenas.{beside}
@@ -18,9 +18,9 @@ returns-clause-alone c few =
     let arenas : c.self.inside.arenas ≡ c.args.self.now.arenas = ap (λ (s : State). s.arenas) c.self.view_is in
     let short : beside c.args.arena c.args.self.now.arenas ≤ 12 = beside-few c.args.arena c.args.self.now.arenas few in
     let is = way-alone (beside c.args.arena c.args.self.now.arenas) short in
-    elim c.match-remove.branch as (λ _. c.match-remove.result.1 ≡ least_visits c.args.self.now (Close c.args.arena) c.match-remove.result.0) [
+    elim c.match-remove.branch as (λ _. c.remove.new.visits ≡ least_visits c.args.self.now (Close c.args.arena) c.match-remove.result) [
       | in-Some-remove w ↦
-          let counted : w.in-Some-remove.visits ≡ bits (beside c.args.arena c.self.inside.arenas) = w.in-Some-remove.ensures.alone (rw arenas short) in
-          rw w.result-is (omega (arith, w.from.ensures, counted, ap (λ xs. bits (beside c.args.arena xs)) arenas, is))
-      | in-None-remove w ↦ rw w.result-is refl
+          let counted : c.remove.new.visits ≡ c.args.visits.now + bits (beside c.args.arena c.self.inside.arenas) = w.in-Some-remove.ensures.alone (rw arenas short) in
+          rw w.result-is (omega (arith, c.requires.uncounted, counted, ap (λ xs. bits (beside c.args.arena xs)) arenas, is))
+      | in-None-remove w ↦ rw w.result-is (w.in-None-remove.ensures.uncounted ∙ c.requires.uncounted)
     ]

@@ -1,4 +1,4 @@
-use Rattle.std.proofs.Common.{ap, subst, min, ◌≡◌, ◌∙◌, Option, ℕ}
+use Rattle.std.proofs.Common.{ap, subst, min, ◌≡◌, ◌∙◌}
 use Rattle.market_types.specs.State.{State}
 use Rattle.market_types.specs.Allotment.{bound_of, limit_of, effective_limit_of, total_request}
 use Rattle.market_types.specs.declared.reply.LimitView.{LimitView}
@@ -23,7 +23,7 @@ returns-clause-exact c =
       assigned = λ level low high. c.assign.ensures.in_market s c.demands-demands.ensures.exact (c.from-2.ensures ∙ bound) level low high;
       within = c.assign.ensures.no_more_than_asked;
       picked = λ none. elim c.if-limits-eq0.branch [
-        | then-limits-eq0 w ↦ ap (λ (p : Option ℕ × ℕ). p.0) w.picked-is ∙ w.mandatory_arena.ensures.exact
+        | then-limits-eq0 w ↦ w.picked-is ∙ w.mandatory_arena-picked.ensures.exact
         | else-limits-eq0 w ↦ absurd (w.if-limits-eq0.false (limit ∙ none))
       ];
     }

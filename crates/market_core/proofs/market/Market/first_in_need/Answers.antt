@@ -42,25 +42,20 @@ module _ (c : After-in_need_at-found) where
   one : s.levels - c.loop-level.level ≡ suc later
   one = omega (arith, ap (λ (t : State). t.levels) c.self.view_is, c.loop-level-test.true)
 
-  here : c.in_need_at-found.result.0 ≡ need_among s (at_level level s.arenas)
+  here : c.in_need_at-found.result ≡ need_among s (at_level level s.arenas)
   here = c.in_need_at-found.ensures.exact ∙ ap (λ n. need_among s (at_level n s.arenas)) c.from_index.ensures
 
-  looked : searches (rows_at s level) ≤ c.in_need_at-found.result.1
+  looked : c.loop-level.visits + searches (rows_at s level) ≤ c.in_need_at-found.new.visits
   looked = rw c.from_index.ensures at c.in_need_at-found.ensures.looked
 
-  once : c.in_need_at-found.result.1 ≤ length (rows_at s level)
+  once : c.in_need_at-found.new.visits ≤ c.loop-level.visits + length (rows_at s level)
   once = rw c.from_index.ensures at c.in_need_at-found.ensures.once
 
-  most : c.in_need_at-found.result.1 ≤ searches (rows_at s level) * (2 * bits (length s.arenas))
+  most : c.in_need_at-found.new.visits ≤ c.loop-level.visits + searches (rows_at s level) * (2 * bits (length s.arenas))
   most = rw c.from_index.ensures at c.in_need_at-found.ensures.most
 
   lengths : length (levels_from level (s.levels - c.loop-level.level) s.arenas) ≡ length (rows_at s level) + length (levels_from (level + 1) later s.arenas)
   lengths = coming-length s level later (s.levels - c.loop-level.level) one
-
-pub overflow_add-visits : goal.overflow_add-visits
-overflow_add-visits c =
-    let at = (goal.at.overflow_add-visits c).After-in_need_at-found in
-    omega (arith, lengths at, once at, c.loop-level.invariant.once, c.in_need_at-found.ensures.few)
 
 pub returns-then-is_some : goal.returns-then-is_some
 returns-then-is_some c =
@@ -68,14 +63,14 @@ returns-then-is_some c =
     let s = c.args.self.now in
     let level = c.loop-level.level + 1 in
     let all_later = s.levels - c.loop-level.level in
-    let visits = c.loop-level.visits + c.in_need_at-found.result.1 in
+    let visits = c.in_need_at-found.new.visits in
     let found = sym c.is_some.ensures ∙ c.if-is_some.true in
     let some : 0 < limit_of s = omega (arith, c.divide.ensures.exact.limit, c.if-division-eq0.false) in
     let all : searches (rows_among s (levels_from level all_later s.arenas)) ≡ searches (rows_at s level) =
-    searches-found s level (s.levels - level) all_later c.in_need_at-found.result.0 (one at) found (here at) in
+    searches-found s level (s.levels - level) all_later c.in_need_at-found.result (one at) found (here at) in
     record {
-      exact = need-found s level (s.levels - level) all_later c.in_need_at-found.result.0 (one at) found (here at) ∙ sym c.loop-level.invariant.needed;
-      entered = found-some s (at_level level s.arenas) c.in_need_at-found.result.0 visits (here at) (omega (arith, looked at));
+      exact = need-found s level (s.levels - level) all_later c.in_need_at-found.result (one at) found (here at) ∙ sym c.loop-level.invariant.needed;
+      entered = found-some s (at_level level s.arenas) c.in_need_at-found.result visits (here at) (omega (arith, looked at));
       every_search = omega (arith, searched-within s visits (omega (arith, all, c.loop-level.invariant.counted, looked at)), least-none s some);
       most = omega (arith, ap (λ n. n * (2 * bits (length s.arenas))) all, lengths at, once at, c.loop-level.invariant.once, c.loop-level.invariant.bounded, most at);
     }
@@ -87,9 +82,9 @@ loop-level-preserved c =
     let level = c.loop-level.level + 1 in
     let all_later = s.levels - c.loop-level.level in
     let nobody = sym c.is_some.ensures ∙ c.if-is_some.false in
-    let apart = searches-later s level (s.levels - level) all_later c.in_need_at-found.result.0 (one at) nobody (here at) in
+    let apart = searches-later s level (s.levels - level) all_later c.in_need_at-found.result (one at) nobody (here at) in
     record {
-      needed = c.loop-level.invariant.needed ∙ need-later s level (s.levels - level) all_later c.in_need_at-found.result.0 (one at) nobody (here at);
+      needed = c.loop-level.invariant.needed ∙ need-later s level (s.levels - level) all_later c.in_need_at-found.result (one at) nobody (here at);
       counted = omega (arith, apart, c.loop-level.invariant.counted, looked at);
       bounded = omega (arith, ap (λ n. n * (2 * bits (length s.arenas))) apart, c.loop-level.invariant.bounded, most at);
       once = omega (arith, lengths at, once at, c.loop-level.invariant.once);
@@ -114,7 +109,7 @@ returns-then-division-eq0-clause-entered c =
     let s = c.args.self.now in
     let sound : IsSound s = rw c.self.view_is at c.self.invariant.sound in
     let none : limit_of s ≡ 0 = sym c.divide.ensures.exact.limit ∙ c.if-division-eq0.true in
-    needed-entered s c.mandatory_in_need.result c.divide.result.visits sound.leveled c.mandatory_in_need.ensures
+    needed-entered s c.mandatory_in_need.result c.divide.new.visits sound.leveled c.mandatory_in_need.ensures
     (λ some. omega (arith, picked-some s.arenas s.levels sound.leveled some, least-some s none, c.divide.ensures.least))
 
 pub returns-then-division-eq0-clause-every_search : goal.returns-then-division-eq0-clause-every_search

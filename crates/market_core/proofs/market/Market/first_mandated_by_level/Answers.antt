@@ -26,14 +26,14 @@ loop-index-preserved c =
     record {
       exact =
           let within : index < length c.loop-index.picks = search rules in
-          next-pick c.loop-index.picks index c.first_mandated-pick.result.0 (λ k. number_of (find (λ (a : Arena). is_mandated a.claim) (at_level (k + 1) arenas))) within i.exact
+          next-pick c.loop-index.picks index c.first_mandated-pick.result (λ k. number_of (find (λ (a : Arena). is_mandated a.claim) (at_level (k + 1) arenas))) within i.exact
           (here.exact ∙ ap (λ level. number_of (find (λ (a : Arena). is_mandated a.claim) (at_level level arenas))) c.from_index.ensures);
       above = search rules;
-      least = picked-next arenas index c.from_index.result c.loop-index.visits c.first_mandated-pick.result.1 c.from_index.ensures i.least here.entered;
+      least = picked-next arenas index c.from_index.result c.loop-index.visits c.first_mandated-pick.new.visits c.from_index.ensures i.least here.entered;
       alone = λ few.
           let short : length (at_level c.from_index.result arenas) ≤ 12 = few c.from_index.result in
           let counted = here.alone short in
-          picked-alone arenas index c.from_index.result c.loop-index.visits c.first_mandated-pick.result.1 c.from_index.ensures (i.alone few) (omega (arith, counted, node-alone (length (at_level c.from_index.result arenas)) short));
+          picked-alone arenas index c.from_index.result c.loop-index.visits c.first_mandated-pick.new.visits c.from_index.ensures (i.alone few) (omega (arith, counted, node-alone (length (at_level c.from_index.result arenas)) short));
       visits = search rules;
       few = search rules;
     }

@@ -1,4 +1,4 @@
-use Rattle.std.proofs.Common.{arith, sym, ap, subst, ◌∙◌, ◌≡◌, ℕ, ◌≤◌, ◌*◌, ◌-◌, List, length}
+use Rattle.std.proofs.Common.{arith, sym, ap, subst, ◌∙◌, ◌≡◌, ℕ, ◌+◌, ◌≤◌, ◌*◌, ◌-◌, List, length}
 use Rattle.std.proofs.lemmas.List.{length-map}
 use Rattle.std.proofs.lemmas.Option.{get_or_from_slice_get}
 use Rattle.std.proofs.Math.Nat.{mul-le-mul_left}
@@ -38,6 +38,11 @@ module _ (c : After-first_in_need) where
 pub first_in_need-requires-clause-few : goal.first_in_need-requires-clause-few
 first_in_need-requires-clause-few c = c.whole.ensures.short
 
+pub first_in_need-requires-clause-room : goal.first_in_need-requires-clause-room
+first_in_need-requires-clause-room c =
+    let few : length c.args.self.now.arenas ≤ 1024 = subst (λ (t : State). length t.arenas ≤ 1024) c.self.view_is c.whole.ensures.few in
+    omega (arith, few, c.requires.room, c.whole.ensures.short)
+
 same-le : (n m : ℕ) → n ≡ m → n ≤ m
 same-le n m e = omega arith
 
@@ -68,13 +73,13 @@ returns-clause-exact c =
 pub returns-clause-looked : goal.returns-clause-looked
 returns-clause-looked c =
     let here = (goal.at.returns-clause-looked c).After-first_in_need in
-    subst (λ (rows : List Staffing). searches rows ≤ c.first_in_need.result.1) (walk here) c.first_in_need.ensures.looked
+    subst (λ (rows : List Staffing). c.args.visits.now + searches rows ≤ c.first_in_need.new.visits) (walk here) c.first_in_need.ensures.looked
 
 pub returns-clause-once : goal.returns-clause-once
 returns-clause-once c =
     let arenas = at_level c.args.level c.args.self.now.arenas in
     let rows = c.whole.ensures.rows ∙ ap (λ (t : State). level_rows c.args.level t.arenas) c.self.view_is in
-    subst (λ (n : ℕ). c.first_in_need.result.1 ≤ n) (ap length rows ∙ length-map arenas level_row ∙ sym (length-map arenas (row_of c.args.self.now))) c.first_in_need.ensures.once
+    subst (λ (n : ℕ). c.first_in_need.new.visits ≤ c.args.visits.now + n) (ap length rows ∙ length-map arenas level_row ∙ sym (length-map arenas (row_of c.args.self.now))) c.first_in_need.ensures.once
 
 pub returns-clause-few : goal.returns-clause-few
 returns-clause-few c = subst (λ (t : State). length t.arenas ≤ 1024) c.self.view_is c.whole.ensures.few

@@ -1,5 +1,5 @@
 use Rattle.std.proofs.Common.{arith, sym, ap, subst, ◌∙◌, ◌≡◌, ◌+◌, ◌-◌, ◌≤◌, get_or, length, inl, inr}
-use Rattle.std.specs.Prelude.{IfOk, OnOk}
+use Rattle.std.specs.Prelude.{OnOk}
 use Rattle.std.proofs.lemmas.Bool.{cases_eq}
 use Rattle.std.proofs.lemmas.List.{length-map}
 use Rattle.market_types.specs.State.{State}
@@ -38,6 +38,11 @@ module _ (c : After-sharing) where
 pub list-requires-clause-few : goal.list-requires-clause-few
 list-requires-clause-few c = c.whole.ensures.short
 
+pub list-requires-clause-room : goal.list-requires-clause-room
+list-requires-clause-room c =
+    let few : length c.args.self.now.arenas ≤ 1024 = subst (λ (t : State). length t.arenas ≤ 1024) c.self.view_is c.whole.ensures.few in
+    omega (arith, few, c.requires.room, c.whole.ensures.short)
+
 pub list-requires-clause-unmet : goal.list-requires-clause-unmet
 list-requires-clause-unmet c =
     let here = (goal.at.list-requires-clause-unmet c).After-sharing in
@@ -56,16 +61,16 @@ returns-clause-met c =
 pub returns-clause-looked : goal.returns-clause-looked
 returns-clause-looked c =
     let here = (goal.at.returns-clause-looked c).After-sharing in
-    subst (λ xs. IfOk c.list.result (λ visits. imbalances xs ≤ visits)) (walk here) c.list.ensures.looked
+    subst (λ xs. OnOk c.list.result (c.args.visits.now + imbalances xs ≤ c.list.new.visits)) (walk here) c.list.ensures.looked
 
 pub returns-clause-met_first : goal.returns-clause-met_first
 returns-clause-met_first c =
     let here = (goal.at.returns-clause-met_first c).After-sharing in
-    subst (λ xs. IfOk c.list.result (λ visits. looks c.args.unmet.now xs ≤ visits)) (walk here) c.list.ensures.met_first
+    subst (λ xs. OnOk c.list.result (c.args.visits.now + looks c.args.unmet.now xs ≤ c.list.new.visits)) (walk here) c.list.ensures.met_first
 
 pub returns-clause-once : goal.returns-clause-once
 returns-clause-once c =
     let here = (goal.at.returns-clause-once c).After-sharing in
     let xs = at_level c.args.level c.args.self.now.arenas in
     let many : length c.whole.result.0 ≡ length (rows_at c.args.self.now c.args.level) = ap length (rows here) ∙ length-map xs level_row ∙ sym (length-map xs (row_of c.args.self.now)) in
-    subst (λ n. IfOk c.list.result (λ visits. visits ≤ n)) many c.list.ensures.once
+    subst (λ n. OnOk c.list.result (c.list.new.visits ≤ c.args.visits.now + n)) many c.list.ensures.once

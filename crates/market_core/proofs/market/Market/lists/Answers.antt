@@ -42,16 +42,6 @@ list_level-requires-clause-unmet c =
     let here : actives (rows_at s (level + 1)) ≤ c.loop-level.unmet = omega (arith, actives-coming s (level + 1) (s.levels - (level + 1)) (s.levels - level) one, c.loop-level.invariant.unmet) in
     rw c.from_index-level.ensures here
 
-pub overflow_add-visits : goal.overflow_add-visits
-overflow_add-visits c =
-    let s = c.args.self.now in
-    let level = c.loop-level.level in
-    let levels : c.self.inside.opening.levels ≡ s.levels = ap (λ (t : State). t.levels) c.self.view_is in
-    let one : s.levels - level ≡ suc (s.levels - (level + 1)) = omega (arith, levels, c.loop-level-test.true) in
-    let lengths = coming-length s (level + 1) (s.levels - (level + 1)) (s.levels - level) one in
-    let more : c.in_ok-visits.field-0 ≤ length (rows_at s (level + 1)) = rw c.from_index-level.ensures at c.in_ok-visits.ensures.once in
-    omega (arith, lengths, more, c.loop-level.invariant.few, c.in_ok-visits.ensures.few)
-
 pub loop-level-preserved : goal.loop-level-preserved
 loop-level-preserved c =
     let s = c.args.self.now in
@@ -59,11 +49,11 @@ loop-level-preserved c =
     let levels : c.self.inside.opening.levels ≡ s.levels = ap (λ (t : State). t.levels) c.self.view_is in
     let one : s.levels - level ≡ suc (s.levels - (level + 1)) = omega (arith, levels, c.loop-level-test.true) in
     let lengths = coming-length s (level + 1) (s.levels - (level + 1)) (s.levels - level) one in
-    let more : c.in_ok-visits.field-0 ≤ length (rows_at s (level + 1)) = rw c.from_index-level.ensures at c.in_ok-visits.ensures.once in
-    let looked : imbalances (rows_at s (level + 1)) ≤ c.in_ok-visits.field-0 = rw c.from_index-level.ensures at c.in_ok-visits.ensures.looked in
-    let seen : looks c.loop-level.unmet (rows_at s (level + 1)) ≤ c.in_ok-visits.field-0 = rw c.from_index-level.ensures at c.in_ok-visits.ensures.met_first in
-    let met : c.loop-level.unmet ≡ c.list_level.new.unmet + actives (rows_at s (level + 1)) = rw c.from_index-level.ensures at c.in_ok-visits.ensures.met in
-    let added : IsListed (rows_at s (level + 1)) c.loop-level.lists c.list_level.new.lists = rw c.from_index-level.ensures at c.in_ok-visits.ensures.listed in
+    let more : c.list_level.new.visits ≤ c.loop-level.made + length (rows_at s (level + 1)) = rw c.from_index-level.ensures at c.in_ok-list_level.ensures.once in
+    let looked : c.loop-level.made + imbalances (rows_at s (level + 1)) ≤ c.list_level.new.visits = rw c.from_index-level.ensures at c.in_ok-list_level.ensures.looked in
+    let seen : c.loop-level.made + looks c.loop-level.unmet (rows_at s (level + 1)) ≤ c.list_level.new.visits = rw c.from_index-level.ensures at c.in_ok-list_level.ensures.met_first in
+    let met : c.loop-level.unmet ≡ c.list_level.new.unmet + actives (rows_at s (level + 1)) = rw c.from_index-level.ensures at c.in_ok-list_level.ensures.met in
+    let added : IsListed (rows_at s (level + 1)) c.loop-level.lists c.list_level.new.lists = rw c.from_index-level.ensures at c.in_ok-list_level.ensures.listed in
     record {
       listed = level-listed s (level + 1) (s.levels - (level + 1)) (s.levels - level) c.loop-level.lists c.list_level.new.lists (counts_of s) one added c.loop-level.invariant.listed;
       unmet = omega (arith, actives-coming s (level + 1) (s.levels - (level + 1)) (s.levels - level) one, met, c.loop-level.invariant.unmet);

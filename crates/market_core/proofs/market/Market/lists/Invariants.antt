@@ -14,8 +14,8 @@ invariant-loop-level l =
     record {
       listed : IsListed (rows_among l.self coming) l.lists (counts_of l.self);
       unmet : actives (rows_among l.self coming) ≤ l.unmet;
-      looked : length l.lists.recalls + length l.lists.hires ≤ l.visits;
-      met_first : least_listed l.self ≤ l.visits + looks l.unmet (rows_among l.self coming);
-      visits : l.visits + length coming ≤ length l.self.arenas + extra_visits l.self;
-      few : l.visits + length coming ≤ length l.self.arenas + 176;
+      looked : length l.lists.recalls + length l.lists.hires ≤ l.made;
+      met_first : least_listed l.self ≤ l.made + looks l.unmet (rows_among l.self coming);
+      visits : l.made + length coming ≤ length l.self.arenas + extra_visits l.self;
+      few : l.made + length coming ≤ length l.self.arenas + 176;
     }

@@ -22,5 +22,5 @@ returns-clause-alone c few =
     let level : c.new-stored.result.level ≡ c.args.level = ap (λ (a : Arena). a.level) c.new-stored.ensures in
     let arenas : c.self.inside.arenas ≡ c.args.self.now.arenas = ap (λ (s : State). s.arenas) c.self.view_is in
     let short : length (at_level c.args.level c.args.self.now.arenas) ≤ 12 = few c.args.level in
-    let alone : length (at_level c.args.level c.args.self.now.arenas) ≤ 12 → c.in_ok-visits.visits ≡ bits (length (at_level c.args.level c.args.self.now.arenas) + 1) = rw (← level, ← arenas) c.in_ok-visits.ensures.alone in
-    omega (arith, c.from.ensures, alone short, put-alone (length (at_level c.args.level c.args.self.now.arenas)) short)
+    let alone : length (at_level c.args.level c.args.self.now.arenas) ≤ 12 → c.push.new.visits ≡ c.args.visits.now + bits (length (at_level c.args.level c.args.self.now.arenas) + 1) = rw (← level, ← arenas) c.in_ok-push.ensures.alone in
+    omega (arith, c.requires.uncounted, alone short, put-alone (length (at_level c.args.level c.args.self.now.arenas)) short)

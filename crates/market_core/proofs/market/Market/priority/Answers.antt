@@ -23,8 +23,8 @@ pub returns-clause-least : goal.returns-clause-least
 returns-clause-least c =
     let arenas : c.self.inside.arenas ≡ c.args.self.now.arenas = ap (λ (s : State). s.arenas) c.self.view_is in
     let level : c.get.result ≡ c.args.level = c.get.ensures.exact in
-    let least : least_way (beside c.args.arena c.args.self.now.arenas) + least_put (length (at_level c.args.level (without c.args.arena c.args.self.now.arenas))) ≤ c.in-Some-promote.visits = rw (← arenas) c.in-Some-promote.ensures.least in
-    omega (arith, c.from.ensures, least)
+    let least : c.args.visits.now + least_way (beside c.args.arena c.args.self.now.arenas) + least_put (length (at_level c.args.level (without c.args.arena c.args.self.now.arenas))) ≤ c.promote.new.visits = rw (← arenas) c.in-Some-promote.ensures.least in
+    omega (arith, least)
 
 pub returns-clause-alone : goal.returns-clause-alone
 returns-clause-alone c few =
@@ -33,5 +33,5 @@ returns-clause-alone c few =
     let rest = without c.args.arena xs in
     let short : beside c.args.arena xs ≤ 12 = beside-few c.args.arena xs few in
     let shorter : length (at_level c.args.level rest) ≤ 12 = omega (arith, few c.args.level, rest-few c.args.level c.args.arena xs) in
-    let alone : beside c.args.arena xs ≤ 12 → length (at_level c.args.level (without c.args.arena xs)) ≤ 12 → c.in-Some-promote.visits ≡ bits (beside c.args.arena xs) + bits (length (at_level c.args.level (without c.args.arena xs)) + 1) = rw (← arenas) c.in-Some-promote.ensures.alone in
-    omega (arith, c.from.ensures, alone short shorter, way-alone (beside c.args.arena xs) short, put-alone (length (at_level c.args.level rest)) shorter)
+    let alone : beside c.args.arena xs ≤ 12 → length (at_level c.args.level (without c.args.arena xs)) ≤ 12 → c.promote.new.visits ≡ c.args.visits.now + bits (beside c.args.arena xs) + bits (length (at_level c.args.level (without c.args.arena xs)) + 1) = rw (← arenas) c.in-Some-promote.ensures.alone in
+    omega (arith, c.requires.uncounted, alone short shorter, way-alone (beside c.args.arena xs) short, put-alone (length (at_level c.args.level rest)) shorter)

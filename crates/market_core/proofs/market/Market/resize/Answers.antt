@@ -1,4 +1,4 @@
-use Rattle.std.proofs.Common.{◌≡◌, ◌≤◌, refl, ap, arith}
+use Rattle.std.proofs.Common.{◌≡◌, ◌≤◌, ap, ◌∙◌, arith}
 use Rattle.market_types.specs.State.{State}
 use Rattle.market_types.specs.declared.command.Cmd.TheVariants.{Resize}
 use Rattle.arena_store.specs.Arenas.{beside}
@@ -22,9 +22,9 @@ returns-clause-alone c few =
     let arenas : c.self.inside.arenas ≡ c.args.self.now.arenas = ap (λ (s : State). s.arenas) c.self.view_is in
     let short : beside c.args.arena c.args.self.now.arenas ≤ 12 = beside-few c.args.arena c.args.self.now.arenas few in
     let is = node-alone (beside c.args.arena c.args.self.now.arenas) short in
-    elim c.match-change.branch as (λ _. c.match-change.result.1 ≡ least_visits c.args.self.now (Resize c.args.arena c.args.slots c.args.reserved) c.match-change.result.0) [
+    elim c.match-change.branch as (λ _. c.change.new.visits ≡ least_visits c.args.self.now (Resize c.args.arena c.args.slots c.args.reserved) c.match-change.result) [
       | in-Ok w ↦
           let counted = w.in-Ok.ensures.alone (rw arenas short) in
-          rw w.result-is (omega (arith, w.from.ensures, counted, ap (λ xs. bits (beside c.args.arena xs)) arenas, is))
-      | in-Err-change w ↦ rw w.result-is refl
+          rw w.result-is (omega (arith, c.requires.uncounted, counted, ap (λ xs. bits (beside c.args.arena xs)) arenas, is))
+      | in-Err-change w ↦ rw w.result-is (w.in-Err-change.ensures.uncounted ∙ c.requires.uncounted)
     ]

@@ -77,7 +77,7 @@ pub push-requires-clause-few : goal.push-requires-clause-few
 push-requires-clause-few c =
     let x = get_or c.self.inside.levels c.args.from c.index-self-from.result in
     let p = from_part (goal.at.push-requires-clause-few c).In-Some in
-    omega (arith, c.take.ensures.visits, bits-few (length x.rows) (omega (arith, p.rows, c.self.invariant.few)))
+    omega (arith, c.requires.few, c.take.ensures.visits, bits-few (length x.rows) (omega (arith, p.rows, c.self.invariant.few)))
 
 pub invariant_of-self : goal.invariant_of-self
 invariant_of-self c =

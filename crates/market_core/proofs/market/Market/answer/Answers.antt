@@ -9,7 +9,7 @@ use Rattle.market_types.specs.declared.reply.Reply.TheVariants.{Limits, Shown}
 use Rattle.market_types.specs.State.{State, Arena}
 use Rattle.market_types.specs.Step.{arena_at, if_arena, show_step, view_of}
 use Rattle.market_core.specs.Visits.{lists_all, looks_in_order}
-use Rattle.market_core.proofs.market.Market.apply_counted.Goals as goal
+use Rattle.market_core.proofs.market.Market.answer.Goals as goal
 
 -- a command that doesn't look at the arenas in order is no Join
 no-join : (cmd : Cmd) → looks_in_order cmd ≡ false → cmd ≡ Join → ⊥
@@ -18,11 +18,14 @@ no-join cmd other join = true≢false (ap looks_in_order (sym join) ∙ other)
 none-least : (n : ℕ) → 0 ≤ n
 none-least n = omega arith
 
-always-ok : (r : Result (Reply × ℕ) AllocError) (P : Type 0) → P → OnOk r P
+none-most : (v n : ℕ) → v ≡ 0 → v ≤ n
+none-most v n none = omega (arith, none)
+
+always-ok : (r : Result Reply AllocError) (P : Type 0) → P → OnOk r P
 always-ok (Ok x) P h = h
 always-ok (Err e) P h = tt
 
-always-err : (r : Result (Reply × ℕ) AllocError) (P : Type 0) → P → OnErr r P
+always-err : (r : Result Reply AllocError) (P : Type 0) → P → OnErr r P
 always-err (Ok x) P h = tt
 always-err (Err e) P h = h
 
@@ -162,9 +165,9 @@ returns-in-Limit c =
       unchanged = tt;
       no_memory = λ _. refl;
       memory_last = tt;
-      least = none-least 0;
-      alone = λ _ _. refl;
-      visits = λ _. none-least _;
-      listed = λ _. none-least _;
-      joined = λ _. none-least _;
+      least = none-least _;
+      alone = λ _ _. c.requires.uncounted;
+      visits = λ _. none-most _ _ c.requires.uncounted;
+      listed = λ _. none-most _ _ c.requires.uncounted;
+      joined = λ _. none-most _ _ c.requires.uncounted;
     }
