@@ -28,7 +28,6 @@ pub const MOST_FORGOTTEN: u64 = u64::MAX - MOST_PLACES as u64;
 
 /// A market whose calls are recorded. Contracts see it as its opening, the market that it holds, the history since, and its number
 /// of places.
-#[derive(Drop)]
 pub struct Chronicle {
     opened: Snapshot<Market>,
     market: Market,
@@ -50,6 +49,21 @@ impl Model for Chronicle {
     ghost view = { λ c. record { start = c.opened.value; market = c.market; log = c.past ++ c.recent.items; places = c.places; from = c.from; keeping = c.keeping } };
 
     ghost invariant = { λ c. IsKept c.opened.value c.market c.past c.recent.items c.from c.places (vec_capacity c.recent) };
+}
+
+// By hand, as a market's: who drops a chronicle makes one call.
+impl Drop for Chronicle {
+    fn drop(self) {
+        let Chronicle {
+            opened: _,
+            market: _,
+            past: _,
+            from: _,
+            recent: _,
+            places: _,
+            keeping: _,
+        } = self;
+    }
 }
 
 impl Chronicle {
