@@ -6,7 +6,7 @@ use Rattle.std.proofs.lemmas.Bool.{cases_Bool}
 use Rattle.std.proofs.lemmas.Bool.Decides.{nat_tests}
 use Rattle.std.proofs.lemmas.List.Elements.{All-cons, All-head, All-nil, All-tail}
 use Rattle.std.proofs.lemmas.List.Sums.{sum_by-cons}
-use Rattle.std.proofs.lemmas.Nat.{div-mul-add, mod_below, div_below, le-div}
+use Rattle.std.proofs.lemmas.Nat.{div-add-mod', div-mul-add, mod_below, div_below, le-div}
 use Rattle.market_types.specs.State.{Arena, State}
 use Rattle.market_types.specs.Claims.{request_of}
 use Rattle.market_types.specs.Allotment.{all_to, allotment_of, assigned, at_level, bound_of, carried, carry_after, carry_past, count_at, demand, in_order, levels_of, limit_of, mandatory_pick, share_of, total_request}
@@ -59,11 +59,11 @@ covered-all from below r n whole h =
     let high : r < below = let e = g.1 in grind (arith, nat_tests) in
     (omega (arith, whole, low), omega (arith, whole, high))
 
-covered-part : (from below p d c n : ℕ) → c < d → n ≡ (p + c) / d → (leb (from * d) p && ltb (p + d) (below * d)) ≡ true → (from ≤ n) × (n < below)
+covered-part : (from below p d c n : ℕ) → c < d → n ≡ (p + c) / d → (leb (from * d) p && leb (p + d) (below * d)) ≡ true → (from ≤ n) × (n < below)
 covered-part from below p d c n less is h =
-    let g = both (leb (from * d) p) (ltb (p + d) (below * d)) h in
+    let g = both (leb (from * d) p) (leb (p + d) (below * d)) h in
     let low : from * d ≤ p = let e = g.0 in grind (arith, nat_tests) in
-    let high : p + d < below * d = let e = g.1 in grind (arith, nat_tests) in
+    let high : p + d ≤ below * d = let e = g.1 in grind (arith, nat_tests) in
     let some : 0 < d = omega (arith, less) in
     let least : from ≤ (p + c) / d = le-div from (p + c) d some (omega (arith, low)) in
     let most : (p + c) / d < below = div_below (p + c) d below some (omega (arith, high, less)) in
@@ -71,7 +71,7 @@ covered-part from below p d c n less is h =
 
 covered-share-if : (from below r g d c n : ℕ) (asks given all : Bool) → eqb r 0 ≡ asks → eqb g 0 ≡ given → eqb g d ≡ all → (0 < r → c < d)
     → n ≡ cond asks 0 ((r * g + c) / d)
-    → cond (asks || given) (eqb from 0 && ltb 0 below) (cond all (leb from r && ltb r below) (leb (from * d) (r * g) && ltb (r * g + d) (below * d))) ≡ true
+    → cond (asks || given) (eqb from 0 && ltb 0 below) (cond all (leb from r && ltb r below) (leb (from * d) (r * g) && leb (r * g + d) (below * d))) ≡ true
     → (from ≤ n) × (n < below)
 covered-share-if from below r g d c n true given all none e same less is h = covered-none from below n is h
 covered-share-if from below r g d c n false true all some e same less is h = covered-none from below n (is ∙ nothing-given r g d c e (less (asks-some r some))) h
@@ -81,16 +81,26 @@ covered-share-if from below r g d c n false false false some e same less is h = 
 pub covered-share : (k : Covered) (r g d n : ℕ) → IsShare r g d n → covers k r g d ≡ true → (k.from ≤ n) × (n < k.below)
 covered-share k r g d n share h = covered-share-if k.from k.below r g d share.carry n (eqb r 0) (eqb g 0) (eqb g d) refl refl refl share.less share.is h
 
+-- a product that is a multiple leaves nothing but the carry
+whole-given : (p d c : ℕ) → eqb (p % d) 0 ≡ true → c < d → (p + c) / d ≡ p / d
+whole-given p d c whole less =
+    let rest : p % d ≡ 0 = grind (arith, nat_tests) in
+    let parts : p / d * d + p % d ≡ p = div-add-mod' p d in
+    let sum : p + c ≡ p / d * d + c = omega (arith, rest, parts) in
+    ap (λ n. n / d) sum ∙ div-mul-add (p / d) d c less
+
 -- where the numbers alone tell the share
-exact-share-if : (r g d c n v : ℕ) (asks given all : Bool) → eqb r 0 ≡ asks → eqb g 0 ≡ given → eqb g d ≡ all → (0 < r → c < d) → n ≡ cond asks 0 ((r * g + c) / d)
-    → cond (asks || given) (Some 0) (cond all (Some r) None) ≡ Some v → n ≡ v
-exact-share-if r g d c n v true given all none e same less is h = let zero_ : 0 ≡ v = cc in is ∙ zero_
-exact-share-if r g d c n v false true all some e same less is h = let zero_ : 0 ≡ v = cc in is ∙ nothing-given r g d c e (less (asks-some r some)) ∙ zero_
-exact-share-if r g d c n v false false true some e same less is h = let whole : r ≡ v = cc in is ∙ all-given r g d c same (less (asks-some r some)) ∙ whole
-exact-share-if r g d c n v false false false some e same less is h = absurd (cc)
+exact-share-if : (r g d c n v : ℕ) (asks given all whole : Bool) → eqb r 0 ≡ asks → eqb g 0 ≡ given → eqb g d ≡ all → eqb (r * g % d) 0 ≡ whole → (0 < r → c < d)
+    → n ≡ cond asks 0 ((r * g + c) / d) → cond (asks || given) (Some 0) (cond all (Some r) (cond whole (Some (r * g / d)) None)) ≡ Some v → n ≡ v
+exact-share-if r g d c n v true given all whole none e same even less is h = let zero_ : 0 ≡ v = cc in is ∙ zero_
+exact-share-if r g d c n v false true all whole some e same even less is h = let zero_ : 0 ≡ v = cc in is ∙ nothing-given r g d c e (less (asks-some r some)) ∙ zero_
+exact-share-if r g d c n v false false true whole some e same even less is h = let all_ : r ≡ v = cc in is ∙ all-given r g d c same (less (asks-some r some)) ∙ all_
+exact-share-if r g d c n v false false false true some e same even less is h = let share : r * g / d ≡ v = cc in is ∙ whole-given (r * g) d c even (less (asks-some r some)) ∙ share
+exact-share-if r g d c n v false false false false some e same even less is h = absurd (cc)
 
 pub exact-share : (r g d n v : ℕ) → IsShare r g d n → exactly r g d ≡ Some v → n ≡ v
-exact-share r g d n v share h = exact-share-if r g d share.carry n v (eqb r 0) (eqb g 0) (eqb g d) refl refl refl share.less share.is h
+exact-share r g d n v share h =
+    exact-share-if r g d share.carry n v (eqb r 0) (eqb g 0) (eqb g d) (eqb (r * g % d) 0) refl refl refl refl share.less share.is h
 
 -- ---- arenas in order
 

@@ -23,19 +23,15 @@ use Rattle.journal_chart.specs.Covering.{covered, covers, exactly, least_covered
 use Rattle.journal_chart.specs.Lines.{added, at}
 use Rattle.journal_chart.specs.Numbers.{level_at, line_of, row_of, shown, view_at}
 use Rattle.journal_chart.specs.Shares.{Shared, shared_of}
-use Rattle.journal_chart.specs.Steps.{is_covered, is_covered_at, is_divided, is_kept, is_same_share, keeps_order, kept_levels, known_in, known_of, moves_seat, near_row, needing_row, own_row, retold, seen_row, settled_row, share_told, shared_row, stands_after, stands_kept, subject, told_row}
+use Rattle.journal_chart.specs.Steps.{after_seat, is_covered, is_covered_at, is_divided, is_joined, is_kept, is_same_share, keeps_order, kept_levels, known_in, known_of, limited, moves_seat, near_row, needing_row, own_row, retold, seat_row, seated, seen_row, settled_row, share_told, shared_row, stands_after, stands_kept, subject, told_row}
 use Rattle.journal_chart.proofs.Bounds.{IsShare, Whole, allotment-level, allotment-share, at-level, both, covered-share, exact-share, same-carried}
 use Rattle.journal_chart.proofs.Charts.{line-if, readied-row}
 use Rattle.journal_chart.proofs.Kept.{Fine, Stands, Steady, apart-stands, found-number, found-within, steady-step}
 use Rattle.journal_chart.proofs.Sharing.{shared-asked, shared-given}
 use Rattle.journal_chart.proofs.Still.{GoesOn, added-twice}
-use Rattle.journal_chart.proofs.Told.{Retold, told-step}
+use Rattle.journal_chart.proofs.Told.{Retold, seated-step, told-step}
 
 -- ---- a number that a column spans
-
-either : (a b : Bool) → (a || b) ≡ true → (a ≡ true) ⊎ (b ≡ true)
-either true b h = inl refl
-either false b h = inr h
 
 -- a column spans a number
 record Inside (c : Option Span) (v : ℕ) : Type 0 where
@@ -140,7 +136,7 @@ pub record Even (s t : State) : Type 0 where
   pub allotted : (n : ℕ) → allotment_of t n ≡ allotment_of s n
   pub limit : limit_of t ≡ limit_of s
   pub effective : effective_limit_of t ≡ effective_limit_of s
-  pub shares : shared_of t ≡ shared_of s
+  pub shares : shared_of t ≡ after_seat t (shared_of s)
 
 even-self : (s : State) → Even s s
 even-self s = record { allotted = λ n. refl; limit = refl; effective = refl; shares = refl }
@@ -239,6 +235,17 @@ module _ (most : ℕ) (before : List State) (s t : State) (some : 0 < most) (on 
       ∙ ap (added (n / w) (number s)) (sym first)
       ∙ added-twice (n / w) (number s) _
       ∙ first
+
+  -- it adds nothing where it is the same
+  pub limited-next : (number : State → ℕ) → limited place (number s) (number t) (line_of most (λ u. Some (number u)) moments) ≡ line_of most (λ u. Some (number u)) (moments ++ t ∷ [])
+  limited-next number = go (eqb (number s) (number t)) refl
+    where
+      go : (b : Bool) → eqb (number s) (number t) ≡ b
+          → cond b (line_of most (λ u. Some (number u)) moments) (added place (Some (number t)) (line_of most (λ u. Some (number u)) moments)) ≡ line_of most (λ u. Some (number u)) (moments ++ t ∷ [])
+      go true same =
+          let equal : number t ≡ number s = grind (arith, nat_tests) in
+          sym (line-same (λ u. Some (number u)) (ap (λ n. Some n) equal))
+      go false other = line-next (λ u. Some (number u))
 
   -- the number is one that the column spans
   line-inside : (number : State → Option ℕ) (v : ℕ) → number t ≡ Some v → Inside (at (line_of most number moments) place) v
@@ -446,11 +453,7 @@ module _ (most : ℕ) (before : List State) (s t : State) (some : 0 < most) (on 
         go : (o : Option Arena) → arena_at a s.arenas ≡ o
             → stands_kept (kept_levels cmd (shared_of s) (shared_of t)) (option_map (λ (b : Arena). b.level) o) ≡ true → SameLines a
         go None is h = absent-lines a stands is
-        go (Some x) is h =
-            elim (either (moves_seat cmd) (keeps_order cmd && is_same_share (shared_of s) (shared_of t) x.level) (kept-level cmd (shared_of s) (shared_of t) x.level h)) [
-              | inl moves ↦ let even = even-step s t seat cmd reply answered moves in even-lines a stands (λ y found. even.allotted y.number)
-              | inr kept ↦ kept-share x stands apart is kept
-            ]
+        go (Some x) is h = kept-share x stands apart is (kept-level cmd (shared_of s) (shared_of t) x.level h)
 
     -- a row of an arena all of whose allotments are covered
     spanned-lines : Stands s t a → is_covered_at (shared_of t) was (level_at a s) ≡ true → SameLines a
@@ -547,13 +550,16 @@ module _ (most : ℕ) (before : List State) (s t : State) (some : 0 < most) (on 
         }) in
         (λ i. (same i, cover i)) ∙ (λ i. (row' a, view i))
 
-    own : is_just a (subject cmd reply) ≡ true → own_row place t cmd reply (shared_of t) (row a) (retold place cmd reply was (row a)) ≡ due a
-    own about = at_arena (arena_at a s.arenas) refl
+    -- what is told of it is so
+    own : (o : Option Known) → ((x : Arena) (k : Known) → arena_at a s.arenas ≡ Some x → o ≡ Some k → Retold t a x.level place (row a) k)
+        → own_row place t cmd reply (shared_of t) (row a) o ≡ due a
+    own None told = seen
+    own (Some k) told = at_arena (arena_at a s.arenas) refl
       where
         -- the arena lived
-        living : (x : Arena) (k : Known) → arena_at a s.arenas ≡ Some x → Retold t a x.level place (row a) k
+        living : (x : Arena) → arena_at a s.arenas ≡ Some x → Retold t a x.level place (row a) k
             → cond (is_covered (shared_of t) k x.level) (needing_row place k (row a), k) (settled_row place t cmd reply (shared_of t) k (row a)) ≡ due a
-        living x k is r =
+        living x is r =
             let level : level_at a t ≡ level_at a s =
             ap (λ o. option_map (λ (b : Arena). b.level) o) r.found ∙ ap (λ l. Some l) r.stands ∙ sym (ap (λ o. option_map (λ (b : Arena). b.level) o) is) in
             let number : r.arena.number ≡ a = found-number a t.arenas r.arena r.found in
@@ -573,30 +579,32 @@ module _ (most : ℕ) (before : List State) (s t : State) (some : 0 < most) (on 
               | inr other ↦ rw other (settled k tells)
             ]
 
-        retold_or : (x : Arena) → arena_at a s.arenas ≡ Some x → (o : Option Known) → retold place cmd reply (known_of place (Some (view_of s x)) (row a)) (row a) ≡ o
-            → own_row place t cmd reply (shared_of t) (row a) o ≡ due a
-        retold_or x is None tells = seen
-        retold_or x is (Some k) tells =
-            let number : x.number ≡ a = found-number a s.arenas x is in
-            let tells' : retold place cmd reply (known_in place (request_of x.claim) (active s a) (row a)) (row a) ≡ Some k =
-            ap (λ n. retold place cmd reply (known_in place (request_of x.claim) (active s n) (row a)) (row a)) (sym number) ∙ tells in
-            let r = told-step s a place (row a) x is t seat cmd reply k answered about tells' in
-            ap (λ o. cond (is_covered_at (shared_of t) k o) (needing_row place k (row a), k) (settled_row place t cmd reply (shared_of t) k (row a))) (ap (λ o. option_map (λ (b : Arena). b.level) o) is)
-            ∙ living x k is r
-
-        -- no arena lived
-        absent : arena_at a s.arenas ≡ None → (o : Option Known) → own_row place t cmd reply (shared_of t) (row a) o ≡ due a
-        absent none None = seen
-        absent none (Some k) =
+        at_arena : (o : Option Arena) → arena_at a s.arenas ≡ o → own_row place t cmd reply (shared_of t) (row a) (Some k) ≡ due a
+        at_arena None none =
             let nowhere : level_at a s ≡ None = ap (λ o. option_map (λ (b : Arena). b.level) o) none in
             (λ i. cond (is_covered_at (shared_of t) k (nowhere i)) (needing_row place k (row a), k) (told_row place t cmd reply k (row a) (share_told (shared_of t) k (nowhere i)))) ∙ seen
-
-        at_arena : (o : Option Arena) → arena_at a s.arenas ≡ o → own_row place t cmd reply (shared_of t) (row a) (retold place cmd reply was (row a)) ≡ due a
-        at_arena None is = absent is (retold place cmd reply was (row a))
         at_arena (Some x) is =
-            let known : was ≡ known_of place (Some (view_of s x)) (row a) = ap (λ o. known_of place (option_map (view_of s) o) (row a)) is in
-            ap (λ k. own_row place t cmd reply (shared_of t) (row a) (retold place cmd reply k (row a))) known
-            ∙ retold_or x is (retold place cmd reply (known_of place (Some (view_of s x)) (row a)) (row a)) refl
+            ap (λ o. cond (is_covered_at (shared_of t) k o) (needing_row place k (row a), k) (settled_row place t cmd reply (shared_of t) k (row a))) (ap (λ o. option_map (λ (b : Arena). b.level) o) is)
+            ∙ living x is (told x k is refl)
+
+    -- what was known of it
+    was-known : (x : Arena) → arena_at a s.arenas ≡ Some x → was ≡ known_in place (request_of x.claim) (active s a) (row a)
+    was-known x is =
+        ap (λ o. known_of place (option_map (view_of s) o) (row a)) is
+        ∙ ap (λ n. known_in place (request_of x.claim) (active s n) (row a)) (found-number a s.arenas x is)
+
+    own-near : is_just a (subject cmd reply) ≡ true → own_row place t cmd reply (shared_of t) (row a) (retold cmd reply was) ≡ due a
+    own-near about =
+        own (retold cmd reply was)
+        (λ x k is tells. told-step s a place (row a) x is t seat cmd reply k answered about (ap (retold cmd reply) (sym (was-known x is)) ∙ tells))
+
+    abbrev more : Bool
+    more = is_joined (shared_of s) (shared_of t)
+
+    own-seat : moves_seat cmd ≡ true → is_just a (subject cmd reply) ≡ true → own_row place t cmd reply (shared_of t) (row a) (seated place more reply was (row a)) ≡ due a
+    own-seat moves about =
+        own (seated place more reply was (row a))
+        (λ x k is tells. seated-step s a place (row a) x is t seat cmd reply k answered moves about (ap (λ (w : Known). seated place more reply w (row a)) (sym (was-known x is)) ∙ tells))
 
     -- ---- any row
 
@@ -635,6 +643,18 @@ module _ (most : ℕ) (before : List State) (s t : State) (some : 0 < most) (on 
     pub near-row : near_row place t cmd reply (shared_of t) kept (row a) was ≡ due a
     near-row =
         elim (cases_Bool (is_just a (subject cmd reply))) [
-          | inl about ↦ rw about (own about)
+          | inl about ↦ rw about (own-near about)
           | inr apart ↦ rw apart (other apart)
+        ]
+
+    pub seat-row : moves_seat cmd ≡ true → seat_row place t cmd reply more (shared_of t) (row a) was ≡ due a
+    seat-row moves =
+        elim (cases_Bool (is_just a (subject cmd reply))) [
+          | inl about ↦ rw about (own-seat moves about)
+          | inr apart ↦
+              let stands : Stands s t a = apart-stands s t seat a cmd reply answered apart in
+              let even = even-step s t seat cmd reply answered moves in
+              let rows = row-same a stands (even-lines a stands (λ y found. even.allotted y.number)) in
+              let known = known-same a stands rows in
+              rw apart (λ i. (rows i, known i))
         ]

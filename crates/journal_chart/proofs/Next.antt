@@ -11,13 +11,13 @@ use Rattle.market_types.specs.Step.{step}
 use Rattle.journal_chart.specs.declared.row.Known.{Known}
 use Rattle.journal_chart.specs.declared.row.Row.{Row}
 use Rattle.journal_chart.specs.Columns.{width_of}
-use Rattle.journal_chart.specs.Numbers.{Drawn, chart_of, drawn_of, level_at, row_of, view_at}
+use Rattle.journal_chart.specs.Numbers.{Drawn, chart_of, drawn_of, level_at, line_of, row_of, view_at}
 use Rattle.journal_chart.specs.Shares.{Shared, shared_of}
-use Rattle.journal_chart.specs.Steps.{Followed, counted_chart, first_chart, goes_on, halved_lines, halved_row, is_still, kept_levels, known_of, known_rows, moves_seat, near_chart, near_lines, near_row, near_rows, next_chart, now_shared, pairwise, roomed_lines, seen_row, stands_after, taken_row}
+use Rattle.journal_chart.specs.Steps.{Followed, after_seat, counted_chart, each_row, first_chart, goes_on, halved_lines, halved_row, is_joined, is_still, kept_levels, known_of, known_rows, limited, moves_seat, near_chart, near_lines, near_row, near_rows, next_chart, now_shared, pairwise, roomed_lines, seat_row, seat_rows, seen_row, stands_after, taken_row}
 use Rattle.journal_chart.proofs.Bounds.{Whole}
 use Rattle.journal_chart.proofs.Charts.{chart-taken, readied-row, stood-after}
 use Rattle.journal_chart.proofs.Kept.{Fine}
-use Rattle.journal_chart.proofs.Near.{even-step, line-next, near-row}
+use Rattle.journal_chart.proofs.Near.{even-step, limited-next, near-row, seat-row}
 use Rattle.journal_chart.proofs.Still.{GoesOn, chart-still, goes-on, row-still, stays-so}
 
 -- the column of the last of some moments more than so many
@@ -101,7 +101,7 @@ module _ (whole : Whole) (most : ℕ) (before : List State) (s t : State) (seat 
   given-now : now_shared cmd t (shared_of s) ≡ shared_of t
   given-now = go (moves_seat cmd) refl
     where
-      go : (b : Bool) → moves_seat cmd ≡ b → cond b (shared_of s) (shared_of t) ≡ shared_of t
+      go : (b : Bool) → moves_seat cmd ≡ b → cond b (after_seat t (shared_of s)) (shared_of t) ≡ shared_of t
       go true moves = sym (even-step s t seat cmd reply answered moves).shares
       go false moves = refl
 
@@ -114,22 +114,45 @@ module _ (whole : Whole) (most : ℕ) (before : List State) (s t : State) (seat 
       let more = rows-near arenas in
       λ i. ((first i).0 ∷ (more i).0, (first i).1 ∷ (more i).1)
 
+  rows-seat : moves_seat cmd ≡ true → (arenas : List ℕ)
+      → pairwise (seat_row place t cmd reply (is_joined (shared_of s) (shared_of t)) (shared_of t)) (map (row_of most moments s) arenas) (map (λ a. known_of place (view_at a s) (row_of most moments s a)) arenas)
+      ≡ (map (row_of most (moments ++ t ∷ []) t) arenas, map (λ a. known_of place (view_at a t) (row_of most (moments ++ t ∷ []) t a)) arenas)
+  rows-seat moves [] = refl
+  rows-seat moves (a ∷ arenas) =
+      let first = seat-row most before s t some on whole seat cmd reply answered fine fine' a (stood-after s t seat cmd reply answered a) moves in
+      let more = rows-seat moves arenas in
+      λ i. ((first i).0 ∷ (more i).0, (first i).1 ∷ (more i).1)
+
   -- of the rows at the last moment
   rows-next : (arenas : List ℕ) → near_rows place t cmd reply (shared_of s) (map (row_of most moments s) arenas) (known_at most before s arenas)
       ≡ (map (row_of most (moments ++ t ∷ []) t) arenas, known_at most moments t arenas)
-  rows-next arenas =
-      (λ i.
-      pairwise (near_row place t cmd reply (given-now i) (kept_levels cmd (shared_of s) (given-now i))) (map (row_of most moments s) arenas)
-      (map (λ a. known_of (sym same-place i) (view_at a s) (row_of most moments s a)) arenas))
-      ∙ rows-near arenas
+  rows-next arenas = go (moves_seat cmd) refl
+    where
+      go : (b : Bool) → moves_seat cmd ≡ b
+          → cond b (seat_rows place t cmd reply (shared_of s) (map (row_of most moments s) arenas) (known_at most before s arenas))
+          (each_row place t cmd reply (shared_of s) (map (row_of most moments s) arenas) (known_at most before s arenas))
+          ≡ (map (row_of most (moments ++ t ∷ []) t) arenas, known_at most moments t arenas)
+      go true moves =
+          let given : after_seat t (shared_of s) ≡ shared_of t = sym (even-step s t seat cmd reply answered moves).shares in
+          (λ i.
+          pairwise (seat_row place t cmd reply (is_joined (shared_of s) (given i)) (given i)) (map (row_of most moments s) arenas)
+          (map (λ a. known_of (sym same-place i) (view_at a s) (row_of most moments s a)) arenas))
+          ∙ rows-seat moves arenas
+      go false other =
+          (λ i.
+          pairwise (near_row place t cmd reply (shared_of t) (kept_levels cmd (shared_of s) (shared_of t))) (map (row_of most moments s) arenas)
+          (map (λ a. known_of (sym same-place i) (view_at a s) (row_of most moments s a)) arenas))
+          ∙ rows-near arenas
 
   chart-near : (arenas : List ℕ) → near_chart t cmd reply (followed_chart most arenas before s) ≡ followed_chart most arenas moments t
   chart-near arenas =
       let next : length moments + 1 ≡ suc (length moments) = omega arith in
       let where_ : length moments / width_of most (length moments + 1) ≡ place = ap (λ k. length moments / width_of most k) next in
       let count : length moments + 1 ≡ length (moments ++ t ∷ []) = omega (arith, length_push moments t) in
-      let limit = line-next most before s t some on (λ u. Some (limit_of u)) in
-      let effective = line-next most before s t some on (λ u. Some (effective_limit_of u)) in
+      let limit = ap (λ (g : Shared). limited place (limit_of s) g.limit (line_of most (λ u. Some (limit_of u)) moments)) given-now ∙ limited-next most before s t some on limit_of in
+      let effective =
+      ap (λ (g : Shared). limited place (effective_limit_of s) g.effective (line_of most (λ u. Some (effective_limit_of u)) moments)) given-now
+      ∙ limited-next most before s t some on effective_limit_of in
       let rows = rows-next arenas in
       (λ i. record {
         chart =
@@ -216,6 +239,13 @@ pair-rows f [] ys = refl
 pair-rows f (x ∷ xs) [] = refl
 pair-rows f (x ∷ xs) (y ∷ ys) = ap (λ n. suc n) (pair-rows f xs ys)
 
+near-length : (place : ℕ) (s : State) (cmd : Cmd) (reply : Reply) (was : Shared) (rows : List Row) (ks : List Known) → length (near_rows place s cmd reply was rows ks).0 ≡ length rows
+near-length place s cmd reply was rows ks = go (moves_seat cmd)
+  where
+    go : (b : Bool) → length (cond b (seat_rows place s cmd reply was rows ks) (each_row place s cmd reply was rows ks)).0 ≡ length rows
+    go true = pair-rows (seat_row place s cmd reply (is_joined was (after_seat s was)) (after_seat s was)) rows ks
+    go false = pair-rows (near_row place s cmd reply (shared_of s) (kept_levels cmd was (shared_of s))) rows ks
+
 -- a chart that takes a moment has as many rows as before, and a moment more
 pub record IsMore (s : State) (cmd : Cmd) (reply : Reply) (f : Followed) : Type 0 where
   pub rows : length (next_chart s cmd reply f).chart.lines.rows ≡ length f.chart.lines.rows
@@ -229,7 +259,7 @@ next-more s cmd reply f = record { rows = rows (goes_on f.chart) (is_still reply
     rows false still = length-map (roomed_lines f.chart).rows _ ∙ roomed-if (nat_le (f.chart.most * width_of f.chart.most f.chart.moments) f.chart.moments) f.chart.lines
     rows true true = refl
     rows true false =
-        pair-rows (near_row (f.chart.moments / width_of f.chart.most (f.chart.moments + 1)) s cmd reply (now_shared cmd s f.shares) (kept_levels cmd f.shares (now_shared cmd s f.shares))) f.chart.lines.rows f.known
+        near-length (f.chart.moments / width_of f.chart.most (f.chart.moments + 1)) s cmd reply f.shares f.chart.lines.rows f.known
 
     moments : (on still : Bool) → (cond on (cond still (record f { chart = counted_chart f.chart }) (near_chart s cmd reply f)) (first_chart s cmd reply f.chart)).chart.moments ≡ f.chart.moments + 1
     moments false still = refl

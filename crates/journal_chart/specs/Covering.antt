@@ -1,5 +1,5 @@
 -- Which allotments add nothing to a column, and which an arena may have. Private functions alone cite these words.
-use Rattle.std.specs.Prelude.{ℕ, ◌+◌, ◌-◌, ◌*◌, ◌^◌, ◌==◌, ◌&&◌, ◌||◌, Bool, nat_le, nat_lt, min, max, if◌then◌else◌, Option, None, Some}
+use Rattle.std.specs.Prelude.{ℕ, ◌+◌, ◌-◌, ◌*◌, ◌/◌, ◌%◌, ◌^◌, ◌==◌, ◌&&◌, ◌||◌, Bool, nat_le, nat_lt, min, max, if◌then◌else◌, Option, None, Some}
 use Rattle.journal_chart.specs.declared.span.Span.{Span}
 use Rattle.journal_chart.specs.declared.covered.Covered.{Covered}
 
@@ -32,8 +32,12 @@ abbrev pub covers : Covered → ℕ → ℕ → ℕ → Bool
 covers c request given asked =
     if (request == 0) || (given == 0) then (c.from == 0) && nat_lt 0 c.below
     else if given == asked then nat_le c.from request && nat_lt request c.below
-    else nat_le (c.from * asked) (request * given) && nat_lt (request * given + asked) (c.below * asked)
+    else nat_le (c.from * asked) (request * given) && nat_le (request * given + asked) (c.below * asked)
 
 -- what such an arena is allotted, where these numbers alone tell it
 abbrev pub exactly : ℕ → ℕ → ℕ → Option ℕ
-exactly request given asked = if (request == 0) || (given == 0) then Some 0 else if given == asked then Some request else None
+exactly request given asked =
+    if (request == 0) || (given == 0) then Some 0
+    else if given == asked then Some request
+    else if request * given % asked == 0 then Some (request * given / asked)
+    else None

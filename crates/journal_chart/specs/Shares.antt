@@ -1,11 +1,15 @@
 -- What the levels of a market are given of what they ask for. Private functions alone cite these words.
-use Rattle.std.specs.Prelude.{ℕ, ◌+◌, ◌*◌, ◌≤◌, nat_lt, if◌then◌else◌, List, [], ◌∷◌, replicate, slice_index}
+use Rattle.std.specs.Prelude.{ℕ, ◌+◌, ◌*◌, ◌≤◌, nat_lt, if◌then◌else◌, List, [], ◌∷◌, is_some, replicate, slice_index}
+use Rattle.std.specs.List.{count_by}
 use Rattle.market_types.specs.State.{State}
 use Rattle.market_types.specs.Allotment.{assigned_to, demand, effective_limit_of, limit_of}
 
--- how many workers may be active, and in places for eight levels what each is given and what it asks for
+-- how many workers may be active, one for enqueued work included in the second number, how many seats are placed, and in places for eight
+-- levels what each is given and what it asks for
 pub record Shared : Type 0 where
   pub limit : ℕ
+  pub effective : ℕ
+  pub placed : ℕ
   pub given : List ℕ
   pub asked : List ℕ
 
@@ -16,7 +20,7 @@ pub record AreFew (given asked : List ℕ) : Type 0 where
 
 -- those of no market
 abbrev pub no_shares : Shared
-no_shares = record { limit = 0; given = replicate 8 0; asked = replicate 8 0 }
+no_shares = record { limit = 0; effective = 0; placed = 0; given = replicate 8 0; asked = replicate 8 0 }
 
 -- what the level at a place asks for, and 0 above the levels of a market
 abbrev pub asked_at : State → ℕ → ℕ
@@ -25,6 +29,17 @@ asked_at s place = if nat_lt place s.levels then demand s (place + 1) else 0
 abbrev pub all_asked : State → List ℕ
 all_asked s = asked_at s 0 ∷ asked_at s 1 ∷ asked_at s 2 ∷ asked_at s 3 ∷ asked_at s 4 ∷ asked_at s 5 ∷ asked_at s 6 ∷ asked_at s 7 ∷ []
 
+-- how many seats of a market are placed
+abbrev pub placed_of : State → ℕ
+placed_of s = count_by is_some s.seats
+
 -- those of a market
 abbrev pub shared_of : State → Shared
-shared_of s = record { limit = limit_of s; given = assigned_to (all_asked s) (effective_limit_of s); asked = all_asked s }
+shared_of s =
+    record {
+      limit = limit_of s;
+      effective = effective_limit_of s;
+      placed = placed_of s;
+      given = assigned_to (all_asked s) (effective_limit_of s);
+      asked = all_asked s;
+    }

@@ -1,5 +1,5 @@
 -- What the code does to the lines of a chart, moment by moment. What it comes to is in Numbers.
-use Rattle.std.specs.Prelude.{ℕ, ◌+◌, ◌*◌, ◌/◌, ◌%◌, ◌==◌, ◌&&◌, ◌||◌, ◌-◌, Bool, true, false, nat_le, nat_lt, if◌then◌else◌, List, [], ◌∷◌, get_or, map, replicate, slice_index, Option, Some, None}
+use Rattle.std.specs.Prelude.{ℕ, ◌+◌, ◌*◌, ◌/◌, ◌%◌, ◌==◌, ◌&&◌, ◌-◌, Bool, true, false, nat_le, nat_lt, if◌then◌else◌, List, [], ◌∷◌, get_or, map, replicate, slice_index, Option, Some, None}
 use Rattle.std.specs.Option.{option_map}
 use Rattle.market_types.specs.declared.command.Cmd.{Cmd}
 use Rattle.market_types.specs.declared.command.Cmd.TheVariants.{Open, Close, Priority, Resize, Request, Join, Stay, Leave}
@@ -8,11 +8,12 @@ use Rattle.market_types.specs.declared.reply.Reply.{Reply}
 use Rattle.market_types.specs.declared.reply.Reply.TheVariants.{Opened, Closed, Moved, Resized, Requested, Placed, Recalled, Left, Idle, Stays, Shown, Listed, Limits, Refused}
 use Rattle.market_types.specs.State.{State}
 use Rattle.market_types.specs.Allotment.{effective_limit_of, is_just, limit_of}
+use Rattle.journal_chart.specs.declared.span.Span.{Span}
 use Rattle.journal_chart.specs.declared.row.Row.{Row}
 use Rattle.journal_chart.specs.declared.row.Known.{Known}
 use Rattle.journal_chart.specs.Lines.{added, at, halved}
 use Rattle.journal_chart.specs.Covering.{covered, covers, exactly, none_covered}
-use Rattle.journal_chart.specs.Shares.{Shared, shared_of}
+use Rattle.journal_chart.specs.Shares.{Shared, placed_of, shared_of}
 use Rattle.journal_chart.specs.Columns.{width_of}
 use Rattle.journal_chart.specs.Numbers.{Charted, Drawn, view_at}
 
@@ -141,17 +142,17 @@ requested (Requested n) k = Some (record k { request = n })
 requested (Resized n) k = Some (record k { request = n })
 requested _ k = None
 
-abbrev pub unplaced : ℕ → Reply → Known → Row → Option Known
-unplaced place (Recalled a) k r = Some (known_in place k.request (k.active - 1) r)
-unplaced place (Left a) k r = Some (known_in place k.request (k.active - 1) r)
-unplaced place _ k r = None
+abbrev pub retold : Cmd → Reply → Known → Option Known
+retold (Resize a slots reserved) reply k = requested reply k
+retold (Request a workers mandatory) reply k = requested reply k
+retold _ reply k = None
 
-abbrev pub retold : ℕ → Cmd → Reply → Known → Row → Option Known
-retold place (Resize a slots reserved) reply k r = requested reply k
-retold place (Request a workers mandatory) reply k r = requested reply k
-retold place Stay reply k r = unplaced place reply k r
-retold place Leave reply k r = unplaced place reply k r
-retold place _ reply k r = None
+-- the same after a command of a seat: whether one more seat is placed than before is known
+abbrev pub seated : ℕ → Bool → Reply → Known → Row → Option Known
+seated place more (Placed a) k r = if more && nat_lt k.active 64 then Some (known_in place k.request (k.active + 1) r) else None
+seated place more (Recalled a) k r = Some (known_in place k.request (k.active - 1) r)
+seated place more (Left a) k r = Some (known_in place k.request (k.active - 1) r)
+seated place more _ k r = None
 
 -- ---- a row at a moment in the column of the last
 
@@ -164,15 +165,15 @@ keeps_order _ = true
 abbrev pub is_divided : Shared → ℕ → Bool
 is_divided now level = nat_lt 0 now.limit && (nat_le 1 level && nat_le level 8)
 
--- the arenas of a level are allotted what they were, but for the one that the entry is about: at most a seat has moved, or the level is
--- given what it was of what it asked for
+-- the arenas of a level are allotted what they were, but for the one that the entry is about: the level is given what it was of what it
+-- asked for
 abbrev pub is_same_share : Shared → Shared → ℕ → Bool
 is_same_share was now level =
     (is_divided was level && is_divided now level)
     && ((slice_index was.given (level - 1) == slice_index now.given (level - 1)) && (slice_index was.asked (level - 1) == slice_index now.asked (level - 1)))
 
 abbrev pub is_kept : Cmd → Shared → Shared → ℕ → Bool
-is_kept cmd was now level = moves_seat cmd || (keeps_order cmd && is_same_share was now level)
+is_kept cmd was now level = keeps_order cmd && is_same_share was now level
 
 -- so for each of eight levels
 abbrev pub kept_levels : Cmd → Shared → Shared → List Bool
@@ -235,14 +236,26 @@ own_row place s cmd reply now r (Some k) = if is_covered_at now k r.stands then 
 -- a row that has the moment before in the same column
 abbrev pub near_row : ℕ → State → Cmd → Reply → Shared → List Bool → Row → Known → Row × Known
 near_row place s cmd reply now kept r k =
-    if is_just r.arena (subject cmd reply) then own_row place s cmd reply now r (retold place cmd reply k r)
+    if is_just r.arena (subject cmd reply) then own_row place s cmd reply now r (retold cmd reply k)
     else if stands_kept kept r.stands then (r, k)
     else if is_covered_at now k r.stands then (r, k)
     else settled_row place s cmd reply now k r
 
--- what levels are given after a command
+-- such a row after a command of a seat
+abbrev pub seat_row : ℕ → State → Cmd → Reply → Bool → Shared → Row → Known → Row × Known
+seat_row place s cmd reply more now r k =
+    if is_just r.arena (subject cmd reply) then own_row place s cmd reply now r (seated place more reply k r) else (r, k)
+
+-- what levels are given after a command of a seat, and after any
+abbrev pub after_seat : State → Shared → Shared
+after_seat s was = record was { placed = placed_of s }
+
 abbrev pub now_shared : Cmd → State → Shared → Shared
-now_shared cmd s was = if moves_seat cmd then was else shared_of s
+now_shared cmd s was = if moves_seat cmd then after_seat s was else shared_of s
+
+-- one more seat is placed than before
+abbrev pub is_joined : Shared → Shared → Bool
+is_joined was now = now.placed == was.placed + 1
 
 -- ---- all lines
 
@@ -270,19 +283,30 @@ pairwise f [] ys = ([], ys)
 pairwise f (x ∷ xs) [] = (x ∷ xs, [])
 pairwise f (x ∷ xs) (y ∷ ys) = ((f x y).0 ∷ (pairwise f xs ys).0, (f x y).1 ∷ (pairwise f xs ys).1)
 
--- rows that have the moment before in the same column, and what is known of their arenas
+-- rows that have the moment before in the same column, and what is known of their arenas: after a command of a seat, after another, and
+-- after any
+abbrev pub seat_rows : ℕ → State → Cmd → Reply → Shared → List Row → List Known → List Row × List Known
+seat_rows place s cmd reply was rows ks = pairwise (seat_row place s cmd reply (is_joined was (after_seat s was)) (after_seat s was)) rows ks
+
+abbrev pub each_row : ℕ → State → Cmd → Reply → Shared → List Row → List Known → List Row × List Known
+each_row place s cmd reply was rows ks = pairwise (near_row place s cmd reply (shared_of s) (kept_levels cmd was (shared_of s))) rows ks
+
 abbrev pub near_rows : ℕ → State → Cmd → Reply → Shared → List Row → List Known → List Row × List Known
-near_rows place s cmd reply was rows ks = pairwise (near_row place s cmd reply (now_shared cmd s was) (kept_levels cmd was (now_shared cmd s was))) rows ks
+near_rows place s cmd reply was rows ks = if moves_seat cmd then seat_rows place s cmd reply was rows ks else each_row place s cmd reply was rows ks
 
 -- what is known of the arenas of rows that take a moment
 abbrev pub known_rows : ℕ → State → Cmd → Reply → List Row → List Known
 known_rows place s cmd reply rows = map (λ (r : Row). (seen_row place s cmd reply r).1) rows
 
+-- a limit in the column of the last moment, at which it was this: it adds something only where it changed
+abbrev pub limited : ℕ → ℕ → ℕ → List (Option Span) → List (Option Span)
+limited place was now columns = if was == now then columns else added place (Some now) columns
+
 abbrev pub near_lines : ℕ → State → Cmd → Reply → Shared → List Known → Drawn → Drawn
 near_lines place s cmd reply was ks d =
     record {
-      limit = added place (Some (limit_of s)) d.limit;
-      effective = added place (Some (effective_limit_of s)) d.effective;
+      limit = limited place was.limit (now_shared cmd s was).limit d.limit;
+      effective = limited place was.effective (now_shared cmd s was).effective d.effective;
       rows = (near_rows place s cmd reply was d.rows ks).0;
     }
 

@@ -71,19 +71,25 @@ impl Covered {
             return self.from <= request && request < self.below;
         }
         let product = u64::from(request) * given;
-        u64::from(self.from) * asked <= product && product + asked < u64::from(self.below) * asked
+        u64::from(self.from) * asked <= product && product + asked <= u64::from(self.below) * asked
     }
 }
 
 /// How many workers an arena is allotted which asks for so many of a level that is given so many of what it asks for, where this tells it.
 pub(crate) fn exactly(request: u32, given: u64, asked: u64) -> Option<u32>
+    requires some { given ≤ 1024 * 65535 }
+    requires within { given ≤ asked }
     ensures { result ≡ exactly request given asked }
 {
     if request == 0 || given == 0 {
         return Some(0);
     }
-    if given != asked {
+    if given == asked {
+        return Some(request);
+    }
+    let product = u64::from(request) * given;
+    if product % asked > 0 {
         return None;
     }
-    Some(request)
+    Some((product / asked) as u32)
 }

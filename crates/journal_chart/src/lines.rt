@@ -3,10 +3,10 @@ ghost use Rattle.std.specs.Prelude.{◌≡◌, IfOk, length, map};
 ghost use Rattle.market_types.specs.State.{State};
 ghost use Rattle.market_types.specs.Step.{limits_of};
 ghost use Rattle.journal_chart.specs.Shares.{shared_of};
-ghost use Rattle.journal_chart.specs.Steps.{empty_lines, empty_row, halved_lines, known_rows, limited_lines, near_lines, near_rows, now_shared, passed_lines, taken_lines};
+ghost use Rattle.journal_chart.specs.Steps.{empty_lines, empty_row, halved_lines, known_rows, limited, limited_lines, near_lines, near_rows, now_shared, passed_lines, taken_lines};
 
 use crate::line::Line;
-use crate::nearby::{look_rows, near_rows};
+use crate::nearby::{look_rows, moves_seat, near_rows, seat_rows};
 use crate::row::{Known, Row, halve_rows, pass_rows, take_rows};
 use crate::shares::Shares;
 use market_core::Market;
@@ -84,6 +84,18 @@ impl Lines {
         self.effective.add(place, limits.effective);
     }
 
+    /// Puts the limits into the column at a place which has the moment before, where they are not what they were then.
+    fn add_changed(&mut self, place: usize, was: &Shares, limits: &LimitView)
+        ensures { self.new ≡ record self.old { limit = limited place was.now.limit limits.now.limit self.old.limit; effective = limited place was.now.effective limits.now.effective self.old.effective } }
+    {
+        if was.limit() != limits.limit {
+            self.limit.add(place, limits.limit);
+        }
+        if was.effective() != limits.effective {
+            self.effective.add(place, limits.effective);
+        }
+    }
+
     /// Takes the moment after a command and its reply into the column at a place.
     pub(crate) fn take(&mut self, place: usize, market: &Market, cmd: &Cmd, reply: &Reply)
         ensures { self.new ≡ taken_lines place market.now cmd.now reply.now self.old }
@@ -128,8 +140,12 @@ impl Lines {
         ensures known { known.new ≡ (near_rows place market.now cmd.now reply.now shares.old self.old.rows known.old).1 }
         ensures shares { shares.new ≡ now_shared cmd.now market.now shares.old }
     {
+        if moves_seat(cmd) {
+            seat_rows(&mut self.rows, known, shares, place, market, cmd, reply);
+            return;
+        }
         let limits = market.limits();
-        self.add_limits(place, &limits);
+        self.add_changed(place, shares, &limits);
         near_rows(
             &mut self.rows,
             known,

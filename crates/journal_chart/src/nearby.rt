@@ -2,7 +2,8 @@
 ghost use Rattle.std.specs.Prelude.{◌≡◌, length, map};
 ghost use Rattle.market_types.specs.Allotment.{is_just};
 ghost use Rattle.market_types.specs.Step.{limits_of};
-ghost use Rattle.journal_chart.specs.Steps.{is_covered, is_covered_at, is_divided, is_kept, keeps_order, kept_levels, known_rows, moves_seat, near_row, near_rows, now_shared, own_row, pairwise, requested, retold, settled_row, share_told, stands_kept, subject, taken_row, told, unplaced};
+ghost use Rattle.journal_chart.specs.Shares.{shared_of};
+ghost use Rattle.journal_chart.specs.Steps.{after_seat, each_row, is_covered, is_covered_at, is_divided, is_joined, is_kept, keeps_order, kept_levels, known_rows, moves_seat, near_row, own_row, pairwise, requested, retold, seat_row, seat_rows, seated, settled_row, share_told, stands_kept, subject, taken_row, told};
 
 use crate::covered::exactly;
 use crate::row::{Known, Row};
@@ -11,7 +12,7 @@ use market_core::Market;
 use market_types::{ArenaId, Cmd, Level, LimitView, Reply};
 
 /// A command after which at most a seat has moved.
-fn moves_seat(cmd: &Cmd) -> bool
+pub(crate) fn moves_seat(cmd: &Cmd) -> bool
     ensures { result ≡ moves_seat cmd.now }
 {
     matches!(cmd, Cmd::Join | Cmd::Stay | Cmd::Leave)
@@ -68,18 +69,17 @@ fn is_divided(now: &Shares, level: Level) -> bool
     now.limit() > 0
 }
 
-/// The arenas of a level are allotted what they were, but for the one that the entry is about: at most a seat has moved, or the level is
-/// given what it was of what it asked for.
+/// The arenas of a level are allotted what they were, but for the one that the entry is about: the level is given what it was of what it
+/// asked for.
 #[inline]
 fn is_kept(cmd: &Cmd, was: &Shares, now: &Shares, level: Level) -> bool
     ensures { result ≡ is_kept cmd.now was.now now.now level }
 {
-    moves_seat(cmd)
-        || (keeps_order(cmd)
-            && is_divided(was, level)
-            && is_divided(now, level)
-            && was.given(level) == now.given(level)
-            && was.asked(level) == now.asked(level))
+    keeps_order(cmd)
+        && is_divided(was, level)
+        && is_divided(now, level)
+        && was.given(level) == now.given(level)
+        && was.asked(level) == now.asked(level)
 }
 
 /// Which levels' arenas are allotted what they were.
@@ -182,11 +182,27 @@ fn requested(reply: &Reply, known: &Known) -> Option<Known>
     }
 }
 
-/// What is known of an arena after an entry by which a seat is no longer placed at it.
-fn unplaced(place: usize, reply: &Reply, known: &Known, row: &Row) -> Option<Known>
-    ensures { result ≡ unplaced place reply.now known.now row.now }
+/// What is known of an arena after an entry that is about it, where the reply tells that.
+fn retold(cmd: &Cmd, reply: &Reply, known: &Known) -> Option<Known>
+    ensures { result ≡ retold cmd.now reply.now known.now }
+{
+    match cmd {
+        Cmd::Resize(_, _, _) | Cmd::Request(_, _, _) => requested(reply, known),
+        _ => None,
+    }
+}
+
+/// The same after a command of a seat. A Placed tells it where one more seat is placed than before.
+fn seated(place: usize, more: bool, reply: &Reply, known: &Known, row: &Row) -> Option<Known>
+    ensures { result ≡ seated place more reply.now known.now row.now }
 {
     match reply {
+        Reply::Placed(_) => {
+            if !more || known.active >= 64 {
+                return None;
+            }
+            Some(row.known(place, known.request, known.active + 1))
+        }
         Reply::Recalled(_) | Reply::Left(_) => Some(row.known(
             place,
             known.request,
@@ -196,19 +212,8 @@ fn unplaced(place: usize, reply: &Reply, known: &Known, row: &Row) -> Option<Kno
     }
 }
 
-/// What is known of an arena after an entry that is about it, where the reply tells that.
-fn retold(place: usize, cmd: &Cmd, reply: &Reply, known: &Known, row: &Row) -> Option<Known>
-    ensures { result ≡ retold place cmd.now reply.now known.now row.now }
-{
-    match cmd {
-        Cmd::Resize(_, _, _) | Cmd::Request(_, _, _) => requested(reply, known),
-        Cmd::Stay | Cmd::Leave => unplaced(place, reply, known, row),
-        _ => None,
-    }
-}
-
-/// Takes the moment after an entry into the column of the row of the arena that it is about, which has the moment before: what is then
-/// known of the arena.
+/// Takes the moment after an entry into the column of the row of the arena that it is about, which has the moment before, where this is
+/// told of it: what is then known of the arena.
 fn own_row(
     row: &mut Row,
     place: usize,
@@ -216,11 +221,11 @@ fn own_row(
     cmd: &Cmd,
     reply: &Reply,
     now: &Shares,
-    known: &Known,
+    told: Option<Known>,
 ) -> Known
-    ensures { (row.new, result) ≡ own_row place market.now cmd.now reply.now now.now row.old (retold place cmd.now reply.now known.now row.old) }
+    ensures { (row.new, result) ≡ own_row place market.now cmd.now reply.now now.now row.old told }
 {
-    let Some(told) = retold(place, cmd, reply, known, row) else {
+    let Some(told) = told else {
         return row.look(place, market, cmd, reply);
     };
     if is_covered_at(now, &told, row.stands) {
@@ -248,7 +253,8 @@ fn near_row(
     ensures { (row.new, known.new) ≡ near_row place market.now cmd.now reply.now now.now kept.now row.old known.old }
 {
     if is_just(row.arena, about) {
-        *known = own_row(row, place, market, cmd, reply, now, known);
+        let told = retold(cmd, reply, known);
+        *known = own_row(row, place, market, cmd, reply, now, told);
         return;
     }
     if stands_kept(kept, row.stands) {
@@ -307,17 +313,88 @@ pub(crate) fn near_rows(
 )
     requires each { length known.old ≡ length rows.old }
     requires limits { limits.now ≡ limits_of market.now }
-    ensures rows { rows.new ≡ (near_rows place market.now cmd.now reply.now shares.old rows.old known.old).0 }
-    ensures known { known.new ≡ (near_rows place market.now cmd.now reply.now shares.old rows.old known.old).1 }
-    ensures shares { shares.new ≡ now_shared cmd.now market.now shares.old }
+    ensures rows { rows.new ≡ (each_row place market.now cmd.now reply.now shares.old rows.old known.old).0 }
+    ensures known { known.new ≡ (each_row place market.now cmd.now reply.now shares.old rows.old known.old).1 }
+    ensures shares { shares.new ≡ shared_of market.now }
 {
-    if moves_seat(cmd) {
-        each_row(rows, known, place, market, cmd, reply, shares, shares);
-        return;
-    }
     let now = Shares::of(market, limits);
     each_row(rows, known, place, market, cmd, reply, shares, &now);
     *shares = now;
+}
+
+/// Takes the moment after a command of a seat and its reply, which are about one arena, into the column of a row at a place, which has the
+/// moment before, and what is then known of its arena. The row of another arena is left as it is.
+#[inline]
+fn seat_row(
+    row: &mut Row,
+    known: &mut Known,
+    place: usize,
+    market: &Market,
+    cmd: &Cmd,
+    reply: &Reply,
+    more: bool,
+    now: &Shares,
+    about: &Option<ArenaId>,
+)
+    requires about { about.now ≡ subject cmd.now reply.now }
+    ensures { (row.new, known.new) ≡ seat_row place market.now cmd.now reply.now more now.now row.old known.old }
+{
+    if is_just(row.arena, about) {
+        let told = seated(place, more, reply, known, row);
+        *known = own_row(row, place, market, cmd, reply, now, told);
+    }
+}
+
+/// Takes the moment into the columns of all rows, and what is then known of their arenas, where one more seat is placed than before, or
+/// not.
+fn each_seat_row(
+    rows: &mut [Row],
+    known: &mut [Known],
+    place: usize,
+    market: &Market,
+    cmd: &Cmd,
+    reply: &Reply,
+    more: bool,
+    now: &Shares,
+)
+    requires each { length known.old ≡ length rows.old }
+    ensures rows { rows.new ≡ (pairwise (seat_row place market.now cmd.now reply.now more now.now) rows.old known.old).0 }
+    ensures known { known.new ≡ (pairwise (seat_row place market.now cmd.now reply.now more now.now) rows.old known.old).1 }
+{
+    let about = subject(cmd, reply);
+    for index in 0..rows.len() {
+        seat_row(
+            &mut rows[index],
+            &mut known[index],
+            place,
+            market,
+            cmd,
+            reply,
+            more,
+            now,
+            &about,
+        );
+    }
+}
+
+/// Takes the moment after a command of a seat and its reply into the column of all rows at a place, which has the moment before, what is
+/// then known of their arenas, and how many seats are placed.
+pub(crate) fn seat_rows(
+    rows: &mut [Row],
+    known: &mut [Known],
+    shares: &mut Shares,
+    place: usize,
+    market: &Market,
+    cmd: &Cmd,
+    reply: &Reply,
+)
+    requires each { length known.old ≡ length rows.old }
+    ensures rows { rows.new ≡ (seat_rows place market.now cmd.now reply.now shares.old rows.old known.old).0 }
+    ensures known { known.new ≡ (seat_rows place market.now cmd.now reply.now shares.old rows.old known.old).1 }
+    ensures shares { shares.new ≡ after_seat market.now shares.old }
+{
+    let more = shares.seat(market);
+    each_seat_row(rows, known, place, market, cmd, reply, more, shares);
 }
 
 /// Takes the first moment of a column into all rows, and what is then known of their arenas.

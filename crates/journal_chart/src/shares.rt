@@ -2,16 +2,20 @@
 ghost use Rattle.std.specs.Prelude.{◌≡◌, ℕ, ◌-◌, ◌*◌, ◌<◌, ◌≤◌, slice_index};
 ghost use Rattle.market_types.specs.Step.{limits_of};
 ghost use Rattle.journal_chart.specs.Shares.{asked_at, no_shares, shared_of};
+ghost use Rattle.journal_chart.specs.Steps.{after_seat, is_joined};
 
 use allotment::assign;
 use market_core::Market;
 use market_types::{Level, LimitView};
 use std::marker::Model;
 
-/// What each level of a market is given of what it asks for, and how many workers may be active: contracts see it as `Shared`.
+/// What each level of a market is given of what it asks for, how many workers may be active, and how many seats are placed: contracts
+/// see it as `Shared`.
 #[derive(Drop)]
 pub(crate) struct Shares {
     limit: u32,
+    effective: u32,
+    placed: u32,
     given: [u64; 8],
     asked: [u64; 8],
 }
@@ -21,7 +25,7 @@ impl Model for Shares {
 
     ghost Value = { Shared };
 
-    ghost view = { λ s. record { limit = s.limit; given = s.given; asked = s.asked } };
+    ghost view = { λ s. record { limit = s.limit; effective = s.effective; placed = s.placed; given = s.given; asked = s.asked } };
 
     ghost invariant = { λ s. AreFew s.given s.asked };
 }
@@ -46,6 +50,8 @@ impl Shares {
     {
         Shares {
             limit: 0,
+            effective: 0,
+            placed: 0,
             given: [0; 8],
             asked: [0; 8],
         }
@@ -69,9 +75,22 @@ impl Shares {
         ];
         Shares {
             limit: limits.limit,
+            effective: limits.effective,
+            placed: market.placed(),
             given: assign(&asked, u64::from(limits.effective)),
             asked,
         }
+    }
+
+    /// Those after a command of a seat, and whether one more seat is placed than before.
+    #[inline]
+    pub(crate) fn seat(&mut self, market: &Market) -> bool
+        ensures shares { self.new ≡ after_seat market.now self.old }
+        ensures more { result ≡ is_joined self.old (after_seat market.now self.old) }
+    {
+        let before = self.placed;
+        self.placed = market.placed();
+        u64::from(self.placed) == u64::from(before) + 1
     }
 
     /// How many workers may be active.
@@ -82,11 +101,20 @@ impl Shares {
         self.limit
     }
 
+    /// How many workers may be active, one for enqueued work included.
+    #[inline]
+    pub(crate) fn effective(&self) -> u32
+        ensures { result ≡ self.now.effective }
+    {
+        self.effective
+    }
+
     /// What a level is given.
     #[inline]
     pub(crate) fn given(&self, level: Level) -> u64
         ensures exact { result ≡ slice_index self.now.given (level - 1) }
         ensures few { result ≤ 1024 * 65535 }
+        ensures within { result ≤ slice_index self.now.asked (level - 1) }
     {
         self.given[level.index()]
     }
