@@ -106,6 +106,8 @@ impl Chart {
     }
 
     /// Takes the moment after an entry, as `take` does, what is then known of the arenas, and what the levels are given.
+    // Apart, as `near` is, since each entry would else make room for all that is needed here.
+    #[inline(never)]
     fn look(
         &mut self,
         known: &mut [Known],
@@ -129,6 +131,7 @@ impl Chart {
 
     /// Takes the moment after an entry into the column of the last moment, which was taken before, what is then known of the arenas, and
     /// what the levels are given.
+    #[inline(never)]
     fn near(
         &mut self,
         known: &mut [Known],

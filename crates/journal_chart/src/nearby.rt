@@ -145,26 +145,26 @@ fn share_told(now: &Shares, known: &Known, stands: Option<Level>) -> Option<u32>
     }
 }
 
-/// Takes the moment after a command and its reply into the column of a row at a place, where this is known of its arena: what is then
+/// Takes the moment after a command and its reply into the column of a row at a place, where this is known of its arena, and what is then
 /// known. The market is asked only for what is not told by that.
 #[inline(never)]
 fn settle(
     row: &mut Row,
+    known: &mut Known,
     place: usize,
     market: &Market,
     cmd: &Cmd,
     reply: &Reply,
     now: &Shares,
-    known: &Known,
-) -> Known
-    ensures { (row.new, result) ≡ settled_row place market.now cmd.now reply.now now.now known.now row.old }
+)
+    ensures { (row.new, known.new) ≡ settled_row place market.now cmd.now reply.now now.now known.old row.old }
 {
     match share_told(now, known, row.stands) {
         Some(allot) => {
             row.add_share(place, known, allot);
-            row.known(place, known.request, known.active)
+            *known = row.known(place, known.request, known.active);
         }
-        None => row.look(place, market, cmd, reply),
+        None => *known = row.look(place, market, cmd, reply),
     }
 }
 
@@ -213,26 +213,29 @@ fn seated(place: usize, more: bool, reply: &Reply, known: &Known, row: &Row) -> 
 }
 
 /// Takes the moment after an entry into the column of the row of the arena that it is about, which has the moment before, where this is
-/// told of it: what is then known of the arena.
+/// told of it, and what is then known of the arena.
 fn own_row(
     row: &mut Row,
+    known: &mut Known,
     place: usize,
     market: &Market,
     cmd: &Cmd,
     reply: &Reply,
     now: &Shares,
     told: Option<Known>,
-) -> Known
-    ensures { (row.new, result) ≡ own_row place market.now cmd.now reply.now now.now row.old told }
+)
+    ensures { (row.new, known.new) ≡ own_row place market.now cmd.now reply.now now.now row.old told }
 {
     let Some(told) = told else {
-        return row.look(place, market, cmd, reply);
+        *known = row.look(place, market, cmd, reply);
+        return;
     };
-    if is_covered_at(now, &told, row.stands) {
-        row.add_needs(place, &told);
-        return told;
+    *known = told;
+    if is_covered_at(now, known, row.stands) {
+        row.add_needs(place, known);
+        return;
     }
-    settle(row, place, market, cmd, reply, now, &told)
+    settle(row, known, place, market, cmd, reply, now);
 }
 
 /// Takes the moment after a command and its reply, which are about one arena, into the column of a row at a place, which has the moment
@@ -254,7 +257,7 @@ fn near_row(
 {
     if is_just(row.arena, about) {
         let told = retold(cmd, reply, known);
-        *known = own_row(row, place, market, cmd, reply, now, told);
+        own_row(row, known, place, market, cmd, reply, now, told);
         return;
     }
     if stands_kept(kept, row.stands) {
@@ -263,11 +266,11 @@ fn near_row(
     if is_covered_at(now, known, row.stands) {
         return;
     }
-    *known = settle(row, place, market, cmd, reply, now, known);
+    settle(row, known, place, market, cmd, reply, now);
 }
 
-/// Takes the moment into the columns of all rows, and what is then known of their arenas, where the levels were given this at the moment
-/// before, and now this.
+/// Takes the moment into the columns of all rows, and what is then known of their arenas, where the levels are given this now, and the
+/// arenas of these are allotted what they were.
 fn each_row(
     rows: &mut [Row],
     known: &mut [Known],
@@ -275,15 +278,14 @@ fn each_row(
     market: &Market,
     cmd: &Cmd,
     reply: &Reply,
-    was: &Shares,
     now: &Shares,
+    kept: &[bool; 8],
 )
     requires each { length known.old ≡ length rows.old }
-    ensures rows { rows.new ≡ (pairwise (near_row place market.now cmd.now reply.now now.now (kept_levels cmd.now was.now now.now)) rows.old known.old).0 }
-    ensures known { known.new ≡ (pairwise (near_row place market.now cmd.now reply.now now.now (kept_levels cmd.now was.now now.now)) rows.old known.old).1 }
+    ensures rows { rows.new ≡ (pairwise (near_row place market.now cmd.now reply.now now.now kept.now) rows.old known.old).0 }
+    ensures known { known.new ≡ (pairwise (near_row place market.now cmd.now reply.now now.now kept.now) rows.old known.old).1 }
 {
     let about = subject(cmd, reply);
-    let kept = kept_levels(cmd, was, now);
     for index in 0..rows.len() {
         near_row(
             &mut rows[index],
@@ -294,7 +296,7 @@ fn each_row(
             reply,
             now,
             &about,
-            &kept,
+            kept,
         );
     }
 }
@@ -318,8 +320,9 @@ pub(crate) fn near_rows(
     ensures shares { shares.new ≡ shared_of market.now }
 {
     let now = Shares::of(market, limits);
-    each_row(rows, known, place, market, cmd, reply, shares, &now);
+    let kept = kept_levels(cmd, shares, &now);
     *shares = now;
+    each_row(rows, known, place, market, cmd, reply, shares, &kept);
 }
 
 /// Takes the moment after a command of a seat and its reply, which are about one arena, into the column of a row at a place, which has the
@@ -341,7 +344,7 @@ fn seat_row(
 {
     if is_just(row.arena, about) {
         let told = seated(place, more, reply, known, row);
-        *known = own_row(row, place, market, cmd, reply, now, told);
+        own_row(row, known, place, market, cmd, reply, now, told);
     }
 }
 

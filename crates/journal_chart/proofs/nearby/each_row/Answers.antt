@@ -10,6 +10,6 @@ loop-index-preserved c =
     let i = c.loop-index.index in
     let row : Row = get_or c.loop-index.rows i c.index-rows-index.result in
     let known : Known = get_or c.loop-index.known i nothing_known in
-    paired-more (near_row c.args.place c.args.market.now c.args.cmd.now c.args.reply.now c.args.now.now c.kept_levels-kept.result) c.args.rows.now c.args.known.now c.loop-index.rows c.loop-index.known i row
+    paired-more (near_row c.args.place c.args.market.now c.args.cmd.now c.args.reply.now c.args.now.now c.args.kept.now) c.args.rows.now c.args.known.now c.loop-index.rows c.loop-index.known i row
     c.near_row.new.row known c.near_row.new.known c.loop-index.invariant (omega arith) (get-any c.loop-index.rows i c.index-rows-index.result row (omega arith))
     (get-any c.loop-index.known i nothing_known known (omega (arith, c.loop-index.invariant.same))) c.near_row.ensures
