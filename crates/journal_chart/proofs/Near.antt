@@ -12,7 +12,7 @@ use Rattle.market_types.specs.declared.reply.Reply.{Reply}
 use Rattle.market_types.specs.declared.reply.Reply.TheVariants.{Recalled, Stays}
 use Rattle.market_types.specs.State.{Arena, State}
 use Rattle.market_types.specs.Claims.{request_of}
-use Rattle.market_types.specs.Allotment.{active, allotment_of, assigned, at_level, demand, effective_limit_of, is_just, limit_of, need, recall}
+use Rattle.market_types.specs.Allotment.{active, all_to, allotment_of, assigned, at_level, bound_of, carried, count_at, demand, effective_limit_of, has_mandatory, in_order, is_just, limit_of, mandatory_pick, need, recall}
 use Rattle.market_types.specs.Step.{Outcome, arena_at, join_at, join_from, leave_from, place_of, stay_from, step, view_of, with_place}
 use Rattle.journal_chart.specs.declared.covered.Covered.{Covered}
 use Rattle.journal_chart.specs.declared.span.Span.{Span}
@@ -23,7 +23,7 @@ use Rattle.journal_chart.specs.Covering.{covered, covers, exactly, least_covered
 use Rattle.journal_chart.specs.Lines.{added, at}
 use Rattle.journal_chart.specs.Numbers.{level_at, line_of, row_of, shown, view_at}
 use Rattle.journal_chart.specs.Shares.{Shared, shared_of}
-use Rattle.journal_chart.specs.Steps.{after_seat, is_covered, is_covered_at, is_divided, is_joined, is_kept, is_same_share, keeps_order, kept_levels, known_in, known_of, limited, moves_seat, near_row, needing_row, own_row, retold, seat_row, seated, seen_row, settled_row, share_told, shared_row, stands_after, stands_kept, subject, told_row}
+use Rattle.journal_chart.specs.Steps.{after_seat, has_few, is_covered, is_covered_at, is_divided, is_idle, is_joined, is_kept, is_same_share, keeps_order, kept_levels, known_in, known_of, limited, moves_seat, near_row, needing_row, own_row, retold, seat_row, seated, seen_row, settled_row, share_told, shared_row, stands_after, stands_kept, subject, told_row}
 use Rattle.journal_chart.proofs.Bounds.{IsShare, Whole, allotment-level, allotment-share, at-level, both, covered-share, exact-share, same-carried}
 use Rattle.journal_chart.proofs.Charts.{line-if, readied-row}
 use Rattle.journal_chart.proofs.Kept.{Fine, Stands, Steady, apart-stands, found-number, found-within, steady-step}
@@ -32,6 +32,10 @@ use Rattle.journal_chart.proofs.Still.{GoesOn, added-twice}
 use Rattle.journal_chart.proofs.Told.{Retold, seated-step, told-step}
 
 -- ---- a number that a column spans
+
+either : (a b : Bool) → (a || b) ≡ true → (a ≡ true) ⊎ (b ≡ true)
+either true b h = inl refl
+either false b h = inr h
 
 -- a column spans a number
 record Inside (c : Option Span) (v : ℕ) : Type 0 where
@@ -184,23 +188,55 @@ even-step s t seat cmd reply answered moves = subst (λ (o : Outcome). Even s o.
 
 -- ---- levels that are kept
 
-kept-place : (cmd : Cmd) (was now : Shared) (place : ℕ) → get_or (kept_levels cmd was now) place false ≡ true → is_kept cmd was now (suc place) ≡ true
-kept-place cmd was now zero h = h
-kept-place cmd was now (suc zero) h = h
-kept-place cmd was now (suc (suc zero)) h = h
-kept-place cmd was now (suc (suc (suc zero))) h = h
-kept-place cmd was now (suc (suc (suc (suc zero)))) h = h
-kept-place cmd was now (suc (suc (suc (suc (suc zero))))) h = h
-kept-place cmd was now (suc (suc (suc (suc (suc (suc zero)))))) h = h
-kept-place cmd was now (suc (suc (suc (suc (suc (suc (suc zero))))))) h = h
-kept-place cmd was now (suc (suc (suc (suc (suc (suc (suc (suc n)))))))) h = absurd (true≢false (sym h))
+kept-place : (cmd : Cmd) (was now : Shared) (levels place : ℕ) → get_or (kept_levels cmd was now levels) place false ≡ true → is_kept cmd was now levels (suc place) ≡ true
+kept-place cmd was now levels zero h = h
+kept-place cmd was now levels (suc zero) h = h
+kept-place cmd was now levels (suc (suc zero)) h = h
+kept-place cmd was now levels (suc (suc (suc zero))) h = h
+kept-place cmd was now levels (suc (suc (suc (suc zero)))) h = h
+kept-place cmd was now levels (suc (suc (suc (suc (suc zero))))) h = h
+kept-place cmd was now levels (suc (suc (suc (suc (suc (suc zero)))))) h = h
+kept-place cmd was now levels (suc (suc (suc (suc (suc (suc (suc zero))))))) h = h
+kept-place cmd was now levels (suc (suc (suc (suc (suc (suc (suc (suc n)))))))) h = absurd (true≢false (sym h))
 
-kept-level : (cmd : Cmd) (was now : Shared) (level : ℕ) → stands_kept (kept_levels cmd was now) (Some level) ≡ true → is_kept cmd was now level ≡ true
-kept-level cmd was now level h =
-    let g = both (nat_le 1 level) (get_or (kept_levels cmd was now) (level - 1) false) h in
+kept-level : (cmd : Cmd) (was now : Shared) (levels level : ℕ) → stands_kept (kept_levels cmd was now levels) (Some level) ≡ true
+    → ((is_idle was && is_idle now) ≡ true) ⊎ ((keeps_order cmd && is_same_share was now level) ≡ true)
+kept-level cmd was now levels level h =
+    let g = both (nat_le 1 level) (get_or (kept_levels cmd was now levels) (level - 1) false) h in
     let low : 1 ≤ level = let e = g.0 in grind (arith, nat_tests) in
     let next : suc (level - 1) ≡ level = omega (arith, low) in
-    ap (is_kept cmd was now) (sym next) ∙ kept-place cmd was now (level - 1) g.1
+    let kept : is_kept cmd was now levels level ≡ true = ap (is_kept cmd was now levels) (sym next) ∙ kept-place cmd was now levels (level - 1) g.1 in
+    either (is_idle was && is_idle now) (keeps_order cmd && is_same_share was now level)
+    (both (nat_le level levels) ((is_idle was && is_idle now) || (keeps_order cmd && is_same_share was now level)) kept).1
+
+-- ---- where the limit is 0
+
+to-one : (o : Option Arena) (m n a : ℕ) → m ≤ n → all_to o m a ≤ n
+to-one None m n a few = omega arith
+to-one (Some picked) m n a few =
+    elim (cases_Bool (eqb picked.number a)) [
+      | inl own ↦ rw own few
+      | inr other ↦ rw other (omega arith)
+    ]
+
+few-allotted : (s : State) (a : ℕ) → limit_of s ≡ 0 → allotment_of s a ≤ effective_limit_of s
+few-allotted s a none =
+    let off : ltb 0 (limit_of s) ≡ false = grind (arith, nat_tests) in
+    let within : bound_of s ≤ effective_limit_of s = omega arith in
+    let few : all_to (mandatory_pick s) (bound_of s) a ≤ effective_limit_of s = to-one (mandatory_pick s) (bound_of s) (effective_limit_of s) a within in
+    subst (λ n. n ≤ effective_limit_of s) (ap (λ b. cond b (count_at a (carried (assigned s) (demand s) 0 (in_order s))) (all_to (mandatory_pick s) (bound_of s) a)) (sym off)) few
+
+idle-limit : (s : State) → is_idle (shared_of s) ≡ true → limit_of s ≡ 0
+idle-limit s idle = go (ltb 0 (limit_of s)) refl idle
+  where
+    go : (b : Bool) → ltb 0 (limit_of s) ≡ b → eqb (cond b (limit_of s) (cond (has_mandatory s.arenas) 1 0)) 0 ≡ true → limit_of s ≡ 0
+    go true some none = grind (arith, nat_tests)
+    go false off none = grind (arith, nat_tests)
+
+idle-allotted : (s : State) (a : ℕ) → is_idle (shared_of s) ≡ true → allotment_of s a ≡ 0
+idle-allotted s a idle =
+    let none : effective_limit_of s ≡ 0 = grind (arith, nat_tests) in
+    omega (arith, none, few-allotted s a (idle-limit s idle))
 
 -- ---- a number at the next moment
 
@@ -387,14 +423,30 @@ module _ (most : ℕ) (before : List State) (s t : State) (some : 0 < most) (on 
   -- a column has all that a living arena may be allotted, of which this is known
   cover-lines : (whole : Whole) (a : ℕ) (y : Arena) (k : Known) → Fine t → arena_at a t.arenas ≡ Some y → request_of y.claim ≡ k.request → active t y.number ≡ k.active
       → k ≡ known_in place k.request k.active (row a) → is_covered (shared_of t) k y.level ≡ true → SameLines a
-  cover-lines whole a y k fine found asks has known h =
-      let given : ℕ = slice_index (shared_of t).given (y.level - 1) in
-      let asked : ℕ = slice_index (shared_of t).asked (y.level - 1) in
-      let g = both (is_divided (shared_of t) y.level) (covers k.covered k.request given asked) h in
-      let divided = share whole a y fine found (divides t y.level g.0) in
-      let within = covered-share k.covered k.request given asked (allotment_of t y.number) (subst (λ r. IsShare r given asked (allotment_of t y.number)) asks divided) g.1 in
-      let is = ap (λ (l : Known). l.covered) known ∙ ap (covered (at (row a).allot place) (at (row a).recall place) (at (row a).hire place)) (sym has) in
-      covered-lines a y k.covered found is within.0 within.1
+  cover-lines whole a y k fine found asks has known h = go (is_divided (shared_of t) y.level) refl h
+    where
+      given : ℕ
+      given = slice_index (shared_of t).given (y.level - 1)
+
+      asked : ℕ
+      asked = slice_index (shared_of t).asked (y.level - 1)
+
+      is : k.covered ≡ covered (at (row a).allot place) (at (row a).recall place) (at (row a).hire place) (active t y.number)
+      is = ap (λ (l : Known). l.covered) known ∙ ap (covered (at (row a).allot place) (at (row a).recall place) (at (row a).hire place)) (sym has)
+
+      go : (b : Bool) → is_divided (shared_of t) y.level ≡ b → cond b (covers k.covered k.request given asked) (has_few (shared_of t) k.covered) ≡ true → SameLines a
+      go true some h =
+          let divided = share whole a y fine found (divides t y.level some) in
+          let within = covered-share k.covered k.request given asked (allotment_of t y.number) (subst (λ r. IsShare r given asked (allotment_of t y.number)) asks divided) h in
+          covered-lines a y k.covered found is within.0 within.1
+      go false off h =
+          let g = both (eqb (limit_of t) 0) ((eqb k.covered.from 0) && ltb (effective_limit_of t) k.covered.below) h in
+          let c = both (eqb k.covered.from 0) (ltb (effective_limit_of t) k.covered.below) g.1 in
+          let none : limit_of t ≡ 0 = let e = g.0 in grind (arith, nat_tests) in
+          let first : k.covered.from ≡ 0 = let e = c.0 in grind (arith, nat_tests) in
+          let last : effective_limit_of t < k.covered.below = let e = c.1 in grind (arith, nat_tests) in
+          let few = few-allotted t y.number none in
+          covered-lines a y k.covered found is (omega (arith, first)) (omega (arith, last, few))
 
   -- a level is given what it was of what it asked for
   share-same : (whole : Whole) (a : ℕ) (x : Arena) → Fine s → Fine t → Stands s t a → Steady a s.arenas t.arenas → arena_at a s.arenas ≡ Some x
@@ -447,13 +499,19 @@ module _ (most : ℕ) (before : List State) (s t : State) (some : 0 < most) (on 
         let eq : x ≡ y = cc in
         subst (λ (z : Arena). allotment_of t z.number ≡ allotment_of s z.number) eq (share-same whole a x fine fine' stands steady is g.1))
 
-    kept-lines : Stands s t a → is_just a (subject cmd reply) ≡ false → stands_kept (kept_levels cmd (shared_of s) (shared_of t)) (level_at a s) ≡ true → SameLines a
+    kept-lines : Stands s t a → is_just a (subject cmd reply) ≡ false → stands_kept (kept_levels cmd (shared_of s) (shared_of t) t.levels) (level_at a s) ≡ true → SameLines a
     kept-lines stands apart h = go (arena_at a s.arenas) refl h
       where
         go : (o : Option Arena) → arena_at a s.arenas ≡ o
-            → stands_kept (kept_levels cmd (shared_of s) (shared_of t)) (option_map (λ (b : Arena). b.level) o) ≡ true → SameLines a
+            → stands_kept (kept_levels cmd (shared_of s) (shared_of t) t.levels) (option_map (λ (b : Arena). b.level) o) ≡ true → SameLines a
         go None is h = absent-lines a stands is
-        go (Some x) is h = kept-share x stands apart is (kept-level cmd (shared_of s) (shared_of t) x.level h)
+        go (Some x) is h =
+            elim (kept-level cmd (shared_of s) (shared_of t) t.levels x.level h) [
+              | inl idle ↦
+                  let g = both (is_idle (shared_of s)) (is_idle (shared_of t)) idle in
+                  even-lines a stands (λ y found. idle-allotted t y.number g.1 ∙ sym (idle-allotted s y.number g.0))
+              | inr kept ↦ kept-share x stands apart is kept
+            ]
 
     -- a row of an arena all of whose allotments are covered
     spanned-lines : Stands s t a → is_covered_at (shared_of t) was (level_at a s) ≡ true → SameLines a
@@ -503,18 +561,22 @@ module _ (most : ℕ) (before : List State) (s t : State) (some : 0 < most) (on 
         asked : ℕ → ℕ
         asked level = slice_index (shared_of t).asked (level - 1)
 
-        divided : (b : Bool) (o : Option ℕ) (v : ℕ) → cond b o None ≡ Some v → (b ≡ true) × (o ≡ Some v)
-        divided true o v is = (refl, is)
-        divided false o v is = absurd (cc)
+        divided : (b idle : Bool) (o : Option ℕ) (v : ℕ) → cond b o (cond idle (Some 0) None) ≡ Some v → ((b ≡ true) × (o ≡ Some v)) ⊎ ((idle ≡ true) × (v ≡ 0))
+        divided true idle o v is = inl (refl, is)
+        divided false true o v is = let none : 0 ≡ v = cc in inr (refl, sym none)
+        divided false false o v is = absurd (cc)
 
         at_level_of : (o : Option Arena) (v : ℕ) → arena_at a t.arenas ≡ o → share_told (shared_of t) k (option_map (λ (b : Arena). b.level) o) ≡ Some v
             → told_row place t cmd reply k (row a) (Some v) ≡ due a
         at_level_of None v found is = absurd (cc)
         at_level_of (Some y) v found is =
-            let g = divided (is_divided (shared_of t) y.level) (exactly k.request (given y.level) (asked y.level)) v is in
-            let own = share whole a y fine' found (divides t y.level g.0) in
-            let own' = subst (λ r. IsShare r (given y.level) (asked y.level) (allotment_of t y.number)) (h.tells y found).0 own in
-            told-row k y v h found (exact-share k.request (given y.level) (asked y.level) (allotment_of t y.number) v own' g.1)
+            elim (divided (is_divided (shared_of t) y.level) (is_idle (shared_of t)) (exactly k.request (given y.level) (asked y.level)) v is) [
+              | inl g ↦
+                  let own = share whole a y fine' found (divides t y.level g.0) in
+                  let own' = subst (λ r. IsShare r (given y.level) (asked y.level) (allotment_of t y.number)) (h.tells y found).0 own in
+                  told-row k y v h found (exact-share k.request (given y.level) (asked y.level) (allotment_of t y.number) v own' g.1)
+              | inr g ↦ told-row k y v h found (idle-allotted t y.number g.0 ∙ sym g.1)
+            ]
 
         told : (o : Option ℕ) → share_told (shared_of t) k (level_at a s) ≡ o → told_row place t cmd reply k (row a) o ≡ due a
         told None is = seen
@@ -609,7 +671,7 @@ module _ (most : ℕ) (before : List State) (s t : State) (some : 0 < most) (on 
     -- ---- any row
 
     abbrev kept : List Bool
-    kept = kept_levels cmd (shared_of s) (shared_of t)
+    kept = kept_levels cmd (shared_of s) (shared_of t) t.levels
 
     other : is_just a (subject cmd reply) ≡ false
         → cond (stands_kept kept (level_at a s)) (row a, was)

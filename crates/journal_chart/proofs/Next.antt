@@ -106,7 +106,7 @@ module _ (whole : Whole) (most : ℕ) (before : List State) (s t : State) (seat 
       go false moves = refl
 
   rows-near : (arenas : List ℕ)
-      → pairwise (near_row place t cmd reply (shared_of t) (kept_levels cmd (shared_of s) (shared_of t))) (map (row_of most moments s) arenas) (map (λ a. known_of place (view_at a s) (row_of most moments s a)) arenas)
+      → pairwise (near_row place t cmd reply (shared_of t) (kept_levels cmd (shared_of s) (shared_of t) t.levels)) (map (row_of most moments s) arenas) (map (λ a. known_of place (view_at a s) (row_of most moments s a)) arenas)
       ≡ (map (row_of most (moments ++ t ∷ []) t) arenas, map (λ a. known_of place (view_at a t) (row_of most (moments ++ t ∷ []) t a)) arenas)
   rows-near [] = refl
   rows-near (a ∷ arenas) =
@@ -140,7 +140,7 @@ module _ (whole : Whole) (most : ℕ) (before : List State) (s t : State) (seat 
           ∙ rows-seat moves arenas
       go false other =
           (λ i.
-          pairwise (near_row place t cmd reply (shared_of t) (kept_levels cmd (shared_of s) (shared_of t))) (map (row_of most moments s) arenas)
+          pairwise (near_row place t cmd reply (shared_of t) (kept_levels cmd (shared_of s) (shared_of t) t.levels)) (map (row_of most moments s) arenas)
           (map (λ a. known_of (sym same-place i) (view_at a s) (row_of most moments s a)) arenas))
           ∙ rows-near arenas
 
@@ -244,7 +244,7 @@ near-length place s cmd reply was rows ks = go (moves_seat cmd)
   where
     go : (b : Bool) → length (cond b (seat_rows place s cmd reply was rows ks) (each_row place s cmd reply was rows ks)).0 ≡ length rows
     go true = pair-rows (seat_row place s cmd reply (is_joined was (after_seat s was)) (after_seat s was)) rows ks
-    go false = pair-rows (near_row place s cmd reply (shared_of s) (kept_levels cmd was (shared_of s))) rows ks
+    go false = pair-rows (near_row place s cmd reply (shared_of s) (kept_levels cmd was (shared_of s) s.levels)) rows ks
 
 -- a chart that takes a moment has as many rows as before, and a moment more
 pub record IsMore (s : State) (cmd : Cmd) (reply : Reply) (f : Followed) : Type 0 where

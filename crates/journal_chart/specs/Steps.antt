@@ -1,5 +1,5 @@
 -- What the code does to the lines of a chart, moment by moment. What it comes to is in Numbers.
-use Rattle.std.specs.Prelude.{ℕ, ◌+◌, ◌*◌, ◌/◌, ◌%◌, ◌==◌, ◌&&◌, ◌-◌, Bool, true, false, nat_le, nat_lt, if◌then◌else◌, List, [], ◌∷◌, get_or, map, replicate, slice_index, Option, Some, None}
+use Rattle.std.specs.Prelude.{ℕ, ◌+◌, ◌*◌, ◌/◌, ◌%◌, ◌==◌, ◌&&◌, ◌||◌, ◌-◌, Bool, true, false, nat_le, nat_lt, if◌then◌else◌, List, [], ◌∷◌, get_or, map, replicate, slice_index, Option, Some, None}
 use Rattle.std.specs.Option.{option_map}
 use Rattle.market_types.specs.declared.command.Cmd.{Cmd}
 use Rattle.market_types.specs.declared.command.Cmd.TheVariants.{Open, Close, Priority, Resize, Request, Join, Stay, Leave}
@@ -11,6 +11,7 @@ use Rattle.market_types.specs.Allotment.{effective_limit_of, is_just, limit_of}
 use Rattle.journal_chart.specs.declared.span.Span.{Span}
 use Rattle.journal_chart.specs.declared.row.Row.{Row}
 use Rattle.journal_chart.specs.declared.row.Known.{Known}
+use Rattle.journal_chart.specs.declared.covered.Covered.{Covered}
 use Rattle.journal_chart.specs.Lines.{added, at, halved}
 use Rattle.journal_chart.specs.Covering.{covered, covers, exactly, none_covered}
 use Rattle.journal_chart.specs.Shares.{Shared, placed_of, shared_of}
@@ -172,28 +173,42 @@ is_same_share was now level =
     (is_divided was level && is_divided now level)
     && ((slice_index was.given (level - 1) == slice_index now.given (level - 1)) && (slice_index was.asked (level - 1) == slice_index now.asked (level - 1)))
 
-abbrev pub is_kept : Cmd → Shared → Shared → ℕ → Bool
-is_kept cmd was now level = keeps_order cmd && is_same_share was now level
+-- no worker may be active, not even one for enqueued work
+abbrev pub is_idle : Shared → Bool
+is_idle now = now.effective == 0
+
+-- of a market of so many levels; or no arena was allotted any worker, and none is
+abbrev pub is_kept : Cmd → Shared → Shared → ℕ → ℕ → Bool
+is_kept cmd was now levels level = nat_le level levels && ((is_idle was && is_idle now) || (keeps_order cmd && is_same_share was now level))
 
 -- so for each of eight levels
-abbrev pub kept_levels : Cmd → Shared → Shared → List Bool
-kept_levels cmd was now =
-    is_kept cmd was now 1 ∷ is_kept cmd was now 2 ∷ is_kept cmd was now 3 ∷ is_kept cmd was now 4 ∷ is_kept cmd was now 5 ∷ is_kept cmd was now 6
-    ∷ is_kept cmd was now 7 ∷ is_kept cmd was now 8 ∷ []
+abbrev pub kept_levels : Cmd → Shared → Shared → ℕ → List Bool
+kept_levels cmd was now levels =
+    is_kept cmd was now levels 1 ∷ is_kept cmd was now levels 2 ∷ is_kept cmd was now levels 3 ∷ is_kept cmd was now levels 4
+    ∷ is_kept cmd was now levels 5 ∷ is_kept cmd was now levels 6 ∷ is_kept cmd was now levels 7 ∷ is_kept cmd was now levels 8 ∷ []
 
 -- an arena that stands at such a level, or at none, is allotted what it was
 abbrev pub stands_kept : List Bool → Option ℕ → Bool
 stands_kept kept None = true
 stands_kept kept (Some level) = nat_le 1 level && get_or kept (level - 1) false
 
+-- a column has all that an arena may be allotted of which this is covered, where the limit is 0: one worker for enqueued work at most
+abbrev pub has_few : Shared → Covered → Bool
+has_few now c = (now.limit == 0) && ((c.from == 0) && nat_lt now.effective c.below)
+
 -- a column has all that an arena of a level may be allotted, of which this is known
 abbrev pub is_covered : Shared → Known → ℕ → Bool
-is_covered now k level = is_divided now level && covers k.covered k.request (slice_index now.given (level - 1)) (slice_index now.asked (level - 1))
+is_covered now k level =
+    if is_divided now level then covers k.covered k.request (slice_index now.given (level - 1)) (slice_index now.asked (level - 1))
+    else has_few now k.covered
 
--- what an arena is allotted, where it is told by what its level is given
+-- what an arena is allotted, where it is told by what its level is given, or by that none is given any
 abbrev pub share_told : Shared → Known → Option ℕ → Option ℕ
 share_told now k None = None
-share_told now k (Some level) = if is_divided now level then exactly k.request (slice_index now.given (level - 1)) (slice_index now.asked (level - 1)) else None
+share_told now k (Some level) =
+    if is_divided now level then exactly k.request (slice_index now.given (level - 1)) (slice_index now.asked (level - 1))
+    else if is_idle now then Some 0
+    else None
 
 -- in a column what an arena asks for and has
 abbrev pub needing_row : ℕ → Known → Row → Row
@@ -289,7 +304,7 @@ abbrev pub seat_rows : ℕ → State → Cmd → Reply → Shared → List Row �
 seat_rows place s cmd reply was rows ks = pairwise (seat_row place s cmd reply (is_joined was (after_seat s was)) (after_seat s was)) rows ks
 
 abbrev pub each_row : ℕ → State → Cmd → Reply → Shared → List Row → List Known → List Row × List Known
-each_row place s cmd reply was rows ks = pairwise (near_row place s cmd reply (shared_of s) (kept_levels cmd was (shared_of s))) rows ks
+each_row place s cmd reply was rows ks = pairwise (near_row place s cmd reply (shared_of s) (kept_levels cmd was (shared_of s) s.levels)) rows ks
 
 abbrev pub near_rows : ℕ → State → Cmd → Reply → Shared → List Row → List Known → List Row × List Known
 near_rows place s cmd reply was rows ks = if moves_seat cmd then seat_rows place s cmd reply was rows ks else each_row place s cmd reply was rows ks

@@ -3,9 +3,9 @@ ghost use Rattle.std.specs.Prelude.{◌≡◌, length, map};
 ghost use Rattle.market_types.specs.Allotment.{is_just};
 ghost use Rattle.market_types.specs.Step.{limits_of};
 ghost use Rattle.journal_chart.specs.Shares.{shared_of};
-ghost use Rattle.journal_chart.specs.Steps.{after_seat, each_row, is_covered, is_covered_at, is_divided, is_joined, is_kept, keeps_order, kept_levels, known_rows, moves_seat, near_row, own_row, pairwise, requested, retold, seat_row, seat_rows, seated, settled_row, share_told, stands_kept, subject, taken_row, told};
+ghost use Rattle.journal_chart.specs.Steps.{after_seat, each_row, has_few, is_covered, is_covered_at, is_divided, is_idle, is_kept, keeps_order, kept_levels, known_rows, moves_seat, near_row, own_row, pairwise, requested, retold, seat_row, seat_rows, seated, settled_row, share_told, stands_kept, subject, taken_row, told};
 
-use crate::covered::exactly;
+use crate::covered::{Covered, exactly};
 use crate::row::{Known, Row};
 use crate::shares::Shares;
 use market_core::Market;
@@ -69,12 +69,26 @@ fn is_divided(now: &Shares, level: Level) -> bool
     now.limit() > 0
 }
 
-/// The arenas of a level are allotted what they were, but for the one that the entry is about: the level is given what it was of what it
-/// asked for.
+/// No worker may be active, not even one for enqueued work.
 #[inline]
-fn is_kept(cmd: &Cmd, was: &Shares, now: &Shares, level: Level) -> bool
-    ensures { result ≡ is_kept cmd.now was.now now.now level }
+fn is_idle(now: &Shares) -> bool
+    ensures { result ≡ is_idle now.now }
 {
+    now.effective() == 0
+}
+
+/// The arenas of a level, of so many, are allotted what they were, but for the one that the entry is about: the level is given what it was
+/// of what it asked for, or no arena was allotted any worker, and none is.
+#[inline]
+fn is_kept(cmd: &Cmd, was: &Shares, now: &Shares, levels: u32, level: Level) -> bool
+    ensures { result ≡ is_kept cmd.now was.now now.now levels level }
+{
+    if level.get() > levels {
+        return false;
+    }
+    if is_idle(was) && is_idle(now) {
+        return true;
+    }
     keeps_order(cmd)
         && is_divided(was, level)
         && is_divided(now, level)
@@ -82,20 +96,28 @@ fn is_kept(cmd: &Cmd, was: &Shares, now: &Shares, level: Level) -> bool
         && was.asked(level) == now.asked(level)
 }
 
-/// Which levels' arenas are allotted what they were.
-fn kept_levels(cmd: &Cmd, was: &Shares, now: &Shares) -> [bool; 8]
-    ensures { result ≡ kept_levels cmd.now was.now now.now }
+/// Which levels' arenas are allotted what they were, in a market of so many.
+fn kept_levels(cmd: &Cmd, was: &Shares, now: &Shares, levels: u32) -> [bool; 8]
+    ensures { result ≡ kept_levels cmd.now was.now now.now levels }
 {
     [
-        is_kept(cmd, was, now, Level::from_index(0)),
-        is_kept(cmd, was, now, Level::from_index(1)),
-        is_kept(cmd, was, now, Level::from_index(2)),
-        is_kept(cmd, was, now, Level::from_index(3)),
-        is_kept(cmd, was, now, Level::from_index(4)),
-        is_kept(cmd, was, now, Level::from_index(5)),
-        is_kept(cmd, was, now, Level::from_index(6)),
-        is_kept(cmd, was, now, Level::from_index(7)),
+        is_kept(cmd, was, now, levels, Level::from_index(0)),
+        is_kept(cmd, was, now, levels, Level::from_index(1)),
+        is_kept(cmd, was, now, levels, Level::from_index(2)),
+        is_kept(cmd, was, now, levels, Level::from_index(3)),
+        is_kept(cmd, was, now, levels, Level::from_index(4)),
+        is_kept(cmd, was, now, levels, Level::from_index(5)),
+        is_kept(cmd, was, now, levels, Level::from_index(6)),
+        is_kept(cmd, was, now, levels, Level::from_index(7)),
     ]
+}
+
+/// A column has all that an arena may be allotted of which this is covered, where the limit is 0.
+#[inline]
+fn has_few(now: &Shares, covered: Covered) -> bool
+    ensures { result ≡ has_few now.now covered }
+{
+    now.limit() == 0 && covered.from == 0 && now.effective() < covered.below
 }
 
 /// A column has all that an arena of a level may be allotted, of which this is known.
@@ -103,10 +125,12 @@ fn kept_levels(cmd: &Cmd, was: &Shares, now: &Shares) -> [bool; 8]
 fn is_covered(now: &Shares, known: &Known, level: Level) -> bool
     ensures { result ≡ is_covered now.now known.now level }
 {
-    is_divided(now, level)
-        && known
-            .covered
-            .covers(known.request, now.given(level), now.asked(level))
+    if !is_divided(now, level) {
+        return has_few(now, known.covered);
+    }
+    known
+        .covered
+        .covers(known.request, now.given(level), now.asked(level))
 }
 
 /// The same of the level at which the arena stands, if it lives.
@@ -131,7 +155,7 @@ fn stands_kept(kept: &[bool; 8], stands: Option<Level>) -> bool
     }
 }
 
-/// What an arena is allotted, where that is told by what its level is given.
+/// What an arena is allotted, where that is told by what its level is given, or by that none is given any.
 fn share_told(now: &Shares, known: &Known, stands: Option<Level>) -> Option<u32>
     ensures { result ≡ share_told now.now known.now stands }
 {
@@ -141,6 +165,7 @@ fn share_told(now: &Shares, known: &Known, stands: Option<Level>) -> Option<u32>
             now.given(level),
             now.asked(level),
         ),
+        Some(_) if is_idle(now) => Some(0),
         _ => None,
     }
 }
@@ -320,7 +345,7 @@ pub(crate) fn near_rows(
     ensures shares { shares.new ≡ shared_of market.now }
 {
     let now = Shares::of(market, limits);
-    let kept = kept_levels(cmd, shares, &now);
+    let kept = kept_levels(cmd, shares, &now, market.levels());
     *shares = now;
     each_row(rows, known, place, market, cmd, reply, shares, &kept);
 }
