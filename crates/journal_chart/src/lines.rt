@@ -85,14 +85,14 @@ impl Lines {
     }
 
     /// Puts the limits into the column at a place which has the moment before, where they are not what they were then.
-    fn add_changed(&mut self, place: usize, was: &Shares, limits: &LimitView)
-        ensures { self.new ≡ record self.old { limit = limited place was.now.limit limits.now.limit self.old.limit; effective = limited place was.now.effective limits.now.effective self.old.effective } }
+    fn add_changed(&mut self, place: usize, was: &Shares, now: &LimitView)
+        ensures { self.new ≡ record self.old { limit = limited place was.now.limit now.now.limit self.old.limit; effective = limited place was.now.effective now.now.effective self.old.effective } }
     {
-        if was.limit() != limits.limit {
-            self.limit.add(place, limits.limit);
+        if was.limit() != now.limit {
+            self.limit.add(place, now.limit);
         }
-        if was.effective() != limits.effective {
-            self.effective.add(place, limits.effective);
+        if was.effective() != now.effective {
+            self.effective.add(place, now.effective);
         }
     }
 

@@ -239,6 +239,7 @@ fn seated(place: usize, more: bool, reply: &Reply, known: &Known, row: &Row) -> 
 
 /// Takes the moment after an entry into the column of the row of the arena that it is about, which has the moment before, where this is
 /// told of it, and what is then known of the arena.
+#[inline(always)]
 fn own_row(
     row: &mut Row,
     known: &mut Known,
@@ -362,12 +363,12 @@ fn seat_row(
     reply: &Reply,
     more: bool,
     now: &Shares,
-    about: &Option<ArenaId>,
+    moved: &Option<ArenaId>,
 )
-    requires about { about.now ≡ subject cmd.now reply.now }
+    requires moved { moved.now ≡ subject cmd.now reply.now }
     ensures { (row.new, known.new) ≡ seat_row place market.now cmd.now reply.now more now.now row.old known.old }
 {
-    if is_just(row.arena, about) {
+    if is_just(row.arena, moved) {
         let told = seated(place, more, reply, known, row);
         own_row(row, known, place, market, cmd, reply, now, told);
     }
@@ -389,7 +390,7 @@ fn each_seat_row(
     ensures rows { rows.new ≡ (pairwise (seat_row place market.now cmd.now reply.now more now.now) rows.old known.old).0 }
     ensures known { known.new ≡ (pairwise (seat_row place market.now cmd.now reply.now more now.now) rows.old known.old).1 }
 {
-    let about = subject(cmd, reply);
+    let moved = subject(cmd, reply);
     for index in 0..rows.len() {
         seat_row(
             &mut rows[index],
@@ -400,7 +401,7 @@ fn each_seat_row(
             reply,
             more,
             now,
-            &about,
+            &moved,
         );
     }
 }
