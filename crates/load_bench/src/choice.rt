@@ -31,10 +31,16 @@ pub enum Choice {
     Unknown,
 }
 
+/// The words behind the program's name.
+fn words_of<R: Env + AllocGlobal>(rt: &R) -> Result<Vec<String>> {
+    let words = env::args(rt)?.skip(1).collect(rt.alloc())?;
+    Ok(words)
+}
+
 impl Choice {
     /// Reads the words of the command line.
     pub fn read<R: Env + AllocGlobal>(rt: &R) -> Result<Choice> {
-        let words = env::args(rt)?.skip(1).collect::<Vec<String>>(rt.alloc())?;
+        let words = words_of(rt)?;
         let words: Vec<&str> = words.iter().map(String::as_str).collect(rt.alloc())?;
         Ok(Choice::of_words(&words))
     }
@@ -63,16 +69,14 @@ impl Choice {
 
     /// What the word of a load chooses.
     fn of_load(word: &str, size: Size) -> Choice {
-        match word {
-            "replay" => Choice::One(Load::Replay, size),
-            "foreign" => Choice::One(Load::Foreign, size),
-            "journal" => Choice::One(Load::Journal, size),
-            "run" => Choice::One(Load::Run, size),
-            "embed" => Choice::One(Load::Embed, size),
-            "drive" => Choice::One(Load::Drive, size),
-            "churn" => Choice::One(Load::Churn, size),
-            "all" => Choice::All(size),
-            _ => Choice::Unknown,
+        if word == "all" {
+            return Choice::All(size);
         }
+        for load in Load::ALL {
+            if word == load.name() {
+                return Choice::One(load, size);
+            }
+        }
+        Choice::Unknown
     }
 }

@@ -2,7 +2,7 @@
 ghost use Rattle.std.specs.Prelude.{None, false};
 
 use byte_devices::{DeviceFault, Sink};
-use market_types::{ArenaView, Correction, Fault, Reply};
+use market_types::{ArenaView, Correction, Fault, LimitView, Lists, Reply};
 
 /// How many bytes are mixed in at a time.
 const WORD: usize = 8;
@@ -105,6 +105,43 @@ impl Digest {
         self.mix(u64::from(view.top));
     }
 
+    /// Mixes what is listed of arenas in.
+    #[inline(always)]
+    fn mix_lists(&mut self, lists: &Lists) {
+        self.mix(lists.arenas.len() as u64);
+        for listed in &lists.arenas {
+            self.mix_both(listed.arena.get(), listed.count);
+            self.mix(u64::from(listed.correction == Correction::Hire));
+        }
+    }
+
+    /// Mixes the limits on parallelism in.
+    #[inline(always)]
+    fn mix_limits(&mut self, limits: &LimitView) {
+        self.mix_both(limits.value, limits.limit);
+        self.mix_both(13, limits.effective);
+    }
+
+    /// Mixes in why a call was refused.
+    #[inline(always)]
+    fn mix_fault(&mut self, fault: Fault) {
+        let (code, number) = parts_of(fault);
+        self.mix_both(code, number);
+    }
+
+    /// Mixes in what a reply says of the seat that called, if it is such a one.
+    #[inline(always)]
+    fn mix_of_seat(&mut self, reply: &Reply) {
+        match reply {
+            Reply::Placed(arena) => self.mix_both(8, arena.get()),
+            Reply::Idle => self.mix_both(9, 0),
+            Reply::Stays(arena) => self.mix_both(10, arena.get()),
+            Reply::Recalled(arena) => self.mix_both(11, arena.get()),
+            Reply::Left(arena) => self.mix_both(12, arena.get()),
+            _ => {}
+        }
+    }
+
     /// Mixes what a reply says in.
     pub fn mix_reply(&mut self, reply: &Reply) {
         match reply {
@@ -115,27 +152,11 @@ impl Digest {
             Reply::Requested(request) => self.mix_both(5, *request),
             Reply::Controlled(control) => self.mix_both(6, control.get()),
             Reply::Uncontrolled => self.mix_both(7, 0),
-            Reply::Placed(arena) => self.mix_both(8, arena.get()),
-            Reply::Idle => self.mix_both(9, 0),
-            Reply::Stays(arena) => self.mix_both(10, arena.get()),
-            Reply::Recalled(arena) => self.mix_both(11, arena.get()),
-            Reply::Left(arena) => self.mix_both(12, arena.get()),
             Reply::Shown(view) => self.mix_view(view),
-            Reply::Listed(lists) => {
-                self.mix(lists.arenas.len() as u64);
-                for listed in &lists.arenas {
-                    self.mix_both(listed.arena.get(), listed.count);
-                    self.mix(u64::from(listed.correction == Correction::Hire));
-                }
-            }
-            Reply::Limits(limits) => {
-                self.mix_both(limits.value, limits.limit);
-                self.mix_both(13, limits.effective);
-            }
-            Reply::Refused(fault) => {
-                let (code, number) = parts_of(*fault);
-                self.mix_both(code, number);
-            }
+            Reply::Listed(lists) => self.mix_lists(lists),
+            Reply::Limits(limits) => self.mix_limits(limits),
+            Reply::Refused(fault) => self.mix_fault(*fault),
+            of_seat => self.mix_of_seat(of_seat),
         }
     }
 

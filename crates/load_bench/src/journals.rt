@@ -6,7 +6,7 @@ use anyhow::Result;
 use byte_devices::TestSink;
 use journal_replay::{Extent, Header, write_header};
 use market_core::Market;
-use market_types::{Call, push_cmd, push_reply};
+use market_types::{Call, Cmd, Reply, push_cmd, push_reply};
 use std::alloc::{AllocError, Global};
 
 /// Room for a header's line.
@@ -14,6 +14,12 @@ const LONGEST_HEADER: usize = 256;
 
 /// About as many bytes as an entry's line has.
 const USUAL_LINE: usize = 80;
+
+/// What stands before the command, the reply and the seat of an entry.
+const PLAIN: [&[u8]; 3] = [b"{\"cmd\":\"", b"\",\"reply\":\"", b"\",\"seat\":"];
+
+/// The same with a space behind each colon and comma.
+const WITH_SPACES: [&[u8]; 3] = [b"{\"cmd\": \"", b"\", \"reply\": \"", b"\", \"seat\": "];
 
 /// How the lines of a journal are spelled.
 #[derive(Clone, Copy)]
@@ -40,6 +46,17 @@ struct Texts {
     reply: Vec<u8>,
 }
 
+impl Texts {
+    /// Makes them those of this entry, in a market of so many levels.
+    #[inline(always)]
+    fn tell(&mut self, cmd: &Cmd, reply: &Reply, levels: u32) -> Result<(), AllocError> {
+        self.cmd.clear();
+        push_cmd(&mut self.cmd, cmd, levels)?;
+        self.reply.clear();
+        push_reply(&mut self.reply, reply)
+    }
+}
+
 /// Puts a text behind the journal in which each space is an escape.
 fn push_escaped(journal: &mut Vec<u8>, text: &[u8]) -> Result<(), AllocError> {
     for byte in text {
@@ -59,6 +76,46 @@ fn push_parts(journal: &mut Vec<u8>, parts: &[&[u8]]) -> Result<(), AllocError> 
     Ok(())
 }
 
+/// Puts an entry behind the journal up to its end: the command and the reply, each behind what is given, and then the seat.
+#[inline(always)]
+fn push_seat_last(
+    journal: &mut Vec<u8>,
+    [first, second, third]: [&[u8]; 3],
+    call: &Call,
+    texts: &Texts,
+) -> Result<(), AllocError> {
+    push_parts(journal, &[first, &texts.cmd, second, &texts.reply, third])?;
+    push_seat(journal, call)
+}
+
+/// Puts an entry behind the journal up to its end, the seat first.
+#[inline(always)]
+fn push_seat_first(journal: &mut Vec<u8>, call: &Call, texts: &Texts) -> Result<(), AllocError> {
+    journal.extend_from_slice(b"{\"seat\":")?;
+    push_seat(journal, call)?;
+    push_parts(
+        journal,
+        &[
+            b",\"cmd\":\"",
+            &texts.cmd,
+            b"\",\"reply\":\"",
+            &texts.reply,
+            b"\"",
+        ],
+    )
+}
+
+/// Puts an entry behind the journal up to its end, with each space of its texts as an escape.
+#[inline(always)]
+fn push_with_escapes(journal: &mut Vec<u8>, call: &Call, texts: &Texts) -> Result<(), AllocError> {
+    journal.extend_from_slice(b"{\"cmd\":\"")?;
+    push_escaped(journal, &texts.cmd)?;
+    journal.extend_from_slice(b"\",\"reply\":\"")?;
+    push_escaped(journal, &texts.reply)?;
+    journal.extend_from_slice(b"\",\"seat\":")?;
+    push_seat(journal, call)
+}
+
 /// Puts the line of an entry behind the journal.
 fn push_entry(
     journal: &mut Vec<u8>,
@@ -66,37 +123,11 @@ fn push_entry(
     call: &Call,
     texts: &Texts,
 ) -> Result<(), AllocError> {
-    let (cmd, reply) = (texts.cmd.as_slice(), texts.reply.as_slice());
     match style {
-        Style::Ours => {
-            push_parts(journal, &[b"{\"cmd\":\"", cmd, b"\",\"reply\":\"", reply])?;
-            journal.extend_from_slice(b"\",\"seat\":")?;
-            push_seat(journal, call)?;
-        }
-        Style::Spaced => {
-            push_parts(
-                journal,
-                &[b"{\"cmd\": \"", cmd, b"\", \"reply\": \"", reply],
-            )?;
-            journal.extend_from_slice(b"\", \"seat\": ")?;
-            push_seat(journal, call)?;
-        }
-        Style::SeatFirst => {
-            journal.extend_from_slice(b"{\"seat\":")?;
-            push_seat(journal, call)?;
-            push_parts(
-                journal,
-                &[b",\"cmd\":\"", cmd, b"\",\"reply\":\"", reply, b"\""],
-            )?;
-        }
-        Style::Escaped => {
-            journal.extend_from_slice(b"{\"cmd\":\"")?;
-            push_escaped(journal, cmd)?;
-            journal.extend_from_slice(b"\",\"reply\":\"")?;
-            push_escaped(journal, reply)?;
-            journal.extend_from_slice(b"\",\"seat\":")?;
-            push_seat(journal, call)?;
-        }
+        Style::Ours => push_seat_last(journal, PLAIN, call, texts)?,
+        Style::Spaced => push_seat_last(journal, WITH_SPACES, call, texts)?,
+        Style::SeatFirst => push_seat_first(journal, call, texts)?,
+        Style::Escaped => push_with_escapes(journal, call, texts)?,
     }
     journal.extend_from_slice(b"}\n")
 }
@@ -114,10 +145,7 @@ fn record(
         return Ok(());
     }
     let reply = market.apply(alloc, call.seat, call.cmd)?;
-    texts.cmd.clear();
-    push_cmd(&mut texts.cmd, &call.cmd, market.levels())?;
-    texts.reply.clear();
-    push_reply(&mut texts.reply, &reply)?;
+    texts.tell(&call.cmd, &reply, market.levels())?;
     push_entry(journal, style, call, texts)
 }
 
@@ -130,7 +158,46 @@ fn push_header(alloc: Global, journal: &mut Vec<u8>, market: &Market) -> Result<
     Ok(())
 }
 
-/// A journal of so many entries, of a market of this shape. One that is forged has one entry more, with a reply that is not due.
+/// Gives so many calls to the market, and puts their entries behind the journal.
+#[inline(always)]
+fn push_entries(
+    alloc: Global,
+    journal: &mut Vec<u8>,
+    style: Style,
+    market: &mut Market,
+    author: &mut Author,
+    entries: u32,
+) -> Result<(), AllocError> {
+    let mut texts = Texts {
+        cmd: Vec::new(alloc),
+        reply: Vec::new(alloc),
+    };
+    for _ in 0..entries {
+        let call = author.next_call();
+        record(alloc, journal, style, market, &mut texts, &call)?;
+    }
+    Ok(())
+}
+
+/// A journal of so many entries of this market. One that is forged has one entry more, with a reply that is not due.
+fn journal_of(
+    alloc: Global,
+    market: &mut Market,
+    author: &mut Author,
+    style: Style,
+    entries: u32,
+    forged: bool,
+) -> Result<Vec<u8>> {
+    let mut journal = Vec::with_capacity(alloc, (entries as usize).saturating_mul(USUAL_LINE))?;
+    push_header(alloc, &mut journal, market)?;
+    push_entries(alloc, &mut journal, style, market, author, entries)?;
+    if forged {
+        journal.extend_from_slice(b"{\"cmd\":\"limit\",\"reply\":\"ok\",\"seat\":0}\n")?;
+    }
+    Ok(journal)
+}
+
+/// The same of a new market of this shape.
 pub fn journal(
     alloc: Global,
     author: &mut Author,
@@ -140,18 +207,5 @@ pub fn journal(
     forged: bool,
 ) -> Result<Vec<u8>> {
     let mut market = Market::with_opening(alloc, shape.opening())?;
-    let mut journal = Vec::with_capacity(alloc, (entries as usize).saturating_mul(USUAL_LINE))?;
-    push_header(alloc, &mut journal, &market)?;
-    let mut texts = Texts {
-        cmd: Vec::new(alloc),
-        reply: Vec::new(alloc),
-    };
-    for _ in 0..entries {
-        let call = author.next_call();
-        record(alloc, &mut journal, style, &mut market, &mut texts, &call)?;
-    }
-    if forged {
-        journal.extend_from_slice(b"{\"cmd\":\"limit\",\"reply\":\"ok\",\"seat\":0}\n")?;
-    }
-    Ok(journal)
+    journal_of(alloc, &mut market, author, style, entries, forged)
 }

@@ -78,6 +78,21 @@ fn author(size: Size, round: u32, index: u64, shape: Shape) -> Author {
     Author::new(Dice::new(size.seed, index), shape)
 }
 
+/// Makes a journal, forged at its end or not, and replays it.
+fn replay_one(
+    alloc: Global,
+    author: &mut Author,
+    shape: Shape,
+    style: Style,
+    entries: u32,
+    forged: bool,
+    digest: &mut Digest,
+) -> Result<()> {
+    let journal = journal(alloc, author, shape, style, entries, forged)?;
+    run_replay(alloc, &mut TestSource::new(&journal), digest)?;
+    Ok(())
+}
+
 /// Makes journals that are spelled so, and replays them. Every second one is forged at its end.
 fn replay(
     alloc: Global,
@@ -91,11 +106,36 @@ fn replay(
         for style in styles {
             let mut author = author(size, round, index, shape);
             let forged = index % 2 == 1;
-            let journal = journal(alloc, &mut author, shape, *style, size.count, forged)?;
-            run_replay(alloc, &mut TestSource::new(&journal), digest)?;
+            replay_one(
+                alloc,
+                &mut author,
+                shape,
+                *style,
+                size.count,
+                forged,
+                digest,
+            )?;
             index = index.wrapping_add(1);
         }
     }
+    Ok(())
+}
+
+/// Answers a script, or writes its journal.
+fn work_script(
+    alloc: Global,
+    script: &[u8],
+    shape: Shape,
+    journals: bool,
+    digest: &mut Digest,
+) -> Result<()> {
+    let source = &mut TestSource::new(script);
+    let unread = if journals {
+        run_journal(alloc, shape.opening(), source, digest)?
+    } else {
+        run_script(alloc, shape.opening(), source, digest)?
+    };
+    digest.mix(unread);
     Ok(())
 }
 
@@ -111,14 +151,26 @@ fn work_scripts(
     for shape in SHAPES {
         let mut author = author(size, round, index, shape);
         let script = script(alloc, &mut author, shape.levels, size.count)?;
-        let source = &mut TestSource::new(&script);
-        let unread = if journals {
-            run_journal(alloc, shape.opening(), source, digest)?
-        } else {
-            run_script(alloc, shape.opening(), source, digest)?
-        };
-        digest.mix(unread);
+        work_script(alloc, &script, shape, journals, digest)?;
         index = index.wrapping_add(1);
+    }
+    Ok(())
+}
+
+/// Gives commands to the market.
+#[inline(always)]
+fn embed_calls(
+    alloc: Global,
+    author: &mut Author,
+    market: &mut Market,
+    calls: u32,
+    digest: &mut Digest,
+) -> Result<()> {
+    for _ in 0..calls {
+        let call = author.next_call();
+        if call.seat.get() < market.seats() {
+            digest.mix_reply(&market.apply(alloc, call.seat, call.cmd)?);
+        }
     }
     Ok(())
 }
@@ -132,13 +184,7 @@ fn embed_one(
     digest: &mut Digest,
 ) -> Result<()> {
     let mut market = Market::with_opening(alloc, shape.opening())?;
-    for _ in 0..calls {
-        let call = author.next_call();
-        if call.seat.get() < market.seats() {
-            digest.mix_reply(&market.apply(alloc, call.seat, call.cmd)?);
-        }
-    }
-    Ok(())
+    embed_calls(alloc, author, &mut market, calls, digest)
 }
 
 /// Gives commands to markets of all shapes.
@@ -148,6 +194,26 @@ fn embed(alloc: Global, size: Size, round: u32, digest: &mut Digest) -> Result<(
         let mut author = author(size, round, index, shape);
         embed_one(alloc, &mut author, shape, size.count, digest)?;
         index = index.wrapping_add(1);
+    }
+    Ok(())
+}
+
+/// Gives the calls of a market where arenas come and go to this one.
+#[inline(always)]
+fn churn_calls(
+    alloc: Global,
+    churn: &mut Churn,
+    market: &mut Market,
+    calls: u32,
+    digest: &mut Digest,
+) -> Result<()> {
+    for _ in 0..calls {
+        let call = churn.next_call();
+        if call.seat.get() < market.seats() {
+            let reply = market.apply(alloc, call.seat, call.cmd)?;
+            churn.note(call.seat, &reply);
+            digest.mix_reply(&reply);
+        }
     }
     Ok(())
 }
@@ -167,15 +233,7 @@ fn churn_one(
     };
     let mut market = Market::with_opening(alloc, opening)?;
     let mut churn = Churn::new(dice, shape);
-    for _ in 0..calls {
-        let call = churn.next_call();
-        if call.seat.get() < market.seats() {
-            let reply = market.apply(alloc, call.seat, call.cmd)?;
-            churn.note(call.seat, &reply);
-            digest.mix_reply(&reply);
-        }
-    }
-    Ok(())
+    churn_calls(alloc, &mut churn, &mut market, calls, digest)
 }
 
 /// Gives the calls of markets where arenas come and go, at last to one whose numbers run out.
@@ -191,6 +249,20 @@ fn churn(alloc: Global, size: Size, round: u32, digest: &mut Digest) -> Result<(
     churn_one(alloc, dice, WORN, last, size.count / 64, digest)
 }
 
+/// Makes a plan for a crew, and drives it.
+fn drive_one<T: Threads + Wait + Sync>(
+    rt: &T,
+    alloc: Global,
+    mut dice: Dice,
+    crew: Crew,
+    jobs: u32,
+    digest: &mut Digest,
+) -> Result<()> {
+    let plan = plan(alloc, &mut dice, crew, jobs)?;
+    run_drive(rt, alloc, crew.workers, &mut TestSource::new(&plan), digest)?;
+    Ok(())
+}
+
 /// Makes plans, and drives them.
 fn drive<T: Threads + Wait + Sync>(
     rt: &T,
@@ -201,9 +273,8 @@ fn drive<T: Threads + Wait + Sync>(
 ) -> Result<()> {
     let mut index = u64::from(round).wrapping_mul(1_000);
     for crew in CREWS {
-        let mut dice = Dice::new(size.seed, index);
-        let plan = plan(alloc, &mut dice, crew, size.count)?;
-        run_drive(rt, alloc, crew.workers, &mut TestSource::new(&plan), digest)?;
+        let dice = Dice::new(size.seed, index);
+        drive_one(rt, alloc, dice, crew, size.count, digest)?;
         index = index.wrapping_add(1);
     }
     Ok(())

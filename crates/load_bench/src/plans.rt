@@ -71,31 +71,41 @@ fn push_number(plan: &mut Vec<u8>, number: u32) -> Result<(), AllocError> {
 fn push_job(plan: &mut Vec<u8>, dice: &mut Dice, arena: u32) -> Result<(), AllocError> {
     plan.extend_from_slice(b"job ")?;
     push_number(plan, arena)?;
-    if dice.below(JOBS_A_SUM) == 0 {
-        plan.extend_from_slice(b" sum ")?;
-        push_number(plan, dice.below(MOST_ADDED))?;
-    } else {
-        plan.extend_from_slice(b" digits ")?;
-        push_number(plan, dice.below(u32::MAX))?;
+    let (task, bound) = match dice.below(JOBS_A_SUM) {
+        0 => (b" sum ".as_slice(), MOST_ADDED),
+        _ => (b" digits ".as_slice(), u32::MAX),
+    };
+    plan.extend_from_slice(task)?;
+    push_number(plan, dice.below(bound))?;
+    plan.extend_from_slice(b"\n")
+}
+
+/// Puts the market and so many arenas behind the plan.
+fn push_arenas(plan: &mut Vec<u8>, arenas: u32) -> Result<(), AllocError> {
+    plan.extend_from_slice(b"market 65 64\n")?;
+    for _ in 0..arenas {
+        plan.extend_from_slice(b"arena 8 1 normal 4 0\n")?;
     }
-    plan.push(b'\n')?;
     Ok(())
 }
 
-/// The text of a plan of so many jobs.
-pub fn plan(alloc: Global, dice: &mut Dice, crew: Crew, jobs: u32) -> Result<Vec<u8>, AllocError> {
-    let mut plan = Vec::with_capacity(alloc, (jobs as usize).saturating_mul(USUAL_LINE))?;
-    plan.extend_from_slice(b"market 65 64\n")?;
-    for _ in 0..crew.arenas {
-        plan.extend_from_slice(b"arena 8 1 normal 4 0\n")?;
-    }
+/// Puts so many jobs behind the plan.
+fn push_jobs(plan: &mut Vec<u8>, dice: &mut Dice, crew: Crew, jobs: u32) -> Result<(), AllocError> {
     let favourite = dice.below(crew.arenas.max(1));
     for index in 0..jobs {
         let arena = match crew.lopsided {
             true => favourite,
             false => index % crew.arenas.max(1),
         };
-        push_job(&mut plan, dice, arena.wrapping_add(1))?;
+        push_job(plan, dice, arena.wrapping_add(1))?;
     }
+    Ok(())
+}
+
+/// The text of a plan of so many jobs.
+pub fn plan(alloc: Global, dice: &mut Dice, crew: Crew, jobs: u32) -> Result<Vec<u8>, AllocError> {
+    let mut plan = Vec::with_capacity(alloc, (jobs as usize).saturating_mul(USUAL_LINE))?;
+    push_arenas(&mut plan, crew.arenas)?;
+    push_jobs(&mut plan, dice, crew, jobs)?;
     Ok(plan)
 }

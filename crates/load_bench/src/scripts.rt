@@ -25,6 +25,16 @@ fn push_remark(script: &mut Vec<u8>, author: &mut Author) -> Result<(), AllocErr
     }
 }
 
+/// Takes a mandatory part of 0 away again, now and then, with which the command ends.
+#[inline(always)]
+fn cut_zero(script: &mut Vec<u8>, author: &mut Author, cmd: &Cmd) {
+    if let Cmd::Request(_, _, 0) = *cmd
+        && author.choose(2) == 0
+    {
+        script.truncate(script.len().saturating_sub(2));
+    }
+}
+
 /// Puts a call's line behind the script. A mandatory part of 0 is left out now and then.
 fn push_call(
     script: &mut Vec<u8>,
@@ -35,11 +45,7 @@ fn push_call(
     push_seat(script, call)?;
     script.push(b' ')?;
     push_cmd(script, &call.cmd, levels)?;
-    if let Cmd::Request(_, _, 0) = call.cmd
-        && author.choose(2) == 0
-    {
-        script.truncate(script.len().saturating_sub(2));
-    }
+    cut_zero(script, author, &call.cmd);
     script.push(b'\n')?;
     Ok(())
 }
