@@ -295,8 +295,42 @@ fn near_row(
     settle(row, known, place, market, cmd, reply, now);
 }
 
-/// Takes the moment into the columns of all rows, and what is then known of their arenas, where the levels are given this now, and the
-/// arenas of these are allotted what they were.
+/// Takes the moment into the columns of all rows, and what is then known of their arenas, where the entry is about this arena, the levels
+/// are given this now, and the arenas of these are allotted what they were.
+#[inline(always)]
+fn rows_about(
+    rows: &mut [Row],
+    known: &mut [Known],
+    place: usize,
+    market: &Market,
+    cmd: &Cmd,
+    reply: &Reply,
+    now: &Shares,
+    about: &Option<ArenaId>,
+    kept: &[bool; 8],
+)
+    requires each { length known.old ≡ length rows.old }
+    requires about { about.now ≡ subject cmd.now reply.now }
+    ensures rows { rows.new ≡ (pairwise (near_row place market.now cmd.now reply.now now.now kept.now) rows.old known.old).0 }
+    ensures known { known.new ≡ (pairwise (near_row place market.now cmd.now reply.now now.now kept.now) rows.old known.old).1 }
+{
+    for index in 0..rows.len() {
+        near_row(
+            &mut rows[index],
+            &mut known[index],
+            place,
+            market,
+            cmd,
+            reply,
+            now,
+            about,
+            kept,
+        );
+    }
+}
+
+/// The same of whatever the entry is about.
+// By cases, so that no row has to ask whether the entry is about any arena.
 fn each_row(
     rows: &mut [Row],
     known: &mut [Known],
@@ -312,18 +346,19 @@ fn each_row(
     ensures known { known.new ≡ (pairwise (near_row place market.now cmd.now reply.now now.now kept.now) rows.old known.old).1 }
 {
     let about = subject(cmd, reply);
-    for index in 0..rows.len() {
-        near_row(
-            &mut rows[index],
-            &mut known[index],
+    match about {
+        Some(arena) => rows_about(
+            rows,
+            known,
             place,
             market,
             cmd,
             reply,
             now,
-            &about,
+            &Some(arena),
             kept,
-        );
+        ),
+        None => rows_about(rows, known, place, market, cmd, reply, now, &None, kept),
     }
 }
 

@@ -3,7 +3,7 @@ use Rattle.journal_chart.specs.declared.row.Known.{Known}
 use Rattle.journal_chart.specs.declared.row.Row.{Row}
 use Rattle.journal_chart.specs.Steps.{near_row, nothing_known}
 use Rattle.journal_chart.proofs.Pairs.{get-any, paired-more}
-use Rattle.journal_chart.proofs.nearby.each_row.Goals as goal
+use Rattle.journal_chart.proofs.nearby.rows_about.Goals as goal
 
 pub loop-index-preserved : goal.loop-index-preserved
 loop-index-preserved c =

@@ -1,6 +1,6 @@
 use Rattle.journal_chart.specs.Steps.{near_row}
 use Rattle.journal_chart.proofs.Pairs.{Paired}
-use Rattle.journal_chart.proofs.nearby.each_row.Given as goal
+use Rattle.journal_chart.proofs.nearby.rows_about.Given as goal
 
 abbrev pub invariant-loop-index : goal.invariant-loop-index
 invariant-loop-index l = Paired (near_row l.place l.market l.cmd l.reply l.now l.kept) l.initial.rows l.initial.known l.rows l.known l.index
