@@ -15,12 +15,6 @@ const LONGEST_HEADER: usize = 256;
 /// About as many bytes as an entry's line has.
 const USUAL_LINE: usize = 80;
 
-/// What stands before the command, the reply and the seat of an entry.
-const PLAIN: [&[u8]; 3] = [b"{\"cmd\":\"", b"\",\"reply\":\"", b"\",\"seat\":"];
-
-/// The same with a space behind each colon and comma.
-const WITH_SPACES: [&[u8]; 3] = [b"{\"cmd\": \"", b"\", \"reply\": \"", b"\", \"seat\": "];
-
 /// How the lines of a journal are spelled.
 #[derive(Clone, Copy)]
 pub enum Style {
@@ -76,15 +70,30 @@ fn push_parts(journal: &mut Vec<u8>, parts: &[&[u8]]) -> Result<(), AllocError> 
     Ok(())
 }
 
-/// Puts an entry behind the journal up to its end: the command and the reply, each behind what is given, and then the seat.
+/// Puts an entry behind the journal up to its end, as it is written here.
 #[inline(always)]
-fn push_seat_last(
-    journal: &mut Vec<u8>,
-    [first, second, third]: [&[u8]; 3],
-    call: &Call,
-    texts: &Texts,
-) -> Result<(), AllocError> {
-    push_parts(journal, &[first, &texts.cmd, second, &texts.reply, third])?;
+fn push_plain(journal: &mut Vec<u8>, call: &Call, texts: &Texts) -> Result<(), AllocError> {
+    push_parts(
+        journal,
+        &[b"{\"cmd\":\"", &texts.cmd, b"\",\"reply\":\"", &texts.reply],
+    )?;
+    journal.extend_from_slice(b"\",\"seat\":")?;
+    push_seat(journal, call)
+}
+
+/// Puts an entry behind the journal up to its end, with a space behind each colon and comma.
+#[inline(always)]
+fn push_spaced(journal: &mut Vec<u8>, call: &Call, texts: &Texts) -> Result<(), AllocError> {
+    push_parts(
+        journal,
+        &[
+            b"{\"cmd\": \"",
+            &texts.cmd,
+            b"\", \"reply\": \"",
+            &texts.reply,
+        ],
+    )?;
+    journal.extend_from_slice(b"\", \"seat\": ")?;
     push_seat(journal, call)
 }
 
@@ -124,8 +133,8 @@ fn push_entry(
     texts: &Texts,
 ) -> Result<(), AllocError> {
     match style {
-        Style::Ours => push_seat_last(journal, PLAIN, call, texts)?,
-        Style::Spaced => push_seat_last(journal, WITH_SPACES, call, texts)?,
+        Style::Ours => push_plain(journal, call, texts)?,
+        Style::Spaced => push_spaced(journal, call, texts)?,
         Style::SeatFirst => push_seat_first(journal, call, texts)?,
         Style::Escaped => push_with_escapes(journal, call, texts)?,
     }

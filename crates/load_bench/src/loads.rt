@@ -249,20 +249,6 @@ fn churn(alloc: Global, size: Size, round: u32, digest: &mut Digest) -> Result<(
     churn_one(alloc, dice, WORN, last, size.count / 64, digest)
 }
 
-/// Makes a plan for a crew, and drives it.
-fn drive_one<T: Threads + Wait + Sync>(
-    rt: &T,
-    alloc: Global,
-    mut dice: Dice,
-    crew: Crew,
-    jobs: u32,
-    digest: &mut Digest,
-) -> Result<()> {
-    let plan = plan(alloc, &mut dice, crew, jobs)?;
-    run_drive(rt, alloc, crew.workers, &mut TestSource::new(&plan), digest)?;
-    Ok(())
-}
-
 /// Makes plans, and drives them.
 fn drive<T: Threads + Wait + Sync>(
     rt: &T,
@@ -273,8 +259,9 @@ fn drive<T: Threads + Wait + Sync>(
 ) -> Result<()> {
     let mut index = u64::from(round).wrapping_mul(1_000);
     for crew in CREWS {
-        let dice = Dice::new(size.seed, index);
-        drive_one(rt, alloc, dice, crew, size.count, digest)?;
+        let mut dice = Dice::new(size.seed, index);
+        let plan = plan(alloc, &mut dice, crew, size.count)?;
+        run_drive(rt, alloc, crew.workers, &mut TestSource::new(&plan), digest)?;
         index = index.wrapping_add(1);
     }
     Ok(())

@@ -38,19 +38,15 @@ fn tell_load<T: Threads + Wait + Sync>(
     Ok(())
 }
 
-/// Works each load in turn.
-fn tell_all<T: Threads + Wait + Sync>(rt: &HostRuntime, threads: &T, size: Size) -> Result<()> {
-    for load in Load::ALL {
-        tell_load(rt, threads, load, size)?;
-    }
-    Ok(())
-}
-
 /// Does what the words choose: the exit status.
 fn obey<T: Threads + Wait + Sync>(rt: &HostRuntime, threads: &T) -> Result<u8> {
     match Choice::read(rt)? {
         Choice::One(load, size) => tell_load(rt, threads, load, size)?,
-        Choice::All(size) => tell_all(rt, threads, size)?,
+        Choice::All(size) => {
+            for load in Load::ALL {
+                tell_load(rt, threads, load, size)?;
+            }
+        }
         Choice::Unknown => {
             eprintln!(rt; "{USAGE}")?;
             return Ok(BAD_COMMAND_LINE);
