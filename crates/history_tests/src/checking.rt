@@ -133,21 +133,23 @@ fn with_arrays(rt: &impl Abort, alloc: Global, depth: usize) -> Vec<u8> {
     text
 }
 
+/// A text is UTF-8, and an array does not end with its line.
+fn is_no_json(rt: &impl Abort, alloc: Global) {
+    let mut text = text_of(rt, alloc, &[HEADER]);
+    let line = b"{\"cmd\":\"\xff\",\"reply\":\"ok\",\"seat\":0}\n";
+    push(rt, &mut text, line);
+    finds(rt, alloc, &text, "J2 bad json line 2");
+    let mut text = text_of(rt, alloc, &[HEADER, OPEN]);
+    for _ in 0..200 {
+        push(rt, &mut text, b"[");
+    }
+    push(rt, &mut text, b"\n");
+    finds(rt, alloc, &text, "J2 bad json line 3");
+}
+
 #[test]
 fn a_line_is_utf8_and_nests_little(rt: HostRuntime) {
-    let mut text = text_of(&rt, rt.alloc(), &[HEADER]);
-    push(
-        &rt,
-        &mut text,
-        b"{\"cmd\":\"\xff\",\"reply\":\"ok\",\"seat\":0}\n",
-    );
-    finds(&rt, rt.alloc(), &text, "J2 bad json line 2");
-    let mut text = text_of(&rt, rt.alloc(), &[HEADER, OPEN]);
-    for _ in 0..200 {
-        push(&rt, &mut text, b"[");
-    }
-    push(&rt, &mut text, b"\n");
-    finds(&rt, rt.alloc(), &text, "J2 bad json line 3");
+    is_no_json(&rt, rt.alloc());
     let text = with_arrays(&rt, rt.alloc(), 127);
     finds(&rt, rt.alloc(), &text, "J3 bad record line 2");
     let text = with_arrays(&rt, rt.alloc(), 128);

@@ -175,22 +175,32 @@ fn cut(rt: &impl Abort, chronicle: &mut Chronicle, spare: Vec<Entry>, before: u6
     part.entries
 }
 
+/// Of three calls all are cut out, and the seat that they placed can leave.
+fn first_is_cut(rt: &impl Abort, alloc: Global, chronicle: &mut Chronicle) -> Vec<Entry> {
+    // The seat that is placed has to keep its memory for a Leave.
+    holds(rt, chronicle.cut(Vec::new(alloc)).is_none());
+    let first = cut(rt, chronicle, empty(rt, alloc, 1), 0);
+    holds(rt, first.len() == 3 && end_with(&first, &Cmd::Join));
+    same(rt, chronicle.free(), 3);
+    answers(rt, alloc, chronicle, &[(Cmd::Leave, "left 1")]);
+    holds(rt, end_with(chronicle.kept(), &Cmd::Leave));
+    first
+}
+
+/// Then the Leave is cut out, and at last nothing.
+fn rest_is_cut(rt: &impl Abort, alloc: Global, chronicle: &mut Chronicle, spare: Vec<Entry>) {
+    let second = cut(rt, chronicle, spare, 3);
+    holds(rt, second.len() == 1 && end_with(&second, &Cmd::Leave));
+    // Nobody is placed any more, and nothing was kept: the next part is empty.
+    holds(rt, cut(rt, chronicle, Vec::new(alloc), 4).is_empty());
+    same(rt, chronicle.len(), 4);
+}
+
 #[test]
 fn what_is_cut_out_takes_no_place(rt: HostRuntime) {
-    let alloc = rt.alloc();
-    let mut chronicle = joined(&rt, alloc);
-    // The seat that is placed has to keep its memory for a Leave.
-    holds(&rt, chronicle.cut(Vec::new(alloc)).is_none());
-    let first = cut(&rt, &mut chronicle, empty(&rt, alloc, 1), 0);
-    holds(&rt, first.len() == 3 && end_with(&first, &Cmd::Join));
-    same(&rt, chronicle.free(), 3);
-    answers(&rt, alloc, &mut chronicle, &[(Cmd::Leave, "left 1")]);
-    holds(&rt, end_with(chronicle.kept(), &Cmd::Leave));
-    let second = cut(&rt, &mut chronicle, first, 3);
-    holds(&rt, second.len() == 1 && end_with(&second, &Cmd::Leave));
-    // Nobody is placed any more, and nothing was kept: the next part is empty.
-    holds(&rt, cut(&rt, &mut chronicle, Vec::new(alloc), 4).is_empty());
-    same(&rt, chronicle.len(), 4);
+    let mut chronicle = joined(&rt, rt.alloc());
+    let first = first_is_cut(&rt, rt.alloc(), &mut chronicle);
+    rest_is_cut(&rt, rt.alloc(), &mut chronicle, first);
     drop(chronicle);
 }
 
@@ -271,15 +281,16 @@ fn an_answer_that_is_not_kept_takes_no_place(rt: HostRuntime) {
     drop(chronicle);
 }
 
+/// The fault has that text.
+fn is_told(rt: &impl Abort, alloc: Global, fault: CallFault, text: &str) {
+    let Ok(told) = format!(in alloc; "{fault}") else {
+        panic!(rt; "no memory");
+    };
+    same(rt, told.as_str(), text);
+}
+
 #[test]
 fn a_fault_has_its_text(rt: HostRuntime) {
-    for (fault, text) in [
-        (CallFault::Memory, "C1 memory"),
-        (CallFault::HistoryFull, "C2 history full"),
-    ] {
-        let Ok(told) = format!(in rt.alloc(); "{fault}") else {
-            panic!(&rt; "no memory");
-        };
-        same(&rt, told.as_str(), text);
-    }
+    is_told(&rt, rt.alloc(), CallFault::Memory, "C1 memory");
+    is_told(&rt, rt.alloc(), CallFault::HistoryFull, "C2 history full");
 }

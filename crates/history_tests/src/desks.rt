@@ -112,8 +112,8 @@ fn answer_at_last(
     reply
 }
 
-/// An arena and a control are opened, lists are told, and a worker comes and goes. Where every growth is granted, no call is refused.
-fn comes_and_goes(rt: &impl Abort, desk: &mut Desk, alloc: Global, granted: bool) {
+/// An arena and a control are opened.
+fn opens_both(rt: &impl Abort, desk: &mut Desk, alloc: Global, granted: bool) {
     let open = Cmd::Open(8, 1, Level::from_index(1));
     let told = answer_at_last(rt, desk, alloc, &open, granted);
     holds(
@@ -127,6 +127,10 @@ fn comes_and_goes(rt: &impl Abort, desk: &mut Desk, alloc: Global, granted: bool
         matches!(&told, Reply::Controlled(control) if control.get() == 1),
     );
     drop(told);
+}
+
+/// The arena asks for workers, and is listed.
+fn asks_and_is_listed(rt: &impl Abort, desk: &mut Desk, alloc: Global, granted: bool) {
     let request = Cmd::Request(ArenaId::new(1), 3, 0);
     let told = answer_at_last(rt, desk, alloc, &request, granted);
     holds(rt, matches!(&told, Reply::Requested(3)));
@@ -137,6 +141,10 @@ fn comes_and_goes(rt: &impl Abort, desk: &mut Desk, alloc: Global, granted: bool
         matches!(&told, Reply::Listed(lists) if lists.len() == 1),
     );
     drop(told);
+}
+
+/// A worker comes and goes.
+fn joins_and_leaves(rt: &impl Abort, desk: &mut Desk, alloc: Global, granted: bool) {
     let told = answer_at_last(rt, desk, alloc, &Cmd::Join, granted);
     holds(
         rt,
@@ -149,6 +157,13 @@ fn comes_and_goes(rt: &impl Abort, desk: &mut Desk, alloc: Global, granted: bool
         matches!(&told, Ok(Reply::Left(arena)) if arena.get() == 1),
     );
     drop(told);
+}
+
+/// An arena and a control are opened, lists are told, and a worker comes and goes. Where every growth is granted, no call is refused.
+fn comes_and_goes(rt: &impl Abort, desk: &mut Desk, alloc: Global, granted: bool) {
+    opens_both(rt, desk, alloc, granted);
+    asks_and_is_listed(rt, desk, alloc, granted);
+    joins_and_leaves(rt, desk, alloc, granted);
 }
 
 /// What was kept then, unless there was no memory for the desk itself.

@@ -159,21 +159,29 @@ fn count_lines(text: &[u8]) -> usize {
     text.iter().filter(|byte| **byte == b'\n').count()
 }
 
+/// The explanation has a line of the limits, one for each level, and one for each arena.
+fn is_explained(rt: &impl Abort, alloc: Global, chronicle: &Chronicle) {
+    let mut sink = sink_of(rt, alloc, 200_000);
+    same(rt, explain(alloc, chronicle.market(), &mut sink), Ok(()));
+    same(rt, count_lines(sink.taken()), 1 + 3 + 1_024);
+    drop(sink);
+}
+
+/// All entries are cut out, and written.
+fn is_cut_and_written(rt: &impl Abort, alloc: Global, chronicle: &mut Chronicle) {
+    let Some(part) = chronicle.cut(Vec::new(alloc)) else {
+        panic!(rt; "no part");
+    };
+    is_written(rt, alloc, &part);
+    drop(part);
+}
+
 /// It takes 140 MB: half of it is the journal.
 #[test]
 fn the_longest_history_is_cut_out_and_written(rt: HostRuntime) {
-    let alloc = rt.alloc();
-    let mut chronicle = recorded(&rt, alloc);
-    let mut sink = sink_of(&rt, alloc, 200_000);
-    same(&rt, explain(alloc, chronicle.market(), &mut sink), Ok(()));
-    // A line of the limits, one for each level, and one for each arena.
-    same(&rt, count_lines(sink.taken()), 1 + 3 + 1_024);
-    drop(sink);
-    let Some(part) = chronicle.cut(Vec::new(alloc)) else {
-        panic!(&rt; "no part");
-    };
-    is_written(&rt, alloc, &part);
-    drop(part);
+    let mut chronicle = recorded(&rt, rt.alloc());
+    is_explained(&rt, rt.alloc(), &chronicle);
+    is_cut_and_written(&rt, rt.alloc(), &mut chronicle);
     drop(chronicle);
 }
 

@@ -78,28 +78,41 @@ impl LineTaker for Log {
     }
 }
 
+/// An empty log.
+fn new_log(alloc: Global) -> Log {
+    Log {
+        text: Vec::new(alloc),
+    }
+}
+
 /// The input's lines, given in pieces of that size, are logged so; nothing is written.
-fn logs(rt: &impl Abort, alloc: Global, input: &[u8], size: usize, log: &[u8])
+fn logs_pieces(rt: &impl Abort, alloc: Global, input: &[u8], size: usize, log: &[u8])
     requires { 0 < size }
 {
     let mut source = TestSource::new(input).in_pieces_of(size);
     let mut sink = TestSink::new(Vec::new(alloc));
-    let taker = Log {
-        text: Vec::new(alloc),
-    };
-    let Ok(last) = take_lines(alloc, taker, &mut source, &mut sink) else {
+    let Ok(last) = take_lines(alloc, new_log(alloc), &mut source, &mut sink) else {
         panic!(rt; "the lines were not taken");
     };
     same(rt, last.text.as_slice(), log);
     holds(rt, sink.taken().is_empty());
-    let taker = Log {
-        text: Vec::new(alloc),
-    };
-    let Ok(last) = take_text(alloc, taker, input) else {
+    drop(sink);
+}
+
+/// The lines of the whole input are logged so.
+fn logs_text(rt: &impl Abort, alloc: Global, input: &[u8], log: &[u8]) {
+    let Ok(last) = take_text(alloc, new_log(alloc), input) else {
         panic!(rt; "the text was not taken");
     };
     same(rt, last.text.as_slice(), log);
-    drop(sink);
+}
+
+/// The input's lines are logged so, in pieces of that size and at once.
+fn logs(rt: &impl Abort, alloc: Global, input: &[u8], size: usize, log: &[u8])
+    requires { 0 < size }
+{
+    logs_pieces(rt, alloc, input, size, log);
+    logs_text(rt, alloc, input, log);
 }
 
 #[test]
@@ -120,28 +133,32 @@ fn lines_come_in_their_forms(rt: HostRuntime) {
     }
 }
 
+/// The taker stops at a line of the input.
+fn stops_in_lines(rt: &impl Abort, alloc: Global, input: &[u8]) {
+    let mut source = TestSource::new(input);
+    let mut sink = TestSink::new(Vec::new(alloc));
+    let stopped = take_lines(alloc, new_log(alloc), &mut source, &mut sink);
+    holds(
+        rt,
+        matches!(&stopped, Err(InputFault::Taker(LogFault::Asked))),
+    );
+    drop(sink);
+}
+
+/// It stops at a line of the text.
+fn stops_in_text(rt: &impl Abort, alloc: Global, input: &[u8]) {
+    let stopped = take_text(alloc, new_log(alloc), input);
+    holds(
+        rt,
+        matches!(&stopped, Err(InputFault::Taker(LogFault::Asked))),
+    );
+}
+
 #[test]
 fn a_taker_stops(rt: HostRuntime) {
     for input in [b"a\n!\nb\n".as_slice(), b"a\n!".as_slice()] {
-        let mut source = TestSource::new(input);
-        let mut sink = TestSink::new(Vec::new(rt.alloc()));
-        let taker = Log {
-            text: Vec::new(rt.alloc()),
-        };
-        let stopped = take_lines(rt.alloc(), taker, &mut source, &mut sink);
-        holds(
-            &rt,
-            matches!(&stopped, Err(InputFault::Taker(LogFault::Asked))),
-        );
-        let taker = Log {
-            text: Vec::new(rt.alloc()),
-        };
-        let stopped = take_text(rt.alloc(), taker, input);
-        holds(
-            &rt,
-            matches!(&stopped, Err(InputFault::Taker(LogFault::Asked))),
-        );
-        drop(sink);
+        stops_in_lines(&rt, rt.alloc(), input);
+        stops_in_text(&rt, rt.alloc(), input);
     }
 }
 

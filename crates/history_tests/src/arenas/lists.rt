@@ -34,25 +34,35 @@ pub(crate) fn pushed(rt: &impl Abort, alloc: Global, list: &mut LevelList, row: 
     visits
 }
 
+/// Three rows, newest first.
+fn shows_three(rt: &impl Abort, list: &LevelList) {
+    same(rt, list.len(), 3);
+    same(rt, list.demand(), 15);
+    same(rt, list.before(2).0, 5);
+    for (place, arena) in [(0, 3), (1, 2), (2, 1)] {
+        same(rt, list.walk(place).0, Some(row(arena, arena)));
+    }
+    same(rt, list.first_mandated().0, None);
+}
+
+/// The oldest row has become the newest.
+fn shows_moved(rt: &impl Abort, list: &LevelList) {
+    same(rt, list.walk(0).0, Some(row(4, 1)));
+    same(rt, list.walk(3).0, None);
+    same(rt, list.before(2).0, 10);
+}
+
 #[test]
 fn lists_newest_first(rt: HostRuntime) {
     let mut list = LevelList::new();
     same(&rt, pushed(&rt, rt.alloc(), &mut list, row(1, 1)), 1);
     pushed(&rt, rt.alloc(), &mut list, row(2, 2));
     pushed(&rt, rt.alloc(), &mut list, row(3, 3));
-    same(&rt, list.len(), 3);
-    same(&rt, list.demand(), 15);
-    same(&rt, list.before(2).0, 5);
-    for (place, arena) in [(0, 3), (1, 2), (2, 1)] {
-        same(&rt, list.walk(place).0, Some(row(arena, arena)));
-    }
-    same(&rt, list.first_mandated().0, None);
+    shows_three(&rt, &list);
     if let Some(taken) = list.take(1).0 {
         same(&rt, taken.row(), row(1, 1));
         list.put(taken, 4);
     }
-    same(&rt, list.walk(0).0, Some(row(4, 1)));
-    same(&rt, list.walk(3).0, None);
-    same(&rt, list.before(2).0, 10);
+    shows_moved(&rt, &list);
     drop(list);
 }

@@ -101,17 +101,27 @@ fn two_placed(rt: &impl Abort, alloc: Global) -> Roster {
     roster
 }
 
+/// Where nobody is placed, the worker goes to the newest arena.
+fn nobody_is_placed(rt: &impl Abort, alloc: Global, rows: &Levels) {
+    let roster = seats(rt, alloc, 2);
+    same(rt, need(&roster, &Levels::new(alloc), 8), (None, 0));
+    same(rt, need(&roster, rows, 0), (None, 0));
+    same(rt, need(&roster, rows, 8), (Some(ArenaId::new(3)), 1));
+    drop(roster);
+}
+
+/// Where that has too many already, it goes to the next one.
+fn two_are_placed(rt: &impl Abort, alloc: Global, rows: &Levels) {
+    let roster = two_placed(rt, alloc);
+    same(rt, need(&roster, rows, 8), (Some(ArenaId::new(2)), 2));
+    drop(roster);
+}
+
 #[test]
 fn a_worker_goes_to_the_first_arena_in_need(rt: HostRuntime) {
-    let roster = seats(&rt, rt.alloc(), 2);
     let rows = three_arenas(&rt, rt.alloc());
-    same(&rt, need(&roster, &Levels::new(rt.alloc()), 8), (None, 0));
-    same(&rt, need(&roster, &rows, 0), (None, 0));
-    same(&rt, need(&roster, &rows, 8), (Some(ArenaId::new(3)), 1));
-    drop(roster);
-    let roster = two_placed(&rt, rt.alloc());
-    same(&rt, need(&roster, &rows, 8), (Some(ArenaId::new(2)), 2));
-    drop(roster);
+    nobody_is_placed(&rt, rt.alloc(), &rows);
+    two_are_placed(&rt, rt.alloc(), &rows);
     drop(rows);
 }
 
@@ -159,23 +169,33 @@ fn counted(arena: u32, correction: Correction, count: u32) -> Imbalance {
     }
 }
 
-#[test]
-fn counts_are_listed_in_order(rt: HostRuntime) {
-    let rows = three_arenas(&rt, rt.alloc());
-    let roster = two_placed(&rt, rt.alloc());
-    let lists = listed(&rt, rt.alloc(), &rows, &roster, true);
+/// Each arena is allotted all that it asks for.
+fn all_are_listed(rt: &impl Abort, alloc: Global, rows: &Levels, roster: &Roster) {
+    let lists = listed(rt, alloc, rows, roster, true);
     let due = [
         counted(3, Correction::Recall, 1),
         counted(2, Correction::Hire, 5),
         counted(1, Correction::Hire, 2),
     ];
-    same(&rt, lists.arenas.as_slice(), due.as_slice());
-    same(&rt, lists.len(), 3);
+    same(rt, lists.arenas.as_slice(), due.as_slice());
+    same(rt, lists.len(), 3);
     drop(lists);
-    let lists = listed(&rt, rt.alloc(), &rows, &roster, false);
+}
+
+/// One worker goes to arena 3.
+fn one_is_listed(rt: &impl Abort, alloc: Global, rows: &Levels, roster: &Roster) {
+    let lists = listed(rt, alloc, rows, roster, false);
     let due = [counted(3, Correction::Recall, 1)];
-    same(&rt, lists.arenas.as_slice(), due.as_slice());
+    same(rt, lists.arenas.as_slice(), due.as_slice());
     drop(lists);
+}
+
+#[test]
+fn counts_are_listed_in_order(rt: HostRuntime) {
+    let rows = three_arenas(&rt, rt.alloc());
+    let roster = two_placed(&rt, rt.alloc());
+    all_are_listed(&rt, rt.alloc(), &rows, &roster);
+    one_is_listed(&rt, rt.alloc(), &rows, &roster);
     drop(roster);
     drop(rows);
 }

@@ -215,6 +215,34 @@ fn come_to(rt: &impl Abort, tree: &Tree, index: usize, stamp: u32) -> (usize, u6
     (index, asked)
 }
 
+/// A quad comes next, behind rows to none of whom a worker is due: the index behind its rows, and what is due with them.
+fn serve_quad(
+    rt: &impl Abort,
+    tree: &Tree,
+    quad: Quad<'_>,
+    index: usize,
+    workers: u64,
+    before: u64,
+    carry: u64,
+    demand: u64,
+) -> (usize, u64) {
+    let mut quad = quad;
+    let mut visits = 0;
+    let Some(row) = quad.next(&mut visits) else {
+        panic!(rt; "no rows come next");
+    };
+    let (first, passed) = come_to(rt, tree, index, row.stamp);
+    same(rt, carry, before.wrapping_add(workers.wrapping_mul(passed)));
+    holds(rt, passed == 0 || carry < demand);
+    let asks = u64::from(row.request);
+    same(rt, tree.walk(first).0, Some(row));
+    let (next, others) = rows_both(rt, quad, tree, first.wrapping_add(1));
+    (
+        next,
+        carry.wrapping_add(workers.wrapping_mul(asks.wrapping_add(others))),
+    )
+}
+
 /// Serves the rows of a level, which share so many workers, by a walk to those to whom one is due: to all that is passed over less
 /// than a worker is, and with the rows that come next there is one.
 fn serve_both(rt: &impl Abort, wide: &Levels, tree: &Tree, level: usize, workers: u64)
@@ -233,21 +261,12 @@ fn serve_both(rt: &impl Abort, wide: &Levels, tree: &Tree, level: usize, workers
         holds(rt, carry < 1 << 32);
         let before = carry;
         let mut visits = 0;
-        let Some(mut quad) = rest.next_due(workers, demand, &mut carry, &mut visits) else {
+        let Some(quad) = rest.next_due(workers, demand, &mut carry, &mut visits) else {
             break;
         };
         // A run of quads counts at most 2, one of leaves 4, of blocks 4, then again of leaves and of quads.
         holds(rt, visits <= 16);
-        let Some(row) = quad.next(&mut visits) else {
-            panic!(rt; "no rows come next");
-        };
-        let (first, passed) = come_to(rt, tree, index, row.stamp);
-        same(rt, carry, before.wrapping_add(workers.wrapping_mul(passed)));
-        holds(rt, passed == 0 || carry < demand);
-        let asks = u64::from(row.request);
-        same(rt, tree.walk(first).0, Some(row));
-        let (next, others) = rows_both(rt, quad, tree, first.wrapping_add(1));
-        let due = carry.wrapping_add(workers.wrapping_mul(asks.wrapping_add(others)));
+        let (next, due) = serve_quad(rt, tree, quad, index, workers, before, carry, demand);
         holds(rt, due >= demand);
         index = next;
         if demand > 0 {
@@ -267,6 +286,16 @@ fn any_stamp(dice: &mut Dice, newest: u32) -> u32
         1 => u32::MAX,
         _ => dice.below(newest + 2),
     }
+}
+
+/// Takes the row at an index out.
+fn take_at(rt: &impl Abort, wide: &mut Levels, tree: &mut Tree, level: usize, index: usize)
+    requires level { level < 8 }
+{
+    let Some(row) = tree.walk(index).0 else {
+        panic!(rt; "no row there");
+    };
+    take_both(rt, wide, tree, level, row.stamp);
 }
 
 /// Changes a row that a level has: the row goes, moves to a level, or asks for another number.
@@ -289,10 +318,7 @@ fn change_row(
     }
     let index = dice.below(rows) as usize;
     if kind < 4 {
-        let Some(row) = trees[level].walk(index).0 else {
-            panic!(rt; "no row there");
-        };
-        take_both(rt, wide, &mut trees[level], level, row.stamp);
+        take_at(rt, wide, &mut trees[level], level, index);
         return;
     }
     if kind < 6 {
@@ -318,8 +344,58 @@ fn new_row(dice: &mut Dice, stamp: u32) -> Row
     }
 }
 
-/// 40,000 turns at so many levels, of up to six calls each that must be answered alike, while the rows grow to their most and fall
-/// to an eighth of it, again and again. After each 32nd a level is walked through and served.
+/// Asks both about a level, and takes out of it what it does not have. After each 32nd turn the level is walked through and served.
+fn ask_of_level(
+    rt: &impl Abort,
+    dice: &mut Dice,
+    wide: &mut Levels,
+    tree: &mut Tree,
+    level: usize,
+    stamp: u32,
+)
+    requires level { level < 8 }
+    requires stamp { stamp ≤ 40000 }
+{
+    let asked = any_stamp(dice, stamp);
+    let index = dice.below(tree.len() as u32 + 2) as usize;
+    ask_both(rt, wide, tree, level, asked, index);
+    if stamp % 32 == 0 {
+        walk_both(rt, wide, tree, level);
+        serve_both(rt, wide, tree, level, u64::from(dice.below(300)));
+    }
+    // no row has this stamp
+    take_both(rt, wide, tree, level, 0);
+}
+
+/// A turn at so many levels of up to six calls that must be answered alike: so many of eight push a row, unless there are the most.
+fn take_turn(
+    rt: &impl Abort,
+    alloc: Global,
+    dice: &mut Dice,
+    wide: &mut Levels,
+    trees: &mut [Tree; 8],
+    levels: u32,
+    most: usize,
+    pushes: u32,
+    stamp: u32,
+)
+    requires some { 0 < levels }
+    requires levels { levels ≤ 8 }
+    requires stamp { stamp ≤ 40000 }
+{
+    let level = dice.below(levels) as usize;
+    let to = dice.below(levels) as usize;
+    let kind = dice.below(8);
+    if kind >= pushes {
+        change_row(rt, dice, wide, trees, level, kind, to, stamp);
+    } else if wide.len() < most {
+        let row = new_row(dice, stamp);
+        push_both(rt, alloc, wide, &mut trees[level], level, row);
+    }
+    ask_of_level(rt, dice, wide, &mut trees[to], to, stamp);
+}
+
+/// 40,000 turns at so many levels, while the rows grow to their most and fall to an eighth of it, again and again.
 fn compare(rt: &impl Abort, alloc: Global, seed: u64, levels: u32, most: usize)
     requires some { 0 < levels }
     requires levels { levels ≤ 8 }
@@ -347,24 +423,9 @@ fn compare(rt: &impl Abort, alloc: Global, seed: u64, levels: u32, most: usize)
         if wide.len() <= most / 8 {
             pushes = 3;
         }
-        let level = dice.below(levels) as usize;
-        let to = dice.below(levels) as usize;
-        let kind = dice.below(8);
-        if kind >= pushes {
-            change_row(rt, &mut dice, &mut wide, &mut trees, level, kind, to, stamp);
-        } else if wide.len() < most {
-            let row = new_row(&mut dice, stamp);
-            push_both(rt, alloc, &mut wide, &mut trees[level], level, row);
-        }
-        let asked = any_stamp(&mut dice, stamp);
-        let index = dice.below(trees[to].len() as u32 + 2) as usize;
-        ask_both(rt, &wide, &trees[to], to, asked, index);
-        if stamp % 32 == 0 {
-            walk_both(rt, &wide, &trees[to], to);
-            serve_both(rt, &wide, &trees[to], to, u64::from(dice.below(300)));
-        }
-        // no row has this stamp
-        take_both(rt, &mut wide, &mut trees[to], to, 0);
+        take_turn(
+            rt, alloc, &mut dice, &mut wide, &mut trees, levels, most, pushes, stamp,
+        );
     }
     holds(rt, was_full);
     drop(wide);
