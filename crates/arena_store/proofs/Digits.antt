@@ -3,7 +3,7 @@ use Rattle.std.proofs.Common.{◌≡◌, ℕ, zero, suc, ◌+◌, ◌/◌, ◌�
 use Rattle.std.proofs.lemmas.Bool.{cases_lt}
 use Rattle.std.proofs.lemmas.Int.Digits.{length-digits_of_step, length-digits_of-le}
 use Rattle.std.specs.Int.Digits.{digits_of}
-use Rattle.prefix_tree.specs.Bits.{bits}
+use Rattle.market_types.specs.Bits.{bits}
 
 bits-below : (k m n : ℕ) → n ≤ k → m ≤ n → bits m ≤ bits n
 bits-below zero m n few h = let a : m ≡ 0 = omega arith in let b : n ≡ 0 = omega arith in rw (a, b) (omega arith)

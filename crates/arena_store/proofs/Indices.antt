@@ -12,7 +12,7 @@ use Rattle.market_types.specs.State.{Arena}
 use Rattle.market_types.specs.Claims.{request_of}
 use Rattle.market_types.specs.Allotment.{at_level, total_request}
 use Rattle.market_types.specs.Step.{arena_at}
-use Rattle.prefix_tree.specs.Rows.{requests}
+use Rattle.market_types.specs.Rows.{requests}
 use Rattle.arena_store.specs.Arenas.{newer, level_row, level_rows}
 use Rattle.arena_store.specs.Store.{IsApart, IsNewestFirst}
 use Rattle.arena_store.proofs.Found.{All-found, newer-none, AllPairs-head, AllPairs-tail}

@@ -18,8 +18,8 @@ use Rattle.arena_store.specs.Store.{by_stamp, IsByNumber, IsListed, IsStored, ha
 use Rattle.arena_store.proofs.ByStamp.{IsOlder, All-by_stamp, by_stamp-All, sum_by-by_stamp, length-by_stamp, arena_at-by_stamp_none, without-missing}
 use Rattle.arena_store.proofs.LevelRows.{level_rows-with_claim, level_rows-with_claim_other, level_rows-without, level_rows-without_other, level_row-at, level_rows-older, level_rows-mandated, length-level_rows}
 use Rattle.arena_store.proofs.Found.{Found, found-at, found-matches, found-levels}
-use Rattle.prefix_tree.specs.Bits.{bits}
-use Rattle.prefix_tree.specs.Rows.{row_at, set_row, without as without_row}
+use Rattle.market_types.specs.Bits.{bits}
+use Rattle.market_types.specs.Rows.{row_at, set_row, without as without_row}
 use Rattle.wide_rows.specs.Leveled.{rows_at, total_rows, with_first, without_at}
 use Rattle.wide_rows.specs.Ways.{least_way, least_node, least_put}
 use Rattle.arena_store.proofs.Digits.{bits-more, bits-few}

@@ -1,4 +1,4 @@
-pub use Rattle.prefix_tree.specs.Bits
+pub use Rattle.market_types.specs.Bits
 pub use Rattle.wide_rows.specs.Ways
 pub mod Arenas
 pub mod Changed

@@ -7,8 +7,8 @@ ghost use Rattle.market_types.specs.Allotment.{total_request, at_level, has_mand
 ghost use Rattle.market_types.specs.Step.{arena_at, with_claim, without};
 ghost use Rattle.arena_store.specs.Arenas.{StandOnce, newer, level_rows, beside};
 ghost use Rattle.arena_store.specs.Changed.{changed_at};
-ghost use Rattle.prefix_tree.specs.Bits.{bits};
-ghost use Rattle.prefix_tree.specs.Rows.{requests};
+ghost use Rattle.market_types.specs.Bits.{bits};
+ghost use Rattle.market_types.specs.Rows.{requests};
 ghost use Rattle.wide_rows.specs.Ways.{least_way, least_node, least_put};
 
 use crate::change::Change;

@@ -3,7 +3,7 @@ use Rattle.std.specs.Prelude.{◌==◌, if◌then◌else◌, ◌++◌, ℕ, Bool
 use Rattle.market_types.specs.declared.command.Cmd.{Cmd}
 use Rattle.market_types.specs.declared.reply.Entry.{Entry}
 use Rattle.market_types.specs.declared.reply.Reply.{Reply}
-use Rattle.market_types.specs.Texts.{cmd_text, reply_text}
+use Rattle.market_texts.specs.Texts.{cmd_text, reply_text}
 
 -- its lines, and that there was no memory for one of them
 pub record Noted : Type 0 where

@@ -4,7 +4,8 @@ ghost use Rattle.std.specs.Str.{bytes_eq};
 ghost use Rattle.demo_callers.specs.Notes.{line_of, note_of, notes_of};
 
 use edit_history::Chronicle;
-use market_types::{Cmd, Entry, Reply, push_cmd, push_reply};
+use market_texts::{push_cmd, push_reply};
+use market_types::{Cmd, Entry, Reply};
 use std::alloc::{AllocError, Global};
 use std::marker::Model;
 

@@ -1,7 +1,7 @@
 -- Plans worked out by hand, with what is written of them.
 use Rattle.std.proofs.Common.{◌≡◌, ℕ, List, [], ◌∷◌, ◌++◌, Ok, Err, refl, codes}
 use Rattle.std.specs.Fmt.{digits}
-use Rattle.market_types.specs.Reading.{level, number}
+use Rattle.market_texts.specs.Reading.{level, number}
 use Rattle.line_engine.specs.Lines.{ended_lines, unfinished_line}
 use Rattle.drive_plan.specs.declared.task.PlannedJob.{PlannedJob}
 use Rattle.drive_plan.specs.declared.task.Task.TheVariants.{Sum, Digits}

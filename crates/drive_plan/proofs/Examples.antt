@@ -1,7 +1,7 @@
 -- Worked examples of what tasks are worth, what lines say, and which text is which plan.
 use Rattle.std.proofs.Common.{◌≡◌, ℕ, List, [], ◌∷◌, ◌++◌, Some, None, Ok, Err, refl, codes}
 use Rattle.std.specs.Fmt.{digits}
-use Rattle.market_types.specs.Reading.{level, number}
+use Rattle.market_texts.specs.Reading.{level, number}
 use Rattle.line_engine.specs.Lines.{ended_lines, unfinished_line}
 use Rattle.drive_plan.specs.declared.task.Task.TheVariants.{Sum, Digits}
 use Rattle.drive_plan.specs.declared.line.PlanLine.TheVariants.{Market, Arena, Job}

@@ -4,8 +4,8 @@ use Rattle.std.specs.List.{slice_split, join_with_byte}
 use Rattle.std.specs.Str.{all_ascii_digits, bytes_eq}
 use Rattle.std.proofs.lemmas.List.Splits.{slice_split_none, join_with_byte-slice_split}
 use Rattle.std.proofs.lemmas.Slice.Eq.{bytes_eq-Decides}
-use Rattle.market_types.specs.Reading.{is_space, number}
-use Rattle.market_types.proofs.Decimals.{digits_no_space, own}
+use Rattle.market_texts.specs.Reading.{is_space, number}
+use Rattle.market_texts.proofs.Decimals.{digits_no_space, own}
 use Rattle.drive_plan.specs.declared.task.Task.TheVariants.{Sum, Digits}
 use Rattle.drive_plan.specs.Reading.{number_in, long_number, task_of}
 use Rattle.drive_plan.specs.Tasks.{task_left}

@@ -2,7 +2,7 @@
 use Rattle.std.specs.Prelude.{ℕ, ◌^◌, ◌&&◌, List, [], ◌∷◌, nat_le, if◌then◌else◌, Option, Some, None, option_map, option_and_then, codes}
 use Rattle.std.specs.Str.{bytes_eq}
 use Rattle.std.specs.List.{slice_split}
-use Rattle.market_types.specs.Reading.{is_space, level, number, number_below}
+use Rattle.market_texts.specs.Reading.{is_space, level, number, number_below}
 use Rattle.drive_plan.specs.declared.task.Task.{Task}
 use Rattle.drive_plan.specs.declared.task.Task.TheVariants.{Sum, Digits}
 use Rattle.drive_plan.specs.declared.line.PlanLine.{PlanLine}

@@ -1,8 +1,8 @@
 //! The lines of a plan, read.
 ghost use Rattle.std.specs.Prelude.{◌≡◌, ◌≢◌, ◌≤◌, ◌++◌, ℕ, List, Some, false, IfNone, IfSome, codes, option_map};
 ghost use Rattle.std.specs.List.{slice_split};
-ghost use Rattle.market_types.specs.Fields.{fields_left};
-ghost use Rattle.market_types.specs.Reading.{is_space};
+ghost use Rattle.market_texts.specs.Fields.{fields_left};
+ghost use Rattle.market_texts.specs.Reading.{is_space};
 ghost use Rattle.drive_plan.specs.Format.{is_passed_over};
 ghost use Rattle.drive_plan.specs.Plans.{FitsJob, FitsLine};
 ghost use Rattle.drive_plan.specs.Reading.{alone, arena_line, arena_wanted, control_line, job_line, level_in, line_of, market_line, number_in};
@@ -10,7 +10,8 @@ ghost use Rattle.drive_plan.specs.Tasks.{task_left};
 
 use crate::plan::PlannedArena;
 use crate::task::{PlannedJob, Task};
-use market_types::{ArenaId, Level, cut_field, read_level, read_number, read_number_to};
+use market_texts::{cut_field, read_level, read_number, read_number_to};
+use market_types::{ArenaId, Level};
 
 /// The most of a number of workers: a hard limit, slots, and what an arena asks for.
 const MOST_WORKERS: u32 = 65_535;

@@ -9,7 +9,7 @@ use Rattle.market_types.specs.declared.reply.Reply.{Reply}
 use Rattle.market_types.specs.State.{State}
 use Rattle.market_types.specs.Step.{place_of, step}
 use Rattle.market_types.specs.History.{IsLegal, calls_of, state_after}
-use Rattle.market_types.specs.Reading.{Fits}
+use Rattle.market_types.specs.Commands.{Fits}
 use Rattle.edit_history.specs.Chronicled.{IsCallOf, entry}
 use Rattle.edit_history.specs.Kept.{IsKept}
 use Rattle.edit_history.specs.Places.{placed, takes}

@@ -10,7 +10,7 @@ use Rattle.edit_history.specs.declared.terms.Terms.{Terms}
 use Rattle.edit_history.specs.declared.keeping.Keeping.TheVariants.{Everything, InParts, Nothing}
 use Rattle.market_types.specs.State.{State, opening_to, usual_last}
 use Rattle.market_types.specs.Opening.{opening_with}
-use Rattle.market_types.specs.Reading.{Fits}
+use Rattle.market_types.specs.Commands.{Fits}
 use Rattle.market_types.specs.History.{calls_of, state_after}
 
 -- the market at its opening, the one that it holds now, the history since, the number of places, how many of the first entries are no longer kept, and which entries are to be kept (own)

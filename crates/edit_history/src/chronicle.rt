@@ -1,7 +1,7 @@
 //! The market and its history.
 ghost use Rattle.std.specs.Prelude.{◌≡◌, ◌+◌, ◌<◌, ◌≤◌, ◌++◌, [], ◌∷◌, true, false, Some, length, slice_get, vec_capacity, IfOk, OnErr, IfErr, IsErrOf, IsOk, IfSome, IfNone, OnSome, IsSome};
 ghost use Rattle.std.specs.List.{All};
-ghost use Rattle.market_types.specs.Reading.{Fits};
+ghost use Rattle.market_types.specs.Commands.{Fits};
 ghost use Rattle.market_types.specs.Step.{step, place_of};
 ghost use Rattle.market_types.specs.History.{IsLegal};
 ghost use Rattle.market_types.specs.Opening.{MemoryAside};

@@ -2,7 +2,7 @@
 use Rattle.std.specs.Prelude.{ℕ, ◌-◌, List, ◌++◌, length, replicate, Option, None, Some, option_map, codes, decimal}
 use Rattle.market_types.specs.declared.reply.ArenaView.{ArenaView}
 use Rattle.market_types.specs.declared.reply.LimitView.{LimitView}
-use Rattle.market_types.specs.Texts.{level_text, limit_text, yes_no}
+use Rattle.market_texts.specs.Texts.{level_text, limit_text, yes_no}
 use Rattle.explainer.specs.declared.line.CarryStep.{CarryStep}
 use Rattle.explainer.specs.declared.line.LevelView.{LevelView}
 

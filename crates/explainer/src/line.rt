@@ -1,10 +1,11 @@
 //! The lines of an explanation, each with its LF.
 ghost use Rattle.std.specs.Prelude.{◌≡◌, ◌++◌, OnOk, codes};
-ghost use Rattle.market_types.specs.Texts.{yes_no};
+ghost use Rattle.market_texts.specs.Texts.{yes_no};
 ghost use Rattle.explainer.specs.Columns.{arena_line, level_line, market_line, seats_columns, share_columns};
 
 use crate::column::{push_left, push_number, push_number_or_dash, push_part, push_text};
-use market_types::{ArenaView, Level, LimitView, Reply, level_text, push_reply};
+use market_texts::{level_text, push_reply};
+use market_types::{ArenaView, Level, LimitView, Reply};
 use std::alloc::AllocError;
 
 /// What is told of a level.

@@ -3,16 +3,12 @@
 
 use anyhow::Result;
 use market_core::Market;
-use market_types::{ArenaId, Cmd, Level, SeatNo, reply_text};
+use market_texts::reply_text;
+use market_types::{ArenaId, Cmd, Level, SeatNo};
 
 fn main(rt: HostRuntime) -> Result<()> {
     // Base 8 (seven workers), hard limit 64, four seats, three levels.
     let mut market = Market::new(rt.alloc(), 8, 64, 4, 3)?;
-    place_one(&rt, &mut market)
-}
-
-/// Seat 0 opens an arena, asks for three workers there, and is placed; each reply is printed.
-fn place_one(rt: &HostRuntime, market: &mut Market) -> Result<()> {
     let arena = ArenaId::new(1);
     let open = Cmd::Open(8, 1, Level::from_index(1));
     for cmd in [open, Cmd::Request(arena, 3, 0), Cmd::Join] {

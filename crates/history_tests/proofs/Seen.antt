@@ -6,9 +6,9 @@ use Rattle.std.proofs.lemmas.Bool.{cases_eq}
 use Rattle.std.proofs.lemmas.List.{get_or-set_same, get_or-set_other}
 use Rattle.std.proofs.lemmas.List.Elements.{All-cons, All-filter, All-weaker}
 use Rattle.market_types.specs.declared.row.Row.{Row}
-use Rattle.prefix_tree.specs.Rows.{IsNewestFirst, row_at, without}
-use Rattle.prefix_tree.proofs.Ordered.{newest-head, newest-tail}
-use Rattle.prefix_tree.proofs.Changes.{row_right, row_here}
+use Rattle.market_types.specs.Rows.{IsNewestFirst, row_at, without}
+use Rattle.market_types.proofs.RowOrder.{newest-head, newest-tail}
+use Rattle.market_types.proofs.RowChanges.{row_right, row_here}
 use Rattle.wide_rows.specs.Leveled.{rows_at, without_at}
 use Rattle.wide_rows.proofs.Joined.{all_get}
 

@@ -1,7 +1,8 @@
 //! Histories that fill up, and what a chronicle answers at its bounds.
 use crate::asserts::{holds, same};
 use edit_history::{CallFault, Chronicle, Keeping, MOST_FORGOTTEN, Terms};
-use market_types::{ArenaId, Cmd, Entry, Level, OpenFault, Opening, Reply, SeatNo, reply_text};
+use market_texts::reply_text;
+use market_types::{ArenaId, Cmd, Entry, Level, OpenFault, Opening, Reply, SeatNo};
 use std::alloc::Global;
 use std::process::Abort;
 use std::rt::HostRuntime;

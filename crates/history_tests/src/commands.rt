@@ -1,7 +1,8 @@
 //! What no clause says: that the market answers at all where memory is ample.
 use crate::asserts::same;
 use market_core::Market;
-use market_types::{ArenaId, Cmd, Level, SeatNo, reply_text};
+use market_texts::reply_text;
+use market_types::{ArenaId, Cmd, Level, SeatNo};
 use std::alloc::Global;
 use std::process::Abort;
 use std::rt::HostRuntime;

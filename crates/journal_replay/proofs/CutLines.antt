@@ -25,8 +25,8 @@ use Rattle.journal_replay.proofs.Json.{json-read}
 use Rattle.journal_replay.proofs.PlainTexts.{ascii-plain, fields-plain}
 use Rattle.journal_replay.proofs.PlainWritten.{plain-decimal}
 use Rattle.journal_replay.proofs.ReadMembers.{Goes, goes-first, goes-last, goes-more}
-use Rattle.market_types.specs.Reading.{number as number_of}
-use Rattle.market_types.proofs.Decimals.{number_only}
+use Rattle.market_texts.specs.Reading.{number as number_of}
+use Rattle.market_texts.proofs.Decimals.{number_only}
 
 -- ---- cuts
 

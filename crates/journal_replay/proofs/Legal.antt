@@ -8,7 +8,7 @@ use Rattle.market_types.specs.declared.command.Cmd.{Cmd}
 use Rattle.market_types.specs.declared.reply.Entry.{Entry}
 use Rattle.market_types.specs.State.{State}
 use Rattle.market_types.specs.Step.{step}
-use Rattle.market_types.specs.Texts.{reply_text}
+use Rattle.market_texts.specs.Texts.{reply_text}
 use Rattle.market_types.specs.History.{IsLegal, calls_of, state_after}
 use Rattle.line_engine.specs.Lines.{Line, lines_of}
 use Rattle.line_engine.specs.Rule.{after}

@@ -14,7 +14,7 @@ use Rattle.market_types.specs.declared.reply.LimitView.{LimitView}
 use Rattle.market_types.specs.declared.reply.Reply.{Reply}
 use Rattle.market_types.specs.declared.reply.Reply.TheVariants.{Opened, Closed, Moved, Resized, Requested, Controlled, Uncontrolled, Placed, Idle, Stays, Recalled, Left, Shown, Listed, Limits, Refused}
 use Rattle.journal_replay.specs.Plain.{is_plain, are_plain}
-use Rattle.market_types.specs.Texts.{has_name, level_name, level_text, cmd_text, fault_text, yes_no, view_text, limit_text, count_text, counts_text, reply_text}
+use Rattle.market_texts.specs.Texts.{has_name, level_name, level_text, cmd_text, fault_text, yes_no, view_text, limit_text, count_text, counts_text, reply_text}
 
 plain-append : (xs ys : List ℕ) → are_plain xs ≡ true → are_plain ys ≡ true → are_plain (xs ++ ys) ≡ true
 plain-append [] ys h k = k

@@ -24,7 +24,7 @@ use Rattle.market_types.specs.declared.reply.LimitView.{LimitView}
 use Rattle.market_types.specs.declared.reply.Reply.{Reply}
 use Rattle.market_types.specs.declared.reply.Reply.TheVariants.{Opened, Closed, Moved, Resized, Requested, Controlled, Uncontrolled, Placed, Idle, Stays, Recalled, Left, Shown, Listed, Limits, Refused}
 use Rattle.market_types.specs.Replies.{is_listed}
-use Rattle.market_types.specs.Texts.{has_name, level_name, level_text, cmd_text, fault_text, yes_no, view_text, limit_text, count_text, counts_text, reply_text}
+use Rattle.market_texts.specs.Texts.{has_name, level_name, level_text, cmd_text, fault_text, yes_no, view_text, limit_text, count_text, counts_text, reply_text}
 use Rattle.market_types.specs.State.{Arena, State}
 use Rattle.market_types.specs.Allotment.{in_order, recall, hire}
 use Rattle.market_types.specs.Step.{Outcome, above_zero, counts_of, step}

@@ -18,8 +18,9 @@ use Rattle.market_types.specs.declared.command.Cmd.{Cmd}
 use Rattle.market_types.specs.declared.reply.Entry.{Entry}
 use Rattle.market_types.specs.State.{State}
 use Rattle.market_types.specs.Opening.{opening_with}
-use Rattle.market_types.specs.Texts.{cmd_text, reply_text}
-use Rattle.market_types.specs.Reading.{Fits, reading}
+use Rattle.market_texts.specs.Texts.{cmd_text, reply_text}
+use Rattle.market_types.specs.Commands.{Fits}
+use Rattle.market_texts.specs.Reading.{reading}
 use Rattle.edit_history.specs.Chronicled.{IsOpening, IsCallOf}
 use Rattle.journal_replay.specs.Journal.{is_limited, fits_second, header_for, second_data, third_data, entry_data, second_line, third_line, header_line, fields_line, entry_line, entry_lines, journal_in}
 use Rattle.journal_replay.specs.Reading.{json_of, from_one_to, opened_by, header_in, header_of, entry_in}

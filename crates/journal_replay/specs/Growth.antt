@@ -5,7 +5,7 @@ use Rattle.std.proofs.Common.{cond, refl, le_refl, arith}
 use Rattle.market_types.specs.declared.reply.Reply.{Reply}
 use Rattle.market_types.specs.State.{State}
 use Rattle.market_types.specs.Step.{step}
-use Rattle.market_types.specs.Texts.{reply_text}
+use Rattle.market_texts.specs.Texts.{reply_text}
 use Rattle.serde_json.specs.Data.{Data}
 use Rattle.line_engine.specs.Lines.{Line}
 use Rattle.line_engine.specs.Input.{longest_input}

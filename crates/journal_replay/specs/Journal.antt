@@ -6,7 +6,7 @@ use Rattle.market_types.specs.declared.reply.Entry.{Entry}
 use Rattle.market_types.specs.State.{State, usual_last}
 use Rattle.market_types.specs.Opening.{numbers_of}
 use Rattle.edit_history.specs.declared.part.Part.{Part}
-use Rattle.market_types.specs.Texts.{cmd_text, reply_text}
+use Rattle.market_texts.specs.Texts.{cmd_text, reply_text}
 use Rattle.journal_replay.specs.declared.header.Extent.{Extent}
 use Rattle.journal_replay.specs.declared.header.Extent.TheVariants.{Limited, Endless}
 use Rattle.journal_replay.specs.declared.header.Header.{Header}

@@ -3,7 +3,7 @@ use Rattle.std.specs.Prelude.{◌≡◌, ℕ, ◌≤◌, List, [], ◌∷◌, le
 use Rattle.market_types.specs.declared.reply.Entry.{Entry}
 use Rattle.market_types.specs.State.{State}
 use Rattle.market_types.specs.History.{IsLegal}
-use Rattle.market_types.specs.Texts.{reply_text}
+use Rattle.market_texts.specs.Texts.{reply_text}
 use Rattle.line_engine.specs.Lines.{Line, lines_of}
 use Rattle.journal_replay.specs.declared.header.Extent.{Extent}
 use Rattle.journal_replay.specs.declared.header.Extent.TheVariants.{Limited}

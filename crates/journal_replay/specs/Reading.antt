@@ -7,7 +7,7 @@ use Rattle.serde_json.specs.Read.{read}
 use Rattle.market_types.specs.declared.command.Cmd.{Cmd}
 use Rattle.market_types.specs.State.{usual_last}
 use Rattle.market_types.specs.Opening.{opening_with}
-use Rattle.market_types.specs.Reading.{reading, in_seats}
+use Rattle.market_texts.specs.Reading.{reading, in_seats}
 use Rattle.journal_replay.specs.declared.header.Extent.{Extent}
 use Rattle.journal_replay.specs.declared.header.Extent.TheVariants.{Limited, Endless}
 use Rattle.journal_replay.specs.declared.header.Header.{Header}

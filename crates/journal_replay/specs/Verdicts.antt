@@ -6,7 +6,7 @@ use Rattle.serde_json.specs.Data.{Data}
 use Rattle.market_types.specs.declared.reply.Reply.{Reply}
 use Rattle.market_types.specs.State.{State}
 use Rattle.market_types.specs.Step.{step}
-use Rattle.market_types.specs.Texts.{reply_text}
+use Rattle.market_texts.specs.Texts.{reply_text}
 use Rattle.line_engine.specs.Lines.{Line, lines_of}
 use Rattle.line_engine.specs.Rule.{LineRule, after}
 use Rattle.line_engine.specs.Input.{CauseOf, longest_input}

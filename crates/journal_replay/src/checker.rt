@@ -4,7 +4,7 @@ ghost use Rattle.std.specs.Io.KnownBytes.{IsAtEnd};
 ghost use Rattle.std.specs.Str.{bytes_eq};
 ghost use Rattle.serde_json.specs.View.{view};
 ghost use Rattle.market_types.specs.Step.{step};
-ghost use Rattle.market_types.specs.Texts.{reply_text};
+ghost use Rattle.market_texts.specs.Texts.{reply_text};
 ghost use Rattle.journal_replay.specs.EntryLines.{IsSeated, reading_of};
 ghost use Rattle.journal_replay.specs.Verdicts.{Finds, StopsReading, after_header, after_line, json_by, lines_taken, most_bytes, verdict, verdict_of};
 ghost use Rattle.journal_replay.specs.Watched.{Watches, seen_by_line};
@@ -18,7 +18,7 @@ use crate::watcher::{Unwatched, Watcher};
 use byte_devices::Source;
 use line_engine::{InputFault, LONGEST_INPUT, LineForm, LineTaker, Nowhere, take_lines, take_text};
 use market_core::Market;
-use market_types::push_reply;
+use market_texts::push_reply;
 use serde_json::Value;
 use std::alloc::{AllocError, Global};
 

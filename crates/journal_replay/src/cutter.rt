@@ -13,7 +13,7 @@ ghost use Rattle.journal_replay.specs.Reading.{json_of};
 
 use crate::fields::{Fields, Member};
 use crate::texts::{Texts, behind, cut_quoted};
-use market_types::cut_digits;
+use market_texts::cut_digits;
 
 /// The byte is white space. No line has an LF.
 #[inline(always)]

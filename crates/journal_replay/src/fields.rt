@@ -5,7 +5,8 @@ ghost use Rattle.journal_replay.specs.Members.{members_of, with_member};
 ghost use Rattle.journal_replay.specs.Reading.{entry_in};
 
 use crate::reading::Recorded;
-use market_types::{SeatNo, read_cmd};
+use market_texts::read_cmd;
+use market_types::SeatNo;
 
 /// A member of an entry.
 #[derive(Clone, Copy)]

@@ -16,7 +16,7 @@ ghost use Rattle.journal_replay.specs.Written.{IsShort};
 ghost use Rattle.journal_replay.specs.declared.verdict.Verdict.TheVariants.{Legal};
 
 use edit_history::parts_in_a_row_are_the_history;
-use market_types::texts_spell_commands;
+use market_texts::texts_spell_commands;
 
 /// A text is found legal exactly where it reads as a header and a legal history, of at most 1,048,576 entries where the header
 /// limits them; so many are found.

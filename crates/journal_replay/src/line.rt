@@ -4,7 +4,8 @@ ghost use Rattle.serde_json.specs.View.{view};
 ghost use Rattle.journal_replay.specs.Journal.{entry_line, header_line, second_data, second_line, third_data, third_line};
 
 use crate::header::Header;
-use market_types::{Entry, push_cmd, push_number, push_reply};
+use market_texts::{push_cmd, push_number, push_reply};
+use market_types::Entry;
 use serde_json::{Value, json};
 use std::alloc::{AllocError, Global};
 

@@ -1,2 +1,2 @@
-pub use Rattle.prefix_tree.specs.Bits
-pub use Rattle.prefix_tree.specs.Rows
+pub use Rattle.market_types.specs.Bits
+pub use Rattle.market_types.specs.Rows

@@ -1,7 +1,7 @@
 //! The list, and its calls.
 ghost use Rattle.std.specs.Prelude.{◌≡◌, ◌+◌, ◌*◌, ◌<◌, ◌≤◌, [], ◌∷◌, length, slice_get, is_ok, if◌then◌else◌, Some, All, IfSome, IfOk, OnOk};
-ghost use Rattle.prefix_tree.specs.Rows.{IsNewestFirst, requests, requests_above, first_mandated, row_at, without, set_row};
-ghost use Rattle.prefix_tree.specs.Bits.{bits};
+ghost use Rattle.market_types.specs.Rows.{IsNewestFirst, requests, requests_above, first_mandated, row_at, without, set_row};
+ghost use Rattle.market_types.specs.Bits.{bits};
 
 use market_types::Row;
 use prefix_tree::{Stretch, Taken, Tree};

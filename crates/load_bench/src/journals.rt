@@ -6,7 +6,8 @@ use anyhow::Result;
 use byte_devices::TestSink;
 use journal_replay::{Extent, Header, write_header};
 use market_core::Market;
-use market_types::{Call, Cmd, Reply, push_cmd, push_reply};
+use market_texts::{push_cmd, push_reply};
+use market_types::{Call, Cmd, Reply};
 use std::alloc::{AllocError, Global};
 
 /// Room for a header's line.

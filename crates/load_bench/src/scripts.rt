@@ -1,7 +1,8 @@
 //! Scripts.
 use crate::author::Author;
 use itoa::Buffer;
-use market_types::{Call, Cmd, push_cmd};
+use market_texts::push_cmd;
+use market_types::{Call, Cmd};
 use std::alloc::{AllocError, Global};
 
 /// About as many bytes as a line has.

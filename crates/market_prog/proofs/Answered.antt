@@ -3,8 +3,8 @@ use Rattle.std.proofs.Common.{◌≡◌, ℕ, ◌+◌, ◌≤◌, ◌++◌, Bool
 use Rattle.std.proofs.lemmas.Bool.Decides.{nat_tests}
 use Rattle.market_types.specs.declared.command.Cmd.{Cmd}
 use Rattle.market_types.specs.State.{State}
-use Rattle.market_types.specs.Reading.{line_reading}
-use Rattle.market_types.specs.Script.{is_silent, Told, nothing, answer_of, answer_to}
+use Rattle.market_texts.specs.Reading.{line_reading}
+use Rattle.market_texts.specs.Script.{is_silent, Told, nothing, answer_of, answer_to}
 use Rattle.line_engine.specs.declared.form.LineForm.{LineForm}
 use Rattle.line_engine.specs.declared.form.LineForm.TheVariants.{Whole, WithoutLf, TooLong}
 use Rattle.market_prog.specs.Sessions.{answer_by, is_too_long}

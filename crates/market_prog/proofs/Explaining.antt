@@ -10,7 +10,7 @@ use Rattle.market_types.specs.declared.reply.OpenFault.{OpenFault}
 use Rattle.market_types.specs.declared.reply.OpenFault.TheVariants.{Memory as NoMemory}
 use Rattle.market_types.specs.Opening.{MemoryAside}
 use Rattle.market_types.specs.State.{State}
-use Rattle.market_types.specs.Script.{told}
+use Rattle.market_texts.specs.Script.{told}
 use Rattle.line_engine.specs.Lines.{Line, lines_of}
 use Rattle.line_engine.specs.Rule.{replies_to}
 use Rattle.line_engine.specs.Input.{TakesAll, StopsAt, Stops as InputStops, longest_input}

@@ -7,8 +7,8 @@ use Rattle.market_types.specs.declared.reply.Entry.{Entry}
 use Rattle.market_types.specs.State.{State}
 use Rattle.market_types.specs.Step.{step}
 use Rattle.market_types.specs.History.{calls_of, state_after}
-use Rattle.market_types.specs.Reading.{line_reading}
-use Rattle.market_types.specs.Script.{is_lf, is_silent, without_last_empty, script_lines, Told, answer_of, answer_to, told_lines, told}
+use Rattle.market_texts.specs.Reading.{line_reading}
+use Rattle.market_texts.specs.Script.{is_lf, is_silent, without_last_empty, script_lines, Told, answer_of, answer_to, told_lines, told}
 use Rattle.line_engine.specs.declared.form.LineForm.{LineForm}
 use Rattle.line_engine.specs.declared.form.LineForm.TheVariants.{Whole, WithoutLf, TooLong}
 use Rattle.line_engine.specs.Lines.{Line, ended_lines, unfinished_line, handed, last_line, lines_of}

@@ -17,7 +17,7 @@ use Rattle.market_types.specs.declared.reply.OpenFault.TheVariants.{BadBase, Bad
 use Rattle.market_types.specs.declared.opening.Opening.{Opening}
 use Rattle.market_types.specs.Opening.{MemoryAside, opened_with, opening_with}
 use Rattle.market_types.specs.State.{State}
-use Rattle.market_types.specs.Script.{told}
+use Rattle.market_texts.specs.Script.{told}
 use Rattle.line_engine.specs.Lines.{Line, lines_of}
 use Rattle.line_engine.specs.Rule.{replies_to}
 use Rattle.line_engine.specs.Input.{TakesAll, StopsAt, CauseOf as InputCauseOf, Stops as InputStops, longest_input}

@@ -3,7 +3,7 @@ use Rattle.std.proofs.Common.{◌≡◌, ℕ, ◌+◌, ◌++◌, Bool, true, fal
 use Rattle.std.specs.List.{slice_split}
 use Rattle.std.proofs.lemmas.Bool.Decides.{nat_tests}
 use Rattle.market_types.specs.State.{State}
-use Rattle.market_types.specs.Script.{is_lf, is_silent, without_last_empty, script_lines, Told, answer_of, told_lines, told}
+use Rattle.market_texts.specs.Script.{is_lf, is_silent, without_last_empty, script_lines, Told, answer_of, told_lines, told}
 use Rattle.line_engine.specs.declared.form.LineForm.{LineForm}
 use Rattle.line_engine.specs.declared.form.LineForm.TheVariants.{Whole, WithoutLf, TooLong}
 use Rattle.line_engine.specs.Lines.{Line, without_last, last_part, ended_lines, unfinished_line, handed, whole_lines, last_line, lines_of}

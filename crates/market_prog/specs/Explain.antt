@@ -2,7 +2,7 @@
 use Rattle.std.specs.Prelude.{◌≡◌, ℕ, ◌≤◌, List, [], length, Bool, Option}
 use Rattle.std.specs.Io.KnownBytes.{Consumes, Appends}
 use Rattle.market_types.specs.State.{State}
-use Rattle.market_types.specs.Script.{told}
+use Rattle.market_texts.specs.Script.{told}
 use Rattle.byte_devices.specs.Devices.{WritesFront}
 use Rattle.line_engine.specs.Input.{longest_input}
 use Rattle.explainer.specs.Explanation.{explanation_text}

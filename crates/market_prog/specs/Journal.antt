@@ -2,7 +2,7 @@
 use Rattle.std.specs.Prelude.{◌≡◌, ℕ, ◌≤◌, List, [], length, Bool, false, Option}
 use Rattle.std.specs.Io.KnownBytes.{Consumes, Appends}
 use Rattle.market_types.specs.State.{State}
-use Rattle.market_types.specs.Script.{told}
+use Rattle.market_texts.specs.Script.{told}
 use Rattle.edit_history.specs.Chronicled.{Chronicled}
 use Rattle.edit_history.specs.declared.fault.CallFault.TheVariants.{HistoryFull as NoPlace}
 use Rattle.edit_history.specs.declared.keeping.Keeping.TheVariants.{Everything}

@@ -4,8 +4,8 @@ use Rattle.market_types.specs.declared.command.Cmd.{Cmd}
 use Rattle.market_types.specs.declared.reply.Entry.{Entry}
 use Rattle.market_types.specs.State.{State}
 use Rattle.market_types.specs.Step.{step}
-use Rattle.market_types.specs.Reading.{line_reading}
-use Rattle.market_types.specs.Script.{is_silent, script_lines, answer_of}
+use Rattle.market_texts.specs.Reading.{line_reading}
+use Rattle.market_texts.specs.Script.{is_silent, script_lines, answer_of}
 use Rattle.edit_history.specs.Chronicled.{entry}
 
 -- the entry of a call, with its due reply

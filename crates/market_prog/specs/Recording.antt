@@ -5,7 +5,7 @@ use Rattle.market_types.specs.declared.reply.Entry.{Entry}
 use Rattle.market_types.specs.declared.reply.OpenFault.{OpenFault}
 use Rattle.market_types.specs.State.{State}
 use Rattle.market_types.specs.History.{calls_of, state_after}
-use Rattle.market_types.specs.Reading.{line_reading}
+use Rattle.market_texts.specs.Reading.{line_reading}
 use Rattle.edit_history.specs.Chronicled.{Chronicled, market_of}
 use Rattle.edit_history.specs.Places.{LacksPlaces}
 use Rattle.edit_history.specs.declared.fault.CallFault.{CallFault}

@@ -2,7 +2,7 @@
 use Rattle.std.specs.Prelude.{◌≡◌, ℕ, ◌<◌, ◌≤◌, List, length, Bool, true, false, Option}
 use Rattle.std.specs.Io.KnownBytes.{Consumes, Appends}
 use Rattle.market_types.specs.State.{State}
-use Rattle.market_types.specs.Script.{told, told_lines}
+use Rattle.market_texts.specs.Script.{told, told_lines}
 use Rattle.byte_devices.specs.Devices.{WritesFront}
 use Rattle.line_engine.specs.Lines.{ended_lines}
 use Rattle.line_engine.specs.Input.{longest_input}

@@ -2,8 +2,8 @@
 use Rattle.std.specs.Prelude.{ℕ, ◌+◌, Bool, true, false, List, [], ◌++◌, if◌then◌else◌, Option, None, Some, codes}
 use Rattle.market_types.specs.declared.reply.Reply.{Reply}
 use Rattle.market_types.specs.State.{State}
-use Rattle.market_types.specs.Texts.{reply_text}
-use Rattle.market_types.specs.Script.{Told, nothing, is_silent, answer_of, answer_to}
+use Rattle.market_texts.specs.Texts.{reply_text}
+use Rattle.market_texts.specs.Script.{Told, nothing, is_silent, answer_of, answer_to}
 use Rattle.line_engine.specs.Rule.{LineRule}
 use Rattle.line_engine.specs.declared.form.LineForm.{LineForm}
 use Rattle.line_engine.specs.declared.form.LineForm.TheVariants.{Whole, WithoutLf, TooLong}

@@ -1,12 +1,13 @@
 //! Why a run stops, and with which exit status.
 ghost use Rattle.std.specs.Prelude.{◌≡◌};
-ghost use Rattle.market_types.specs.Texts.{open_fault_text};
+ghost use Rattle.market_texts.specs.Texts.{open_fault_text};
 ghost use Rattle.market_prog.specs.Status.{status_of};
 
 use byte_devices::OutFault;
 use edit_history::CallFault;
 use line_engine::InputFault;
-use market_types::{OpenFault, open_fault_text};
+use market_texts::open_fault_text;
+use market_types::OpenFault;
 use std::alloc::AllocError;
 use thiserror::Error;
 

@@ -1,6 +1,6 @@
 //! A market whose script is recorded.
 ghost use Rattle.std.specs.Prelude.{◌≡◌, ◌+◌, ◌<◌, ◌^◌, length, IfErr, IfSome, OnOk};
-ghost use Rattle.market_types.specs.Script.{answer_to};
+ghost use Rattle.market_texts.specs.Script.{answer_to};
 ghost use Rattle.edit_history.specs.Chronicled.{market_of};
 ghost use Rattle.market_prog.specs.Recorded.{entries_to};
 ghost use Rattle.market_prog.specs.Recording.{IsUnrecorded, lengthened};

@@ -1,12 +1,13 @@
 //! A market that a script speaks to.
 ghost use Rattle.std.specs.Prelude.{◌≡◌, ℕ, ◌+◌, ◌<◌, ◌^◌, [], ◌++◌, length, None, if◌then◌else◌, IfOk, IfSome, OnOk};
-ghost use Rattle.market_types.specs.Reading.{line_reading};
-ghost use Rattle.market_types.specs.Script.{answer_to, is_silent};
+ghost use Rattle.market_texts.specs.Reading.{line_reading};
+ghost use Rattle.market_texts.specs.Script.{answer_to, is_silent};
 ghost use Rattle.market_prog.specs.Sessions.{answer_line, is_too_long};
 
 use line_engine::{LONGEST_INPUT, LONGEST_LINE, LineForm, LineTaker};
 use market_core::Market;
-use market_types::{Cmd, Reply, SeatNo, push_reply, read_line};
+use market_texts::{push_reply, read_line};
+use market_types::{Cmd, Reply, SeatNo};
 use std::alloc::{AllocError, Global};
 
 /// A market, and the number of unread lines. Where it doesn't answer its lines it only changes its market.

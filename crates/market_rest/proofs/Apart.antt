@@ -16,7 +16,7 @@ use Rattle.market_types.specs.Claims.{added_claim, new_claim, request_of, with_s
 use Rattle.market_types.specs.Allotment.{active, at_level, in_order, need, recall}
 use Rattle.market_types.specs.History.{state_after}
 use Rattle.market_types.specs.Step.{Outcome, arena_at, control_step, if_arena, if_claim, join_at, join_from, leave_from, moved, open_step, opened, place_of, priority_step, refuse, stay_from, step, uncontrol_step, view_of, with_claim, with_place, without}
-use Rattle.market_types.specs.Reading.{Fits}
+use Rattle.market_types.specs.Commands.{Fits}
 use Rattle.market_rest.specs.Apart.{AreApart, IsOrdered}
 
 -- ---- lists

@@ -6,7 +6,7 @@ ghost use Rattle.market_types.specs.State.{State, opening_to};
 ghost use Rattle.market_types.specs.Allotment.{active, allotment_of, limit_of, mandatory_pick, need, total_request};
 ghost use Rattle.market_types.specs.declared.reply.Entry.{Entry};
 ghost use Rattle.market_types.specs.History.{IsLegal, calls_of, state_after};
-ghost use Rattle.market_types.specs.Reading.{Fits};
+ghost use Rattle.market_types.specs.Commands.{Fits};
 ghost use Rattle.market_rest.specs.Alike.{AreAlike, IsPlain, concerning};
 ghost use Rattle.market_rest.specs.Vain.{joined_last};
 

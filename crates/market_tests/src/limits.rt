@@ -5,8 +5,9 @@ ghost use Rattle.market_types.specs.declared.command.Call.{Call};
 
 use crate::asserts::{holds, same};
 use market_core::{Market, apply_all};
+use market_texts::reply_text;
 use market_types::{
-    ArenaId, Call, Cmd, ControlId, Correction, Fault, Level, OpenFault, Reply, SeatNo, reply_text,
+    ArenaId, Call, Cmd, ControlId, Correction, Fault, Level, OpenFault, Reply, SeatNo,
 };
 use std::alloc::{AllocError, Global};
 use std::process::Abort;

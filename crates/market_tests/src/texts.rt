@@ -1,9 +1,9 @@
 //! Texts of commands and replies.
 use crate::asserts::{holds, same};
 use market_prog::RunFault;
+use market_texts::{cmd_text, open_fault_text, push_reply, read_cmd, read_line, reply_text};
 use market_types::{
-    ArenaId, ArenaView, Correction, Fault, Imbalance, LimitView, Lists, OpenFault, Reply, cmd_text,
-    open_fault_text, push_reply, read_cmd, read_line, reply_text,
+    ArenaId, ArenaView, Correction, Fault, Imbalance, LimitView, Lists, OpenFault, Reply,
 };
 use std::alloc::Global;
 use std::process::Abort;

@@ -8,9 +8,5 @@ pub mod Allotment
 pub mod Step
 pub mod Opening
 pub mod History
-pub mod Texts
-pub mod Reading
-pub mod Fields
-pub mod Cuts
-pub mod Written
-pub mod Script
+pub mod Rows
+pub mod Bits

@@ -3,7 +3,7 @@ use Rattle.std.specs.Prelude.{◌≡◌, ◌⊎◌, ℕ, Bool, true, false, List
 use Rattle.market_types.specs.declared.command.Cmd.{Cmd}
 use Rattle.market_types.specs.declared.reply.Reply.{Reply}
 use Rattle.market_types.specs.History.{place_in}
-use Rattle.market_types.specs.Texts.{reply_text}
+use Rattle.market_texts.specs.Texts.{reply_text}
 use Rattle.edit_history.specs.declared.fault.CallFault.{CallFault}
 use Rattle.edit_history.specs.declared.fault.CallFault.TheVariants.{Memory, HistoryFull}
 use Rattle.market_lock.specs.Seen.{OfPass}

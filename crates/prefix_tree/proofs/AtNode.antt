@@ -3,10 +3,11 @@ use Rattle.std.specs.List.{slice_get}
 use Rattle.std.proofs.Common.{refl, ◌≡◌, ℕ, ◌+◌, ◌<◌, true, false, List, ◌∷◌, ◌++◌, length, Box, sym, ap, ◌∙◌, subst, Option, Some, arith}
 use Rattle.std.specs.declared.alloc.Global.{Global}
 use Rattle.market_types.specs.declared.row.Row.{Row}
-use Rattle.prefix_tree.specs.Rows.{requests, requests_above, first_mandated}
+use Rattle.market_types.specs.Rows.{requests, requests_above, first_mandated}
 use Rattle.prefix_tree.specs.Nodes.{IsTopOf, mandates, rows_in, rows_of, height_of, IsSound, IsSoundNode}
 use Rattle.prefix_tree.specs.declared.node.Node.{Node}
-use Rattle.prefix_tree.proofs.Readings.{above_right, above_left, above_here, first-left, first-here, get_left, get_right, get_here, length-node, requests-node}
+use Rattle.market_types.proofs.RowReadings.{above_right, above_left, above_here, get_left, get_right, get_here, length-node, requests-node}
+use Rattle.prefix_tree.proofs.Readings.{first-left, first-here}
 
 -- the node is the topmost one of d
 pub record AtNode (d : List Row × ℕ) (n : Node) : Type 0 where

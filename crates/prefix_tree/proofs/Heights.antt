@@ -2,7 +2,7 @@
 use Rattle.std.proofs.Common.{◌≡◌, ℕ, zero, suc, ◌+◌, ◌*◌, ◌/◌, ◌≤◌, max, inl, inr, arith}
 use Rattle.std.proofs.lemmas.Bool.{cases_order}
 use Rattle.std.proofs.lemmas.Int.Digits.{length-digits_of_step}
-use Rattle.prefix_tree.specs.Bits.{bits}
+use Rattle.market_types.specs.Bits.{bits}
 use Rattle.prefix_tree.specs.Nodes.{rows_for}
 
 -- one more level needs no fewer rows

@@ -1,10 +1,10 @@
 -- What may stand together before and after a rotation.
 use Rattle.std.proofs.Common.{◌≡◌, ℕ, ◌+◌, ◌^◌, ◌<◌, List, ◌∷◌, ◌++◌, length, subst, append_assoc, arith}
 use Rattle.market_types.specs.declared.row.Row.{Row}
-use Rattle.prefix_tree.specs.Rows.{IsNewestFirst, requests}
+use Rattle.market_types.specs.Rows.{IsNewestFirst, requests}
 use Rattle.prefix_tree.specs.Nodes.{CanJoin, OpensTo, IsFilled}
-use Rattle.prefix_tree.proofs.Ordered.{parts, newest-front}
-use Rattle.prefix_tree.proofs.Readings.{length-node, requests-node}
+use Rattle.market_types.proofs.RowOrder.{parts, newest-front}
+use Rattle.market_types.proofs.RowReadings.{length-node, requests-node}
 use Rattle.prefix_tree.proofs.Heights.{height-le-rows}
 
 -- how many rows s has and what they ask, where it is l and r with x between them

@@ -1,10 +1,8 @@
 pub mod AtNode
-pub mod Changes
 pub mod Crossing
 pub mod Heights
 pub mod Joins
 pub mod Moves
-pub mod Ordered
 pub mod Readings
 pub mod Sets
 pub mod Updates

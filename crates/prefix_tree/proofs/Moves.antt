@@ -2,11 +2,11 @@
 use Rattle.std.proofs.Common.{◌≡◌, ℕ, suc, ◌+◌, ◌^◌, ◌<◌, ◌≤◌, List, [], ◌∷◌, ◌++◌, length, refl, ap, sym, ◌∙◌, subst, arith, Some}
 use Rattle.std.proofs.lemmas.List.Elements.{All-head, All-tail}
 use Rattle.market_types.specs.declared.row.Row.{Row}
-use Rattle.prefix_tree.specs.Rows.{IsNewestFirst, IsAbsent, requests, insert_row, without, row_at}
+use Rattle.market_types.specs.Rows.{IsNewestFirst, IsAbsent, requests, insert_row, without, row_at}
 use Rattle.prefix_tree.specs.Nodes.{CanJoin, OpensTo, IsSmall, IsFilled}
-use Rattle.prefix_tree.proofs.Ordered.{all-front, all-back, newest-tail}
-use Rattle.prefix_tree.proofs.Readings.{requests-cons}
-use Rattle.prefix_tree.proofs.Changes.{insert_left, insert_right, insert-newest, insert-length, insert-requests, without_left, without_right, without_here, without-newest, without-length, without-requests, row_left, row_right, row_here}
+use Rattle.market_types.proofs.RowOrder.{all-front, all-back, newest-tail}
+use Rattle.market_types.proofs.RowReadings.{requests-cons}
+use Rattle.market_types.proofs.RowChanges.{insert_left, insert_right, insert-newest, insert-length, insert-requests, without_left, without_right, without_here, without-newest, without-length, without-requests, row_left, row_right, row_here}
 use Rattle.prefix_tree.proofs.Joins.{joins, sums}
 
 -- the left side of a small one is small

@@ -3,12 +3,13 @@ use Rattle.std.proofs.Common.{◌≡◌, Bool, ℕ, ◌+◌, ◌-◌, ◌<◌, �
 use Rattle.std.proofs.lemmas.Bool.{eqb-true}
 use Rattle.market_types.specs.declared.row.Row.{Row}
 use Rattle.prefix_tree.specs.declared.node.Node.{Node}
-use Rattle.prefix_tree.specs.Rows.{IsNewestFirst, requests, set_row}
+use Rattle.market_types.specs.Rows.{IsNewestFirst, requests, set_row}
 use Rattle.prefix_tree.specs.Nodes.{mandates, one_if, rows_in, IsSoundNode, IsSmall}
-use Rattle.prefix_tree.proofs.Ordered.{newest-tail, under_here, absent_above, parts}
+use Rattle.market_types.proofs.RowOrder.{newest-tail, under_here, absent_above, parts}
 use Rattle.prefix_tree.proofs.AtNode.{AtNode, whole_node, node_requests}
-use Rattle.prefix_tree.proofs.Readings.{requests-cons, requests-node, mandates-node}
-use Rattle.prefix_tree.proofs.Changes.{set-none, set_left, set_right, set_here, set-newest, set-length}
+use Rattle.market_types.proofs.RowReadings.{requests-cons, requests-node}
+use Rattle.prefix_tree.proofs.Readings.{mandates-node}
+use Rattle.market_types.proofs.RowChanges.{set-none, set_left, set_right, set_here, set-newest, set-length}
 
 -- a request that is set adds at most itself
 pub set-requests-le : (s q : ℕ) (m : Bool) (t : List Row) → IsNewestFirst t → requests (set_row s q m t) ≤ requests t + q

@@ -3,31 +3,16 @@ use Rattle.std.proofs.Common.{◌≡◌, Bool, ℕ, ◌+◌, ◌-◌, ◌<◌, �
 use Rattle.std.proofs.lemmas.Bool.{eqb-true}
 use Rattle.market_types.specs.declared.row.Row.{Row}
 use Rattle.prefix_tree.specs.declared.node.Node.{Node}
-use Rattle.prefix_tree.specs.Rows.{IsNewestFirst, requests, set_row, row_at}
+use Rattle.market_types.specs.Rows.{IsNewestFirst, requests, set_row, row_at}
 use Rattle.prefix_tree.specs.Nodes.{mandates, one_if, IsSoundNode, IsSmall}
-use Rattle.prefix_tree.proofs.Ordered.{newest-tail, under_here, absent_above, parts}
+use Rattle.market_types.proofs.RowOrder.{newest-tail, under_here, absent_above, parts}
 use Rattle.prefix_tree.proofs.AtNode.{AtNode, node_requests}
-use Rattle.prefix_tree.proofs.Readings.{requests-cons, requests-node, mandates-cons, mandates-node}
-use Rattle.prefix_tree.proofs.Changes.{set-none, row_left, row_right, row_here}
+use Rattle.market_types.proofs.RowReadings.{request-within, requests-node, same-row}
+use Rattle.prefix_tree.proofs.Readings.{mandates-cons, mandates-node}
+use Rattle.market_types.proofs.RowChanges.{set-none, set-requests, row_left, row_right, row_here}
 use Rattle.prefix_tree.proofs.Sets.{sound_left, sound_right, sound_here}
 
--- what a list has of two rows that are one
-same-row : {x y : Row} → Some y ≡ Some x → y ≡ x
-same-row {x} {y} e = cc
-
--- what the list asks for after a row of it is set: what that row asked for goes, what it asks for comes
-pub set-requests : (s q : ℕ) (m : Bool) (t : List Row) (x : Row) → IsNewestFirst t → row_at s t ≡ Some x → requests (set_row s q m t) + x.request ≡ requests t + q
-set-requests s q m [] x d e = absurd (cc)
-set-requests s q m (y ∷ t) x d e =
-    elim (eqb y.stamp s) as (λ b. eqb y.stamp s ≡ b → cond b (Some y) (row_at s t) ≡ Some x → requests (cond b (record y { request = q; mandated = m }) y ∷ set_row s q m t) + x.request ≡ requests (y ∷ t) + q) [
-      | true ↦ λ h g.
-          let rest = set-none s q m t (absent_above s t (under_here [] y t d s (eqb-true y.stamp s h))) in
-          let same : y.request ≡ x.request = ap (λ z. z.request) (same-row g) in
-          rw rest (omega (arith, requests-cons y t, requests-cons (record y { request = q; mandated = m }) t))
-      | false ↦ λ h g. omega (arith, requests-cons y t, requests-cons y (set_row s q m t), set-requests s q m t x (newest-tail y t d) g)
-    ] refl e
-
--- and how many are mandated
+-- how many of a list are mandated after a row of it is set
 pub set-mandates : (s q : ℕ) (m : Bool) (t : List Row) (x : Row) → IsNewestFirst t → row_at s t ≡ Some x → mandates (set_row s q m t) + one_if x.mandated ≡ mandates t + one_if m
 set-mandates s q m [] x d e = absurd (cc)
 set-mandates s q m (y ∷ t) x d e =
@@ -39,16 +24,7 @@ set-mandates s q m (y ∷ t) x d e =
       | false ↦ λ h g. omega (arith, mandates-cons y t, mandates-cons y (set_row s q m t), set-mandates s q m t x (newest-tail y t d) g)
     ] refl e
 
--- a row asks for no more than the list that has it
-pub request-within : (s : ℕ) (t : List Row) (x : Row) → row_at s t ≡ Some x → x.request ≤ requests t
-request-within s [] x e = absurd (cc)
-request-within s (y ∷ t) x e =
-    elim (eqb y.stamp s) as (λ b. cond b (Some y) (row_at s t) ≡ Some x → x.request ≤ requests (y ∷ t)) [
-      | true ↦ λ g. let same : y.request ≡ x.request = ap (λ z. z.request) (same-row g) in omega (arith, requests-cons y t)
-      | false ↦ λ g. omega (arith, requests-cons y t, request-within s t x g)
-    ] e
-
--- nor is it more mandates
+-- a row is no more mandates than the list that has it
 pub mandate-within : (s : ℕ) (t : List Row) (x : Row) → row_at s t ≡ Some x → one_if x.mandated ≤ mandates t
 mandate-within s [] x e = absurd (cc)
 mandate-within s (y ∷ t) x e =

@@ -1,19 +1,13 @@
 -- A whole tree: small enough for the code's numbers, and a tree again after each change.
 use Rattle.std.proofs.Common.{◌≡◌, Bool, ℕ, ◌*◌, ◌<◌, ◌≤◌, Option, Some, None, List, [], ◌∷◌, length, arith}
 use Rattle.std.specs.Prelude.{IfSome}
-use Rattle.std.proofs.lemmas.List.Elements.{All-head, All-tail}
 use Rattle.market_types.specs.declared.row.Row.{Row}
-use Rattle.prefix_tree.specs.Bits.{bits}
-use Rattle.prefix_tree.specs.Rows.{IsAbsent, HasLowRequests, requests, insert_row, without, set_row, row_at}
+use Rattle.market_types.specs.Bits.{bits}
+use Rattle.market_types.specs.Rows.{IsAbsent, HasLowRequests, requests, insert_row, without, set_row, row_at}
 use Rattle.prefix_tree.specs.Nodes.{IsTree, IsSmall, IsFilled}
 use Rattle.prefix_tree.proofs.Heights.{height-le-rows, height-le-bits}
-use Rattle.prefix_tree.proofs.Readings.{requests-cons}
-use Rattle.prefix_tree.proofs.Changes.{insert-low, insert-newest, insert-length, without-low, without-newest, without-length, set-low, set-newest, set-length, row-fewer}
-
--- low requests add up to at most 65,535 a row
-pub requests-le : (l : List Row) → HasLowRequests l → requests l ≤ 65535 * length l
-requests-le [] a = omega arith
-requests-le (x ∷ l) a = omega (arith, requests-cons x l, All-head (λ y. y.request ≤ 65535) x l a, requests-le l (All-tail (λ y. y.request ≤ 65535) x l a))
+use Rattle.market_types.proofs.RowReadings.{requests-le}
+use Rattle.market_types.proofs.RowChanges.{insert-low, insert-newest, insert-length, without-low, without-newest, without-length, set-low, set-newest, set-length, row-fewer}
 
 -- a tree's numbers fit the code's
 pub small_tree : {s : List Row × ℕ} → IsTree s → IsSmall s

@@ -3,7 +3,7 @@
 use Rattle.std.specs.Prelude.{◌≡◌, ℕ, zero, suc, ◌+◌, ◌<◌, ◌≤◌, ◌^◌, max, Bool, if◌then◌else◌, count_by, List, [], ◌∷◌, ◌++◌, length, Option, Some, None, Box}
 use Rattle.std.specs.declared.alloc.Global.{Global}
 use Rattle.market_types.specs.declared.row.Row.{Row}
-use Rattle.prefix_tree.specs.Rows.{IsNewestFirst, requests, HasLowRequests}
+use Rattle.market_types.specs.Rows.{IsNewestFirst, requests, HasLowRequests}
 use Rattle.prefix_tree.specs.declared.node.Node.{Node}
 
 -- how many rows are mandated

@@ -1,6 +1,6 @@
 //! Changing a side: setting a row in place, putting a node in, taking one out.
 ghost use Rattle.std.specs.Prelude.{◌≡◌, ◌+◌, ◌^◌, ◌<◌, ◌≤◌, ◌∷◌, length, Some};
-ghost use Rattle.prefix_tree.specs.Rows.{IsAbsent, insert_row, without, set_row, row_at};
+ghost use Rattle.market_types.specs.Rows.{IsAbsent, insert_row, without, set_row, row_at};
 ghost use Rattle.prefix_tree.specs.Nodes.{IsSmall, IsFilled, IsBetween, row_of};
 
 use crate::balance::{balance, fork};

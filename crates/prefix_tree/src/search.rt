@@ -1,6 +1,6 @@
 //! Reading a side: one way down from its topmost node.
 ghost use Rattle.std.specs.Prelude.{◌≡◌, ◌<◌, ◌≤◌, length, slice_get};
-ghost use Rattle.prefix_tree.specs.Rows.{requests_above, first_mandated};
+ghost use Rattle.market_types.specs.Rows.{requests_above, first_mandated};
 ghost use Rattle.prefix_tree.specs.Nodes.{IsSmall};
 
 use crate::side::Side;

@@ -1,7 +1,7 @@
 //! A side of a node: a smaller tree, or nothing.
 ghost use Rattle.std.specs.Prelude.{◌≡◌, ◌+◌, ◌^◌, ◌<◌, [], length, IfNone, IfSome};
 ghost use Rattle.std.specs.Bool.{OnTrue, OnFalse};
-ghost use Rattle.prefix_tree.specs.Rows.{requests};
+ghost use Rattle.market_types.specs.Rows.{requests};
 ghost use Rattle.prefix_tree.specs.Nodes.{mandates, IsTopOf, OpensTo};
 
 use crate::node::{Node, visit};

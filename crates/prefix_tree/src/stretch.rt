@@ -1,6 +1,6 @@
 //! Rows that stand together in a tree, for a walk in order that may pass over some.
 ghost use Rattle.std.specs.Prelude.{◌≡◌, ◌+◌, ◌^◌, ◌<◌, [], ◌∷◌, ◌++◌, IfNone, IfSome};
-ghost use Rattle.prefix_tree.specs.Rows.{requests};
+ghost use Rattle.market_types.specs.Rows.{requests};
 
 use crate::side::Side;
 use market_types::Row;

@@ -1,8 +1,8 @@
 //! The tree, and its calls.
 ghost use Rattle.std.specs.Prelude.{◌≡◌, ◌+◌, ◌*◌, ◌<◌, ◌≤◌, [], length, slice_get, is_ok, if◌then◌else◌, Some, IfSome, IfOk, OnOk};
-ghost use Rattle.prefix_tree.specs.Rows.{IsNewestFirst, IsAbsent, requests, requests_above, first_mandated, row_at, insert_row, without, set_row};
+ghost use Rattle.market_types.specs.Rows.{IsNewestFirst, IsAbsent, requests, requests_above, first_mandated, row_at, insert_row, without, set_row};
 ghost use Rattle.prefix_tree.specs.Nodes.{row_of};
-ghost use Rattle.prefix_tree.specs.Bits.{bits};
+ghost use Rattle.market_types.specs.Bits.{bits};
 
 use crate::node::Node;
 use crate::side::Side;

@@ -4,8 +4,8 @@ use Rattle.std.proofs.Math.Arith.{digits_div, digits_mod}
 use Rattle.std.proofs.Math.Nat.{mul-le-mul_left}
 use Rattle.std.proofs.lemmas.Bool.{cases_eq, eq-eqb, ne_eqb}
 use Rattle.market_types.specs.declared.row.Row.{Row}
-use Rattle.prefix_tree.specs.Rows.{requests}
-use Rattle.prefix_tree.specs.Bits.{bits}
+use Rattle.market_types.specs.Rows.{requests}
+use Rattle.market_types.specs.Bits.{bits}
 use Rattle.wide_rows.specs.Passed.{IsPassed, IsDue, IsCounted}
 use Rattle.recall_hire.proofs.Searches.{IsNext}
 

@@ -3,8 +3,8 @@ use Rattle.std.proofs.Common.{◌≡◌, ℕ, ◌+◌, ◌-◌, ◌*◌, ◌<◌
 use Rattle.std.specs.List.{count_by}
 use Rattle.market_types.specs.declared.row.Row.{Row}
 use Rattle.market_types.specs.Allotment.{is_just}
-use Rattle.prefix_tree.specs.Rows.{requests}
-use Rattle.prefix_tree.proofs.Readings.{requests-append, requests-cons}
+use Rattle.market_types.specs.Rows.{requests}
+use Rattle.market_types.proofs.RowReadings.{requests-append, requests-cons}
 use Rattle.recall_hire.specs.declared.rows.Staffing.{Staffing}
 use Rattle.recall_hire.specs.declared.sharing.Sharing.TheVariants.{Carried}
 use Rattle.recall_hire.specs.Staffed.{first_in_need, searches}

@@ -1,6 +1,6 @@
 //! Where workers are too many or too few: a walk through a level's arenas, past those that cannot be listed.
 ghost use Rattle.std.specs.Prelude.{◌≡◌, ◌+◌, ◌^◌, ◌<◌, ◌≤◌, [], ◌∷◌, ◌++◌, length, IsOk, IfOk, IfSome, IfNone, OnOk, OnErr};
-ghost use Rattle.prefix_tree.specs.Rows.{requests};
+ghost use Rattle.market_types.specs.Rows.{requests};
 ghost use Rattle.recall_hire.specs.Staffed.{actives, counts_in, imbalances, looks};
 ghost use Rattle.recall_hire.specs.Shared.{CanShareAll, IsLow, row_share, row_carry, staffed, IsListed, IsOver, IsWalk};
 

@@ -4,7 +4,7 @@ ghost use Rattle.std.specs.Prelude.{◌≡◌, ℕ, None, ◌+◌, ◌*◌, ◌^
 ghost use Rattle.std.specs.Bool.{OnTrue, OnFalse};
 ghost use Rattle.std.specs.List.{count_by};
 ghost use Rattle.market_types.specs.Allotment.{is_just};
-ghost use Rattle.prefix_tree.specs.Rows.{requests};
+ghost use Rattle.market_types.specs.Rows.{requests};
 ghost use Rattle.wide_rows.specs.Passed.{with_height};
 ghost use Rattle.recall_hire.specs.declared.sharing.Sharing.TheVariants.{Carried};
 ghost use Rattle.recall_hire.specs.Staffed.{first_in_need, searches};

@@ -7,10 +7,10 @@ use Rattle.std.proofs.lemmas.Bool.{cases_lt, cases_eq, ne_eqb}
 use Rattle.std.proofs.lemmas.List.{length-set, map-append, append-nil}
 use Rattle.std.proofs.lemmas.List.Elements.{All-nil, All-head, All-tail, All-map, All-weaker, All-filter, filter-append}
 use Rattle.market_types.specs.declared.row.Row.{Row}
-use Rattle.prefix_tree.specs.Rows.{IsNewestFirst, HasLowRequests, IsAbsent, requests, row_at, without, set_if, set_row}
-use Rattle.prefix_tree.proofs.Ordered.{newest-head, newest-tail, newest-nil, absent_above, absent_below}
-use Rattle.prefix_tree.proofs.Readings.{requests-cons, filter-all}
-use Rattle.prefix_tree.proofs.Changes.{set-none, set-newest, set-length, set-low, row-none, without-newest, without-low, without-length}
+use Rattle.market_types.specs.Rows.{IsNewestFirst, HasLowRequests, IsAbsent, requests, row_at, without, set_if, set_row}
+use Rattle.market_types.proofs.RowOrder.{newest-head, newest-tail, newest-nil, absent_above, absent_below}
+use Rattle.market_types.proofs.RowReadings.{requests-cons, filter-all}
+use Rattle.market_types.proofs.RowChanges.{set-none, set-newest, set-length, set-low, row-none, without-newest, without-low, without-length}
 use Rattle.wide_rows.specs.Joined.{joined_below, IsAt}
 use Rattle.wide_rows.specs.Shelves.{rows_of, leaf_at, AreLeaves}
 use Rattle.wide_rows.specs.Storeys.{IsChange, IsIndexed, WasIndexed}

@@ -6,7 +6,7 @@ use Rattle.std.proofs.lemmas.List.{length-set, map-set, get_or-map, get_or-set_s
 use Rattle.std.proofs.lemmas.List.Sums.{sum_by-set, sum_by-cons}
 use Rattle.std.proofs.lemmas.List.Elements.{All-get_or, All-set, All-head, All-tail, All-nil, All-cons, All-weaker}
 use Rattle.market_types.specs.declared.row.Row.{Row}
-use Rattle.prefix_tree.specs.Rows.{IsNewestFirst, row_at, without}
+use Rattle.market_types.specs.Rows.{IsNewestFirst, row_at, without}
 use Rattle.wide_rows.specs.Leveled.{Leveled, Boxes, IsLevel, AreLevels, leaves_for, shelves_for, rows_of_each, rows_at, total_rows, with_first, without_at}
 use Rattle.wide_rows.proofs.OneLevel.{without_length, without_missing}
 

@@ -4,8 +4,8 @@ use Rattle.std.proofs.Common.{◌≡◌, ◌≢◌, ℕ, zero, suc, ◌+◌, ◌
 use Rattle.std.proofs.lemmas.Bool.{cases_lt, cases_eq, ne_eqb}
 use Rattle.std.proofs.lemmas.List.{length-set}
 use Rattle.market_types.specs.declared.row.Row.{Row}
-use Rattle.prefix_tree.specs.Rows.{IsNewestFirst, HasLowRequests, row_at, without}
-use Rattle.prefix_tree.proofs.Ordered.{newest-front}
+use Rattle.market_types.specs.Rows.{IsNewestFirst, HasLowRequests, row_at, without}
+use Rattle.market_types.proofs.RowOrder.{newest-front}
 use Rattle.wide_rows.specs.Joined.{joined_below, IsAt}
 use Rattle.wide_rows.specs.Shelves.{rows_of, leaf_at, AreLeaves, StandsAlone, FitTogether}
 use Rattle.wide_rows.specs.Storeys.{IsBlock, IsIndexed, block_at}

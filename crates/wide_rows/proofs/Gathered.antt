@@ -4,7 +4,7 @@ use Rattle.std.proofs.Common.{◌≡◌, ℕ, ◌+◌, ◌*◌, ◌^◌, ◌<◌
 use Rattle.std.proofs.lemmas.Bool.{cases_lt, cases_eq}
 use Rattle.std.proofs.lemmas.List.Elements.{All-nil, All-weaker}
 use Rattle.market_types.specs.declared.row.Row.{Row}
-use Rattle.prefix_tree.specs.Rows.{requests}
+use Rattle.market_types.specs.Rows.{requests}
 use Rattle.wide_rows.specs.Joined.{joined_below}
 use Rattle.wide_rows.specs.Storeys.{has_mandated, IsStorey, IsNext, block_of, block_rows, lanes, blocks_for, block_at, IsBlock, IsIndexed}
 use Rattle.wide_rows.specs.declared.index.Index.{Index}

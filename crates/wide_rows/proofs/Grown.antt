@@ -5,10 +5,10 @@ use Rattle.std.proofs.Common.{◌≡◌, ℕ, suc, ◌+◌, ◌-◌, ◌*◌, �
 use Rattle.std.proofs.lemmas.Bool.{cases_lt}
 use Rattle.std.proofs.lemmas.List.Elements.{All-cons}
 use Rattle.market_types.specs.declared.row.Row.{Row}
-use Rattle.prefix_tree.specs.Rows.{IsNewestFirst, HasLowRequests, requests}
-use Rattle.prefix_tree.specs.Bits.{bits}
-use Rattle.prefix_tree.proofs.Ordered.{newest-cons, all-front}
-use Rattle.prefix_tree.proofs.Readings.{requests-cons}
+use Rattle.market_types.specs.Rows.{IsNewestFirst, HasLowRequests, requests}
+use Rattle.market_types.specs.Bits.{bits}
+use Rattle.market_types.proofs.RowOrder.{newest-cons, all-front}
+use Rattle.market_types.proofs.RowReadings.{requests-cons}
 use Rattle.wide_rows.specs.Joined.{joined_below}
 use Rattle.wide_rows.specs.Shelves.{rows_of, leaf_at, AreLeaves}
 use Rattle.wide_rows.specs.Storeys.{IsChange, IsBlock, IsIndexed, block_at}

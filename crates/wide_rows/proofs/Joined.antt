@@ -7,8 +7,8 @@ use Rattle.std.proofs.lemmas.List.Elements.{All-nil, All-append, All-head}
 use Rattle.std.proofs.lemmas.List.{get_or_append_left, get_or-append_right}
 use Rattle.std.proofs.lemmas.Option.{slice_get_within, get_or_from_slice_get}
 use Rattle.market_types.specs.declared.row.Row.{Row}
-use Rattle.prefix_tree.specs.Rows.{IsNewestFirst, requests, first_mandated}
-use Rattle.prefix_tree.proofs.Ordered.{all-front, all-back, newest-tail}
+use Rattle.market_types.specs.Rows.{IsNewestFirst, requests, first_mandated}
+use Rattle.market_types.proofs.RowOrder.{all-front, all-back, newest-tail}
 use Rattle.wide_rows.specs.Joined.{joined_below}
 use Rattle.wide_rows.specs.Storeys.{has_mandated, block_rows}
 use Rattle.wide_rows.proofs.Sums.{added, requests_joined}

@@ -3,7 +3,7 @@ use Rattle.std.specs.declared.alloc.Global.{Global}
 use Rattle.std.proofs.Common.{◌≡◌, ℕ, zero, suc, ◌+◌, ◌-◌, ◌*◌, ◌/◌, ◌%◌, ◌<◌, ◌≤◌, List, ◌++◌, Box, length, get_or, ap, ◌∙◌, inl, inr, arith, length-append}
 use Rattle.std.proofs.lemmas.Bool.{cases_eq}
 use Rattle.market_types.specs.declared.row.Row.{Row}
-use Rattle.prefix_tree.specs.Rows.{requests}
+use Rattle.market_types.specs.Rows.{requests}
 use Rattle.wide_rows.specs.Joined.{joined_below}
 use Rattle.wide_rows.specs.Shelves.{leaf_at, AreLeaves}
 use Rattle.wide_rows.specs.Passed.{AreLeavesPassed, AreRowsPassed}

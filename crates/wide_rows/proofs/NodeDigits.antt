@@ -2,7 +2,7 @@
 use Rattle.std.proofs.Common.{◌≡◌, ℕ, zero, suc, ◌+◌, ◌/◌, ◌<◌, ◌≤◌, refl, arith, inl, inr}
 use Rattle.std.proofs.lemmas.Bool.{cases_lt, lt-ltb, le-ltb}
 use Rattle.std.proofs.lemmas.Int.Digits.{length-digits_of_step, length-digits_of-le}
-use Rattle.prefix_tree.specs.Bits.{bits}
+use Rattle.market_types.specs.Bits.{bits}
 use Rattle.wide_rows.specs.Ways.{least_node, least_put}
 
 -- the digits of a number, from those of its half

@@ -7,8 +7,8 @@ use Rattle.std.proofs.lemmas.List.{append-nil}
 use Rattle.market_types.specs.declared.row.Row.{Row}
 use Rattle.std.proofs.lemmas.List.Sums.{sum_by-le}
 use Rattle.std.proofs.lemmas.List.Elements.{All-weaker}
-use Rattle.prefix_tree.specs.Rows.{IsNewestFirst, requests}
-use Rattle.prefix_tree.proofs.Ordered.{newest-front}
+use Rattle.market_types.specs.Rows.{IsNewestFirst, requests}
+use Rattle.market_types.proofs.RowOrder.{newest-front}
 use Rattle.wide_rows.specs.Joined.{joined_below, IsAt}
 use Rattle.wide_rows.specs.Shelves.{rows_of, leaf_at, AreLeaves}
 use Rattle.wide_rows.proofs.Joined.{newest_of_joined, newest-apart, last_least, all_of_joined, all_get}

@@ -9,8 +9,8 @@ use Rattle.std.proofs.lemmas.List.Sums.{prefix_len_passes, prefix_len_stops}
 use Rattle.std.proofs.lemmas.Nat.Bits.{bit_at_above}
 use Rattle.std.proofs.Math.Nat.{pow-le-pow_right}
 use Rattle.market_types.specs.declared.row.Row.{Row}
-use Rattle.prefix_tree.specs.Rows.{requests, requests_above, first_mandated}
-use Rattle.prefix_tree.proofs.Readings.{filter-all, filter-none}
+use Rattle.market_types.specs.Rows.{requests, requests_above, first_mandated}
+use Rattle.market_types.proofs.RowReadings.{filter-all, filter-none}
 use Rattle.wide_rows.specs.Columns.{sum_above, place_above, total}
 use Rattle.wide_rows.specs.Joined.{joined_below}
 use Rattle.wide_rows.specs.Storeys.{has_mandated, IsStorey, IsPlace, IsNext, IsChange}

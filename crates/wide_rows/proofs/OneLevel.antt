@@ -4,11 +4,11 @@ use Rattle.std.proofs.Common.{◌≡◌, ℕ, suc, ◌+◌, ◌*◌, ◌<◌, �
 use Rattle.std.proofs.lemmas.Bool.{eqb-true, ne_eqb}
 use Rattle.std.proofs.lemmas.List.Elements.{All-cons, All-weaker}
 use Rattle.market_types.specs.declared.row.Row.{Row}
-use Rattle.prefix_tree.specs.Rows.{IsNewestFirst, IsAbsent, HasLowRequests, requests, row_at, without, set_row}
-use Rattle.prefix_tree.proofs.Ordered.{newest-tail, newest-cons, under_here, absent_above}
-use Rattle.prefix_tree.proofs.Readings.{requests-cons, filter-all}
-use Rattle.prefix_tree.proofs.Changes.{set-newest, set-low, set-length, without-newest, without-low, without-length, row-all}
-use Rattle.prefix_tree.proofs.Whole.{requests-le}
+use Rattle.market_types.specs.Rows.{IsNewestFirst, IsAbsent, HasLowRequests, requests, row_at, without, set_row}
+use Rattle.market_types.proofs.RowOrder.{newest-tail, newest-cons, under_here, absent_above}
+use Rattle.market_types.proofs.RowReadings.{requests-cons, filter-all}
+use Rattle.market_types.proofs.RowChanges.{set-newest, set-low, set-length, without-newest, without-low, without-length, row-all}
+use Rattle.market_types.proofs.RowReadings.{requests-le}
 use Rattle.wide_rows.specs.Leveled.{Leveled, HasFewBoxes, IsLevel}
 
 -- one row set

@@ -3,11 +3,11 @@ use Rattle.std.proofs.Common.{subst, Option, Some, ◌≡◌, ℕ, zero, suc, �
 use Rattle.std.proofs.lemmas.Bool.{cases_lt}
 use Rattle.std.proofs.lemmas.List.{append_assoc}
 use Rattle.market_types.specs.declared.row.Row.{Row}
-use Rattle.prefix_tree.specs.Rows.{requests}
-use Rattle.prefix_tree.proofs.Readings.{requests-cons, requests-append}
+use Rattle.market_types.specs.Rows.{requests}
+use Rattle.market_types.proofs.RowReadings.{requests-cons, requests-append}
 use Rattle.wide_rows.specs.declared.columns.Columns.{Columns}
 use Rattle.wide_rows.specs.Leaves.{lane, rows_below, IsTidy}
-use Rattle.prefix_tree.specs.Bits.{bits}
+use Rattle.market_types.specs.Bits.{bits}
 use Rattle.wide_rows.specs.Passed.{IsPassed, IsDue, AreQuads, AreQuadsPassed, AllQuadsPassed, AreBegun, rows_from, rows_left, quad_len, quad_rows, quad_sum, rows_of_quads}
 use Rattle.wide_rows.proofs.Rows.{length-rows}
 

@@ -3,8 +3,8 @@ use Rattle.std.proofs.Common.{◌≡◌, ℕ, zero, suc, ◌+◌, ◌-◌, ◌*�
 use Rattle.std.proofs.lemmas.Bool.{cases_lt}
 use Rattle.std.proofs.lemmas.List.{append_assoc}
 use Rattle.market_types.specs.declared.row.Row.{Row}
-use Rattle.prefix_tree.specs.Rows.{requests}
-use Rattle.prefix_tree.proofs.Readings.{requests-cons, requests-append}
+use Rattle.market_types.specs.Rows.{requests}
+use Rattle.market_types.proofs.RowReadings.{requests-cons, requests-append}
 use Rattle.wide_rows.specs.Leaves.{rows_below}
 use Rattle.wide_rows.specs.Passed.{IsReached}
 

@@ -5,10 +5,10 @@ use Rattle.std.proofs.Common.{◌≡◌, ◌≢◌, ℕ, zero, suc, ◌-◌, ◌
 use Rattle.std.proofs.lemmas.Bool.{ne_eqb, cases_lt, cases_eq}
 use Rattle.std.proofs.lemmas.List.Elements.{All-nil, All-cons, All-head, All-tail}
 use Rattle.market_types.specs.declared.row.Row.{Row}
-use Rattle.prefix_tree.specs.Rows.{IsNewestFirst, IsAbsent, without, set_if, set_row}
-use Rattle.prefix_tree.proofs.Ordered.{newest-head, newest-tail}
-use Rattle.prefix_tree.proofs.Readings.{filter-all}
-use Rattle.prefix_tree.proofs.Changes.{set_if-other, set_if-same}
+use Rattle.market_types.specs.Rows.{IsNewestFirst, IsAbsent, without, set_if, set_row}
+use Rattle.market_types.proofs.RowOrder.{newest-head, newest-tail}
+use Rattle.market_types.proofs.RowReadings.{filter-all}
+use Rattle.market_types.proofs.RowChanges.{set_if-other, set_if-same}
 use Rattle.wide_rows.specs.Leaves.{rows_below}
 
 -- as many rows as lanes

@@ -7,8 +7,8 @@ use Rattle.std.proofs.lemmas.Bool.{cases_lt}
 use Rattle.std.proofs.lemmas.List.Sums.{sum_by-cons, sum_by-append}
 use Rattle.std.proofs.lemmas.List.Elements.{filter-append}
 use Rattle.market_types.specs.declared.row.Row.{Row}
-use Rattle.prefix_tree.specs.Rows.{requests, requests_above}
-use Rattle.prefix_tree.proofs.Readings.{requests-cons, requests-append}
+use Rattle.market_types.specs.Rows.{requests, requests_above}
+use Rattle.market_types.proofs.RowReadings.{requests-cons, requests-append}
 use Rattle.wide_rows.specs.Columns.{sum_above, total}
 use Rattle.wide_rows.specs.Leaves.{rows_below}
 use Rattle.wide_rows.specs.Joined.{joined_below}

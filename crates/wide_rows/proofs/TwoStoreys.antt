@@ -6,7 +6,7 @@ use Rattle.std.proofs.lemmas.Bool.{cases_lt, cases_eq}
 use Rattle.std.proofs.lemmas.List.{get_or-set_same, get_or-set_other, length-set}
 use Rattle.std.proofs.lemmas.List.Elements.{All-nil, All-cons}
 use Rattle.market_types.specs.declared.row.Row.{Row}
-use Rattle.prefix_tree.specs.Rows.{requests}
+use Rattle.market_types.specs.Rows.{requests}
 use Rattle.wide_rows.specs.Joined.{joined_below, IsAt}
 use Rattle.wide_rows.specs.Storeys.{has_mandated, IsStorey, IsPlace, IsChange, block_of, block_rows, lanes, blocks_for, block_at, IsBlock, IsIndexed, IsKnown, WasIndexed}
 use Rattle.wide_rows.specs.declared.index.Index.{Index}

@@ -3,8 +3,8 @@ use Rattle.std.proofs.Common.{◌≡◌, ℕ, ◌+◌, ◌*◌, ◌/◌, ◌<◌
 use Rattle.std.proofs.lemmas.Bool.{cases_lt, false≢true}
 use Rattle.std.proofs.lemmas.List.{append-nil}
 use Rattle.market_types.specs.declared.row.Row.{Row}
-use Rattle.prefix_tree.specs.Rows.{requests}
-use Rattle.prefix_tree.specs.Bits.{bits}
+use Rattle.market_types.specs.Rows.{requests}
+use Rattle.market_types.specs.Bits.{bits}
 use Rattle.wide_rows.specs.Passed.{IsPassed, AreQuadsPassed, AllQuadsPassed, AreRowsPassed, IsCounted, AreBegun, rows_left}
 use Rattle.wide_rows.proofs.Counted.{bits-ge, bits-le}
 use Rattle.wide_rows.proofs.Passing.{begun_in, no_pass}

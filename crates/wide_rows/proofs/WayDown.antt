@@ -4,9 +4,9 @@ use Rattle.std.specs.declared.alloc.Global.{Global}
 use Rattle.std.proofs.Common.{◌≡◌, ℕ, ◌+◌, ◌*◌, ◌/◌, ◌^◌, ◌<◌, ◌≤◌, min, false, is_some, List, Option, Some, None, IfSome, length, Box, refl, sym, ap, ◌∙◌, arith}
 use Rattle.std.proofs.lemmas.Option.{slice_get_past}
 use Rattle.market_types.specs.declared.row.Row.{Row}
-use Rattle.prefix_tree.specs.Rows.{requests, requests_above, first_mandated}
-use Rattle.prefix_tree.specs.Bits.{bits}
-use Rattle.prefix_tree.proofs.Readings.{above-le}
+use Rattle.market_types.specs.Rows.{requests, requests_above, first_mandated}
+use Rattle.market_types.specs.Bits.{bits}
+use Rattle.market_types.proofs.RowReadings.{above-le}
 use Rattle.wide_rows.specs.Columns.{sum_above, total}
 use Rattle.wide_rows.specs.Joined.{joined_below}
 use Rattle.wide_rows.specs.Shelves.{rows_of, leaf_at, AreLeaves}

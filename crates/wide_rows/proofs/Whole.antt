@@ -7,10 +7,10 @@ use Rattle.std.proofs.lemmas.List.Sums.{sum_by-le}
 use Rattle.std.proofs.lemmas.List.Elements.{All-cons, All-append}
 use Rattle.std.proofs.lemmas.Nat.Bits.{bit_at-zero}
 use Rattle.market_types.specs.declared.row.Row.{Row}
-use Rattle.prefix_tree.specs.Rows.{IsNewestFirst, HasLowRequests, requests, requests_above, first_mandated, row_at, without, set_row}
-use Rattle.prefix_tree.proofs.Readings.{above-le}
-use Rattle.prefix_tree.proofs.Changes.{set-newest, set-low, set-none, without-newest, without-low, row-none}
-use Rattle.prefix_tree.proofs.Ordered.{newest-cons}
+use Rattle.market_types.specs.Rows.{IsNewestFirst, HasLowRequests, requests, requests_above, first_mandated, row_at, without, set_row}
+use Rattle.market_types.proofs.RowReadings.{above-le}
+use Rattle.market_types.proofs.RowChanges.{set-newest, set-low, set-none, without-newest, without-low, row-none}
+use Rattle.market_types.proofs.RowOrder.{newest-cons}
 use Rattle.wide_rows.specs.declared.columns.Columns.{Columns}
 use Rattle.wide_rows.specs.Columns.{sum_above, total}
 use Rattle.wide_rows.specs.Leaves.{lane, rows_below, rows_in, IsTidy, IsLeaf}

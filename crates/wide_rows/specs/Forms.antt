@@ -1,6 +1,6 @@
 -- Where the rows of a level stand.
 use Rattle.std.specs.Prelude.{◌≡◌, ℕ, ◌<◌, ◌≤◌, [], length}
-use Rattle.prefix_tree.specs.Rows.{requests}
+use Rattle.market_types.specs.Rows.{requests}
 use Rattle.wide_rows.specs.Leveled.{Leveled, IsLevel}
 use Rattle.wide_rows.specs.declared.level.Form.{Form}
 use Rattle.wide_rows.specs.declared.level.Form.TheVariants.{Empty, Leaf, Shelf}

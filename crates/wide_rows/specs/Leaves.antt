@@ -2,7 +2,7 @@
 use Rattle.std.specs.Prelude.{◌≡◌, ℕ, zero, suc, ◌^◌, ◌<◌, ◌≤◌, ◌==◌, List, [], ◌∷◌, length, slice_index}
 use Rattle.std.specs.Int.{bit_at}
 use Rattle.market_types.specs.declared.row.Row.{Row}
-use Rattle.prefix_tree.specs.Rows.{IsNewestFirst, HasLowRequests}
+use Rattle.market_types.specs.Rows.{IsNewestFirst, HasLowRequests}
 use Rattle.wide_rows.specs.declared.columns.Columns.{Columns}
 
 -- the row in a lane

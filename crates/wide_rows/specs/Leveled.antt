@@ -1,7 +1,7 @@
 -- Levels, as those above them see them, and the boxes that their rows take.
 use Rattle.std.specs.Prelude.{◌≡◌, ℕ, ◌+◌, ◌*◌, ◌/◌, ◌≤◌, min, sum_by, All, List, [], ◌∷◌, length, map, slice_index_or, slice_set}
 use Rattle.market_types.specs.declared.row.Row.{Row}
-use Rattle.prefix_tree.specs.Rows.{IsNewestFirst, HasLowRequests, without}
+use Rattle.market_types.specs.Rows.{IsNewestFirst, HasLowRequests, without}
 
 -- what a level is to those above it: its rows, newest first, and how many leaves and shelves they take
 pub record Leveled : Type 0 where

@@ -1,8 +1,8 @@
 -- Walks through rows, the newest first, that pass over some as a whole.
 use Rattle.std.specs.Prelude.{Option, None, Some, Box, ◌≡◌, ℕ, ◌+◌, ◌-◌, ◌*◌, ◌/◌, ◌<◌, ◌≤◌, min, List, [], ◌∷◌, ◌++◌, length, slice_index}
 use Rattle.market_types.specs.declared.row.Row.{Row}
-use Rattle.prefix_tree.specs.Rows.{requests}
-use Rattle.prefix_tree.specs.Bits.{bits}
+use Rattle.market_types.specs.Rows.{requests}
+use Rattle.market_types.specs.Bits.{bits}
 use Rattle.wide_rows.specs.Leaves.{lane, rows_below, IsTidy}
 use Rattle.std.specs.declared.alloc.Global.{Global}
 use Rattle.wide_rows.specs.Shelves.{leaf_at, AreLeaves}

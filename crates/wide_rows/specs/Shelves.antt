@@ -2,7 +2,7 @@
 use Rattle.std.specs.Prelude.{ℕ, zero, suc, ◌+◌, ◌-◌, ◌<◌, ◌≤◌, List, [], ◌∷◌, ◌++◌, length, Box}
 use Rattle.std.specs.declared.alloc.Global.{Global}
 use Rattle.market_types.specs.declared.row.Row.{Row}
-use Rattle.prefix_tree.specs.Rows.{IsNewestFirst, HasLowRequests}
+use Rattle.market_types.specs.Rows.{IsNewestFirst, HasLowRequests}
 
 -- the rows of leaves, the oldest leaf first: newest first
 abbrev pub rows_of : List (Box (List Row) Global) → List Row

@@ -2,7 +2,7 @@
 use Rattle.std.specs.Prelude.{◌≡◌, ◌≢◌, ℕ, suc, ◌+◌, ◌-◌, ◌*◌, ◌/◌, ◌^◌, ◌<◌, ◌≤◌, min, Bool, is_some, List, [], length, All, slice_index, slice_index_or, if◌then◌else◌}
 use Rattle.std.specs.Int.{bit_at}
 use Rattle.market_types.specs.declared.row.Row.{Row}
-use Rattle.prefix_tree.specs.Rows.{requests, first_mandated}
+use Rattle.market_types.specs.Rows.{requests, first_mandated}
 use Rattle.wide_rows.specs.Joined.{joined_below, Separates, IsAt}
 use Rattle.wide_rows.specs.declared.index.Index.{Index}
 use Rattle.wide_rows.specs.declared.index.Entry.{Entry}

@@ -1,6 +1,6 @@
 -- How many visits a call makes at least at a level of so many rows, of which up to 12 stand in one leaf.
 use Rattle.std.specs.Prelude.{ℕ, ◌+◌, min, nat_lt, if◌then◌else◌}
-use Rattle.prefix_tree.specs.Bits.{bits}
+use Rattle.market_types.specs.Bits.{bits}
 
 -- to go down to a row: the digits of their number where they stand in one leaf; more may stand in two leaves or more, and then the
 -- way is through the top, a block and a leaf, with 1, 2 and 1 digits at least where there is one block, else 2, 1 and 1

@@ -1,6 +1,6 @@
 //! The columns of a leaf, and what is written into one lane of them.
 ghost use Rattle.std.specs.Prelude.{◌≡◌, ℕ, ◌<◌, ◌≤◌, ◌+◌, [], ◌∷◌, ◌++◌, ◌==◌, nat_lt, if◌then◌else◌};
-ghost use Rattle.prefix_tree.specs.Rows.{requests_above};
+ghost use Rattle.market_types.specs.Rows.{requests_above};
 ghost use Rattle.wide_rows.specs.Leaves.{lane, rows_in, IsTidy};
 
 use crate::search::without_lane;

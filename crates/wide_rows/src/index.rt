@@ -12,7 +12,7 @@
 //! on where the stamp stands. A change of one child changes one lane by the difference.
 ghost use Rattle.std.specs.Prelude.{◌≡◌, ℕ, ◌+◌, ◌-◌, ◌^◌, ◌<◌, ◌≤◌, List, length, slice_get, slice_index, MatchOption, false};
 ghost use Rattle.market_types.specs.declared.row.Row.{Row};
-ghost use Rattle.prefix_tree.specs.Rows.{requests, first_mandated};
+ghost use Rattle.market_types.specs.Rows.{requests, first_mandated};
 ghost use Rattle.wide_rows.specs.Columns.{sum_above, total};
 ghost use Rattle.wide_rows.specs.Joined.{joined_below};
 ghost use Rattle.wide_rows.specs.Storeys.{IsStorey, IsPlace, IsNext, IsChange, has_mandated};

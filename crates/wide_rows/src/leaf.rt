@@ -1,7 +1,7 @@
 //! The leaf, and its calls.
 ghost use Rattle.std.specs.Prelude.{◌≡◌, ◌≢◌, ℕ, ◌+◌, ◌-◌, ◌*◌, ◌<◌, ◌≤◌, [], ◌∷◌, ◌++◌, length, slice_get, is_some, All, IfNone, IfSome};
 ghost use Rattle.std.specs.Bool.{OnTrue};
-ghost use Rattle.prefix_tree.specs.Rows.{IsNewestFirst, HasLowRequests, requests, requests_above, first_mandated, row_at, without, set_row};
+ghost use Rattle.market_types.specs.Rows.{IsNewestFirst, HasLowRequests, requests, requests_above, first_mandated, row_at, without, set_row};
 
 use crate::columns::Columns;
 use crate::quads::Quads;

@@ -11,8 +11,8 @@
 //! leaf gives the shelf up again, and the last row of a leaf its leaf. Boxes come from the spare ones and go back to them, so
 //! nothing here takes memory.
 ghost use Rattle.std.specs.Prelude.{◌≡◌, ◌≢◌, ℕ, ◌+◌, ◌*◌, ◌^◌, ◌<◌, ◌≤◌, [], ◌∷◌, length, slice_get, Some, All, IfNone, IfSome};
-ghost use Rattle.prefix_tree.specs.Rows.{requests, requests_above, first_mandated, row_at, without, set_row};
-ghost use Rattle.prefix_tree.specs.Bits.{bits};
+ghost use Rattle.market_types.specs.Rows.{requests, requests_above, first_mandated, row_at, without, set_row};
+ghost use Rattle.market_types.specs.Bits.{bits};
 ghost use Rattle.wide_rows.specs.Leveled.{IsLevel, HasFewBoxes};
 ghost use Rattle.wide_rows.specs.Forms.{leveled, IsFullLeaf, IsIdle};
 ghost use Rattle.wide_rows.specs.Ways.{least_way, least_node, least_put};

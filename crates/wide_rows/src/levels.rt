@@ -25,8 +25,8 @@
 //! - A promoted row is out for a moment: n - 1 rows need no more than n.
 ghost use Rattle.std.specs.Prelude.{◌≡◌, ◌≢◌, ℕ, ◌+◌, ◌*◌, ◌^◌, ◌<◌, ◌≤◌, [], ◌∷◌, length, replicate, slice_get, slice_set, Some, All, IsSome, IfSome, OnOk, OnErr};
 ghost use Rattle.market_types.specs.declared.row.Row.{Row};
-ghost use Rattle.prefix_tree.specs.Rows.{IsNewestFirst, requests, requests_above, first_mandated, row_at, without, set_row};
-ghost use Rattle.prefix_tree.specs.Bits.{bits};
+ghost use Rattle.market_types.specs.Rows.{IsNewestFirst, requests, requests_above, first_mandated, row_at, without, set_row};
+ghost use Rattle.market_types.specs.Bits.{bits};
 ghost use Rattle.wide_rows.specs.Leveled.{rows_at, total_rows, with_first, without_at};
 ghost use Rattle.wide_rows.specs.Passed.{with_height};
 ghost use Rattle.wide_rows.specs.Ways.{least_way, least_node, least_put};

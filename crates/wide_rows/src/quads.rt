@@ -9,8 +9,8 @@
 ghost use Rattle.std.specs.Prelude.{◌≡◌, ℕ, ◌+◌, ◌-◌, ◌*◌, ◌^◌, ◌<◌, ◌≤◌, List, [], ◌∷◌, length, IfNone, IfSome};
 ghost use Rattle.wide_rows.specs.Leaves.{IsLeaf, lane, rows_in};
 ghost use Rattle.wide_rows.specs.Passed.{IsPassed, IsDue, IsReached, AreQuads, AreQuadsPassed, AllQuadsPassed, quad_rows, rows_from, rows_of_quads};
-ghost use Rattle.prefix_tree.specs.Bits.{bits};
-ghost use Rattle.prefix_tree.specs.Rows.{requests};
+ghost use Rattle.market_types.specs.Bits.{bits};
+ghost use Rattle.market_types.specs.Rows.{requests};
 
 use crate::columns::Columns;
 use crate::search;

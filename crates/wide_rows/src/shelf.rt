@@ -15,8 +15,8 @@ ghost use Rattle.std.specs.Prelude.{◌≡◌, ◌≢◌, ℕ, ◌+◌, ◌*◌,
 ghost use Rattle.market_types.specs.declared.row.Row.{Row};
 ghost use Rattle.std.specs.Vec.{vec_capacity};
 ghost use Rattle.std.specs.declared.alloc.Global.{Global};
-ghost use Rattle.prefix_tree.specs.Rows.{IsNewestFirst, HasLowRequests, requests_above, first_mandated, row_at, without, set_row};
-ghost use Rattle.prefix_tree.specs.Bits.{bits};
+ghost use Rattle.market_types.specs.Rows.{IsNewestFirst, HasLowRequests, requests_above, first_mandated, row_at, without, set_row};
+ghost use Rattle.market_types.specs.Bits.{bits};
 ghost use Rattle.wide_rows.specs.Shelves.{leaf_at, StandsAlone, FitTogether};
 
 use crate::index::Change;

@@ -16,8 +16,8 @@
 //! rows (`IsCounted`).
 ghost use Rattle.std.specs.Prelude.{◌≡◌, ◌≢◌, ℕ, ◌+◌, ◌*◌, ◌^◌, ◌<◌, ◌≤◌, List, [], ◌∷◌, ◌++◌, length, IfNone, IfSome};
 ghost use Rattle.std.specs.Bool.{OnTrue, OnFalse};
-ghost use Rattle.prefix_tree.specs.Rows.{requests};
-ghost use Rattle.prefix_tree.specs.Bits.{bits};
+ghost use Rattle.market_types.specs.Rows.{requests};
+ghost use Rattle.market_types.specs.Bits.{bits};
 ghost use Rattle.wide_rows.specs.Joined.{joined_below};
 ghost use Rattle.wide_rows.specs.Shelves.{leaf_at};
 ghost use Rattle.wide_rows.specs.Storeys.{IsIndexed};

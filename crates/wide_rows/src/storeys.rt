@@ -10,8 +10,8 @@
 //! leaf counts as 0, and that of a block is its first leaf's, so there is always a lane to go down.
 ghost use Rattle.std.specs.Prelude.{◌≡◌, ◌≢◌, ℕ, ◌+◌, ◌/◌, ◌^◌, ◌<◌, ◌≤◌, List, [], length, min, All};
 ghost use Rattle.market_types.specs.declared.row.Row.{Row};
-ghost use Rattle.prefix_tree.specs.Bits.{bits};
-ghost use Rattle.prefix_tree.specs.Rows.{requests};
+ghost use Rattle.market_types.specs.Bits.{bits};
+ghost use Rattle.market_types.specs.Rows.{requests};
 ghost use Rattle.wide_rows.specs.Joined.{IsAt};
 ghost use Rattle.wide_rows.specs.Shelves.{leaf_at, AreLeaves};
 ghost use Rattle.wide_rows.specs.Storeys.{IsBlock, IsIndexed, IsKnown, WasIndexed, block_at, blocks_for, has_mandated, lanes};

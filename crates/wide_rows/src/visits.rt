@@ -1,6 +1,6 @@
 //! How much work a search is.
 ghost use Rattle.std.specs.Prelude.{◌≡◌, ◌+◌, ◌^◌, ◌<◌, ◌≤◌};
-ghost use Rattle.prefix_tree.specs.Bits.{bits};
+ghost use Rattle.market_types.specs.Bits.{bits};
 
 /// Enters a node of so many keys, and counts it: a visit for each binary digit of that number, as many as a search by halves takes.
 #[inline(always)]

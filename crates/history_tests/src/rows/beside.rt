@@ -1,6 +1,6 @@
 //! Random calls on the rows in wide nodes and on a tree for each level, side by side: every answer of one is the other's.
 ghost use Rattle.std.specs.Prelude.{◌≡◌, ◌^◌, ◌<◌, ◌≤◌, Some, IfSome, IsTrue};
-ghost use Rattle.prefix_tree.specs.Rows.{IsAbsent, row_at};
+ghost use Rattle.market_types.specs.Rows.{IsAbsent, row_at};
 
 use super::looked::{promoted, pushed, updated};
 use crate::asserts::{holds, same};

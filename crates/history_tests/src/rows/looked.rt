@@ -1,6 +1,6 @@
 //! Calls of the tests that look first whether the levels are as the call requires.
 ghost use Rattle.std.specs.Prelude.{◌≡◌, ◌<◌, ◌≤◌, All, Some, IfSome, IsTrue};
-ghost use Rattle.prefix_tree.specs.Rows.{row_at};
+ghost use Rattle.market_types.specs.Rows.{row_at};
 ghost use Rattle.wide_rows.specs.Leveled.{rows_at};
 
 use crate::asserts::holds;

@@ -1,7 +1,7 @@
 //! Trees, lists of rows, levels, seats and lists of counts.
 ghost use Rattle.std.specs.Prelude.{◌≡◌, ◌<◌, ◌≤◌, ◌∷◌, length, false};
 ghost use Rattle.std.specs.List.{All};
-ghost use Rattle.prefix_tree.specs.Rows.{IsAbsent, insert_row};
+ghost use Rattle.market_types.specs.Rows.{IsAbsent, insert_row};
 ghost use Rattle.wide_rows.specs.Leveled.{rows_at, total_rows, with_first};
 
 use crate::asserts::{holds, same};

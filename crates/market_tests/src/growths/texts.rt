@@ -1,8 +1,7 @@
 //! Texts of commands and replies.
 use crate::asserts::{holds, same};
-use market_types::{
-    ArenaId, Cmd, Correction, Imbalance, Lists, Reply, cmd_text, push_reply, reply_text,
-};
+use market_texts::{cmd_text, push_reply, reply_text};
+use market_types::{ArenaId, Cmd, Correction, Imbalance, Lists, Reply};
 use std::alloc::{AllocError, Global};
 use std::rt::HostRuntime;
 

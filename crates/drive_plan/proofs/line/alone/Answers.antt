@@ -1,5 +1,5 @@
 use Rattle.std.proofs.Common.{refl}
-use Rattle.market_types.proofs.Cuts.{text_fields}
+use Rattle.market_texts.proofs.Cuts.{text_fields}
 use Rattle.drive_plan.proofs.line.alone.Goals as goal
 
 pub returns-in-Some-clause-exact : goal.returns-in-Some-clause-exact

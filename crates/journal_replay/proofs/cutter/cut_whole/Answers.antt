@@ -2,9 +2,9 @@ use Rattle.std.proofs.Common.{rules, ◌≡◌, ◌+◌, ◌∷◌, ◌∙◌, [
 use Rattle.json.specs.Lex.{token}
 use Rattle.json.specs.Token.{number as number_token}
 use Rattle.json.specs.Word.{ends_word}
-use Rattle.market_types.specs.Fields.{front_digits}
-use Rattle.market_types.specs.Reading.{number, number_below}
-use Rattle.market_types.proofs.Numbers.{are_front}
+use Rattle.market_texts.specs.Fields.{front_digits}
+use Rattle.market_texts.specs.Reading.{number, number_below}
+use Rattle.market_texts.proofs.Numbers.{are_front}
 use Rattle.journal_replay.proofs.CutLines.{cut-digits, cut-then}
 use Rattle.journal_replay.proofs.cutter.cut_whole.Goals as goal
 

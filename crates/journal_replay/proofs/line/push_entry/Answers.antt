@@ -1,5 +1,5 @@
 use Rattle.std.proofs.Common.{rules, ◌++◌, ◌∙◌, ap, decimal}
-use Rattle.market_types.specs.Texts.{cmd_text, reply_text}
+use Rattle.market_texts.specs.Texts.{cmd_text, reply_text}
 use Rattle.journal_replay.proofs.PlainWritten.{plain-cmd, plain-reply}
 use Rattle.journal_replay.proofs.PushedEntries.{grown-ok, pushed-entry}
 use Rattle.journal_replay.proofs.line.push_entry.Goals as goal

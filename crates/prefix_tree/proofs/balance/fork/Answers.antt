@@ -1,6 +1,7 @@
 use Rattle.std.proofs.Common.{arith, ◌≡◌, max}
 use Rattle.prefix_tree.proofs.Heights.{filled_node}
-use Rattle.prefix_tree.proofs.Readings.{mandates-le, length-node, requests-node, mandates-node}
+use Rattle.prefix_tree.proofs.Readings.{mandates-le, mandates-node}
+use Rattle.market_types.proofs.RowReadings.{length-node, requests-node}
 use Rattle.prefix_tree.proofs.balance.fork.Goals as goal
 
 pub invariant_of-result : goal.invariant_of-result

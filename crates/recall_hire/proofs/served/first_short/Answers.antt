@@ -1,5 +1,5 @@
 use Rattle.std.proofs.Common.{◌≡◌, ◌*◌, ◌≤◌, ◌++◌, [], length, arith}
-use Rattle.prefix_tree.specs.Bits.{bits}
+use Rattle.market_types.specs.Bits.{bits}
 use Rattle.wide_rows.proofs.Counted.{bits-mono}
 use Rattle.recall_hire.proofs.Searches.{IsPart, next-part, due-past, none-due, search-ends, search-finds, search-goes-on}
 use Rattle.recall_hire.proofs.Askers.{asks-none, asks-next}

@@ -1,6 +1,6 @@
 use Rattle.std.proofs.Common.{◌≡◌, ℕ, ◌+◌, ◌*◌, ◌^◌, ◌<◌, ◌≤◌, length, Option}
-use Rattle.prefix_tree.specs.Rows.{requests}
-use Rattle.prefix_tree.specs.Bits.{bits}
+use Rattle.market_types.specs.Rows.{requests}
+use Rattle.market_types.specs.Bits.{bits}
 use Rattle.recall_hire.specs.Shared.{IsSearch}
 use Rattle.recall_hire.proofs.served.first_short.Given as goal
 

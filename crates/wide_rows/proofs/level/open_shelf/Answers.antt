@@ -1,8 +1,8 @@
 use Rattle.std.specs.Prelude.{All}
 use Rattle.std.proofs.Common.{◌≡◌, ◌<◌, [], ◌∷◌, ◌++◌, List, sym, ap, subst, ◌∙◌}
 use Rattle.market_types.specs.declared.row.Row.{Row}
-use Rattle.prefix_tree.specs.Rows.{IsNewestFirst}
-use Rattle.prefix_tree.proofs.Ordered.{newest-cons}
+use Rattle.market_types.specs.Rows.{IsNewestFirst}
+use Rattle.market_types.proofs.RowOrder.{newest-cons}
 use Rattle.wide_rows.specs.Forms.{leveled}
 use Rattle.wide_rows.proofs.level.open_shelf.Goals as goal
 

@@ -1,6 +1,6 @@
 use Rattle.std.proofs.Common.{◌≡◌, ◌+◌, length, ap, ◌∙◌, sym, arith}
-use Rattle.prefix_tree.specs.Bits.{bits}
-use Rattle.prefix_tree.specs.Rows.{without}
+use Rattle.market_types.specs.Bits.{bits}
+use Rattle.market_types.specs.Rows.{without}
 use Rattle.wide_rows.specs.Forms.{leveled}
 use Rattle.wide_rows.proofs.OneLevel.{without_most}
 use Rattle.wide_rows.proofs.level.take_from.Goals as goal

@@ -1,7 +1,7 @@
 use Rattle.std.proofs.Common.{◌≡◌, ℕ, ◌+◌, ◌-◌, ◌*◌, ◌^◌, ◌<◌, ◌≤◌, ◌∙◌, ap, subst, sym, arith}
 use Rattle.std.proofs.lemmas.Nat.{mul-le}
 use Rattle.market_types.specs.declared.row.Row.{Row}
-use Rattle.prefix_tree.specs.Rows.{requests}
+use Rattle.market_types.specs.Rows.{requests}
 use Rattle.wide_rows.specs.Leaves.{lane}
 use Rattle.wide_rows.specs.Passed.{rows_from}
 use Rattle.wide_rows.proofs.Reaching.{IsReaching, reaching_one, reaching_no, reaching_small}

@@ -2,7 +2,7 @@ use Rattle.std.specs.Box.{with_value}
 use Rattle.std.specs.declared.alloc.Global.{Global}
 use Rattle.std.proofs.Common.{◌≡◌, ◌+◌, ◌++◌, suc, List, Box, length, ap, sym, subst, ◌∙◌, arith}
 use Rattle.market_types.specs.declared.row.Row.{Row}
-use Rattle.prefix_tree.specs.Rows.{IsNewestFirst}
+use Rattle.market_types.specs.Rows.{IsNewestFirst}
 use Rattle.wide_rows.specs.Shelves.{leaf_at}
 use Rattle.wide_rows.proofs.OfShelves.{leaf_there}
 use Rattle.wide_rows.proofs.Edits.{leaf_out_below, leaf_out_above, leaf_set_same, leaf_set_other}

@@ -1,5 +1,5 @@
 use Rattle.std.proofs.Common.{List, is_some, length, ap, ◌∙◌}
-use Rattle.prefix_tree.specs.Rows.{requests, first_mandated}
+use Rattle.market_types.specs.Rows.{requests, first_mandated}
 use Rattle.market_types.specs.declared.row.Row.{Row}
 use Rattle.wide_rows.proofs.OfShelves.{leaf_there}
 use Rattle.wide_rows.proofs.storeys.entry_of.Goals as goal

@@ -1,5 +1,5 @@
 use Rattle.std.proofs.Common.{arith, ap, ◌∙◌, ◌≡◌, ◌-◌}
-use Rattle.prefix_tree.specs.Rows.{requests_above}
+use Rattle.market_types.specs.Rows.{requests_above}
 use Rattle.arena_store.proofs.LevelRows.{level_rows-before}
 use Rattle.arena_store.proofs.Stored.{list-at, list-least, list-alone, list-visits, all-visits}
 use Rattle.arena_store.proofs.store.Arenas.before.Goals as goal

@@ -1,6 +1,6 @@
 use Rattle.std.proofs.Common.{arith, sym, ap, ◌∙◌, ◌≡◌, ◌-◌, cond, ltb, set, List, Some, Err, refl}
 use Rattle.std.proofs.lemmas.Result.{err_from_is_err_and}
-use Rattle.prefix_tree.specs.Rows.{set_row}
+use Rattle.market_types.specs.Rows.{set_row}
 use Rattle.market_types.specs.State.{Claim, Arena}
 use Rattle.market_types.specs.Step.{arena_at, with_claim}
 use Rattle.market_types.specs.declared.row.Row.{Row}

@@ -1,5 +1,5 @@
 use Rattle.std.proofs.Common.{arith, ap, ◌∙◌, ◌≡◌, ◌-◌}
-use Rattle.prefix_tree.specs.Rows.{requests}
+use Rattle.market_types.specs.Rows.{requests}
 use Rattle.arena_store.specs.Store.{by_stamp}
 use Rattle.arena_store.proofs.LevelRows.{level_rows-demand}
 use Rattle.arena_store.proofs.Stored.{list-at}

@@ -1,7 +1,7 @@
 use Rattle.std.specs.Prelude.{IfSome}
 use Rattle.std.proofs.Common.{arith, sym, ap, subst, ◌∙◌, ◌-◌, ◌+◌, ◌≤◌, ◌*◌, length, Option, ◌≡◌}
 use Rattle.std.specs.Option.{option_map}
-use Rattle.prefix_tree.specs.Bits.{bits}
+use Rattle.market_types.specs.Bits.{bits}
 use Rattle.market_types.specs.declared.row.Row.{Row}
 use Rattle.wide_rows.specs.Leveled.{rows_at}
 use Rattle.wide_rows.specs.Ways.{least_way}

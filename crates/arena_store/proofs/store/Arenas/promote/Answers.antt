@@ -1,6 +1,6 @@
 use Rattle.std.proofs.Common.{arith, refl, sym, ap, ◌∙◌, ◌≡◌, ◌-◌, Some}
 use Rattle.std.proofs.lemmas.Option.{none-some}
-use Rattle.prefix_tree.specs.Rows.{row_at}
+use Rattle.market_types.specs.Rows.{row_at}
 use Rattle.market_types.specs.State.{Arena}
 use Rattle.market_types.specs.Step.{arena_at}
 use Rattle.wide_rows.specs.Leveled.{rows_at, with_first, without_at}

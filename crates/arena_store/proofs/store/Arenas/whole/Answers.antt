@@ -1,7 +1,7 @@
 use Rattle.std.proofs.Common.{arith, ap, ◌∙◌, ◌-◌, ◌≡◌, ℕ, List}
 use Rattle.market_types.specs.declared.row.Row.{Row}
 use Rattle.market_types.specs.Allotment.{at_level}
-use Rattle.prefix_tree.specs.Rows.{requests}
+use Rattle.market_types.specs.Rows.{requests}
 use Rattle.arena_store.specs.Store.{by_stamp}
 use Rattle.arena_store.proofs.Stored.{list-at, list-few, list-height, all-few}
 use Rattle.arena_store.proofs.Indices.{requests-rows}

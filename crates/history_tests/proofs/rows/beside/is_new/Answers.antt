@@ -1,6 +1,6 @@
 use Rattle.std.proofs.Common.{◌∙◌, sym}
 use Rattle.std.proofs.lemmas.Bool.{ltb-true}
-use Rattle.prefix_tree.proofs.Ordered.{absent_above}
+use Rattle.market_types.proofs.RowOrder.{absent_above}
 use Rattle.history_tests.proofs.Seen.{first-older}
 use Rattle.history_tests.proofs.rows.beside.is_new.Goals as goal
 

@@ -1,7 +1,7 @@
 use Rattle.std.proofs.Common.{◌∙◌, [], sym, arith}
 use Rattle.std.proofs.lemmas.Bool.{ltb-true}
 use Rattle.std.proofs.lemmas.List.Elements.{All-get_or}
-use Rattle.prefix_tree.specs.Rows.{IsNewestFirst}
+use Rattle.market_types.specs.Rows.{IsNewestFirst}
 use Rattle.wide_rows.specs.Leveled.{rows_at}
 use Rattle.history_tests.proofs.Seen.{first-older}
 use Rattle.history_tests.proofs.rows.looked.is_newest.Goals as goal

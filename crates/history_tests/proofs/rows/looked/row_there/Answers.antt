@@ -1,6 +1,6 @@
 use Rattle.std.proofs.Common.{[], arith}
 use Rattle.std.proofs.lemmas.List.Elements.{All-get_or}
-use Rattle.prefix_tree.specs.Rows.{IsNewestFirst}
+use Rattle.market_types.specs.Rows.{IsNewestFirst}
 use Rattle.wide_rows.specs.Leveled.{rows_at}
 use Rattle.history_tests.proofs.Seen.{if-there}
 use Rattle.history_tests.proofs.rows.looked.row_there.Goals as goal

@@ -1,6 +1,6 @@
 use Rattle.std.proofs.Common.{ap, sym, ◌∙◌}
 use Rattle.market_types.specs.State.{State}
-use Rattle.market_types.specs.Script.{answer_to}
+use Rattle.market_texts.specs.Script.{answer_to}
 use Rattle.edit_history.specs.Chronicled.{market_of}
 use Rattle.market_prog.specs.Sessions.{answer_by}
 use Rattle.market_prog.specs.Recorded.{entries_to}

@@ -1,5 +1,5 @@
 use Rattle.std.proofs.Common.{sym, not, eqb}
-use Rattle.market_types.specs.Script.{answer_to}
+use Rattle.market_texts.specs.Script.{answer_to}
 use Rattle.market_prog.specs.Sessions.{answer_by}
 use Rattle.market_prog.proofs.Answered.{silent-state, silent-text, answer-heard, heard-state, heard-text}
 use Rattle.market_prog.proofs.session.SessionLineTaker.take_line.Goals as goal

@@ -1,5 +1,5 @@
 use Rattle.std.proofs.Common.{◌≡◌, ◌+◌, ◌≤◌, length, ◌<◌}
-use Rattle.prefix_tree.specs.Rows.{first_mandated}
+use Rattle.market_types.specs.Rows.{first_mandated}
 use Rattle.prefix_tree.proofs.side.Side.first_mandated.Given as goal
 
 abbrev pub invariant-loop-node : goal.invariant-loop-node

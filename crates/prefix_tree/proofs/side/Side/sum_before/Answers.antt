@@ -1,5 +1,5 @@
 use Rattle.std.proofs.Common.{arith, ap, ◌<◌, ℕ}
-use Rattle.prefix_tree.proofs.Readings.{above-le}
+use Rattle.market_types.proofs.RowReadings.{above-le}
 use Rattle.prefix_tree.proofs.AtNode.{top_node, node_requests, right_above, left_above, here_above}
 use Rattle.prefix_tree.proofs.side.Side.sum_before.Goals as goal
 use Rattle.prefix_tree.proofs.side.Side.sum_before.Goals.{then-stamp-node-2, else-stamp-node-2}

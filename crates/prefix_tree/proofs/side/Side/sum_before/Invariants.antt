@@ -1,5 +1,5 @@
 use Rattle.std.proofs.Common.{◌≡◌, ◌+◌, ◌≤◌, length, ◌<◌}
-use Rattle.prefix_tree.specs.Rows.{requests, requests_above}
+use Rattle.market_types.specs.Rows.{requests, requests_above}
 use Rattle.prefix_tree.proofs.side.Side.sum_before.Given as goal
 
 abbrev pub invariant-loop-node : goal.invariant-loop-node

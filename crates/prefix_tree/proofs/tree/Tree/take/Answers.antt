@@ -1,5 +1,5 @@
 use Rattle.std.proofs.Common.{arith, ◌≤◌}
-use Rattle.prefix_tree.proofs.Changes.{absent_without, row-all}
+use Rattle.market_types.proofs.RowChanges.{absent_without, row-all}
 use Rattle.prefix_tree.proofs.Whole.{small_tree, tree_height, removed, room_again}
 use Rattle.prefix_tree.proofs.tree.Tree.take.Goals as goal
 

@@ -1,5 +1,5 @@
 use Rattle.std.proofs.Common.{arith}
-use Rattle.prefix_tree.proofs.Whole.{requests-le}
+use Rattle.market_types.proofs.RowReadings.{requests-le}
 use Rattle.prefix_tree.proofs.tree.Tree.total.Goals as goal
 
 pub returns-clause-most : goal.returns-clause-most

@@ -1,6 +1,6 @@
 use Rattle.std.proofs.Common.{ap, length, ◌∙◌, arith}
-use Rattle.prefix_tree.specs.Rows.{requests}
-use Rattle.prefix_tree.proofs.Readings.{requests-cons}
+use Rattle.market_types.specs.Rows.{requests}
+use Rattle.market_types.proofs.RowReadings.{requests-cons}
 use Rattle.recall_hire.proofs.Searches.{look-ends, look-finds, look-goes-on}
 use Rattle.recall_hire.proofs.walk.Search.first_by_rows.Goals as goal
 

@@ -1,5 +1,5 @@
 use Rattle.std.proofs.Common.{ℕ, ◌+◌, ◌^◌, ◌<◌, ◌≤◌, length, Option}
-use Rattle.prefix_tree.specs.Rows.{requests}
+use Rattle.market_types.specs.Rows.{requests}
 use Rattle.recall_hire.specs.Shared.{CanShare, IsLook}
 use Rattle.recall_hire.proofs.walk.Search.first_by_rows.Given as goal
 

@@ -1,5 +1,5 @@
 use Rattle.std.proofs.Common.{◌*◌, ap, length, refl, arith}
-use Rattle.prefix_tree.specs.Bits.{bits}
+use Rattle.market_types.specs.Bits.{bits}
 use Rattle.wide_rows.proofs.Counted.{bits-mono}
 use Rattle.recall_hire.proofs.Shares.{after-le}
 use Rattle.recall_hire.proofs.Searches.{IsPart, IsNext, next-part, due-past, none-due, search-ends, search-finds, search-goes-on}

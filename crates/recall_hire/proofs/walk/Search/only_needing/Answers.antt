@@ -1,5 +1,5 @@
 use Rattle.std.proofs.Common.{◌+◌, ◌*◌, ◌<◌, ◌≤◌, [], ◌∷◌, None, refl}
-use Rattle.prefix_tree.specs.Bits.{bits}
+use Rattle.market_types.specs.Bits.{bits}
 use Rattle.recall_hire.proofs.Searches.{next-only, only-idle, only-ends, look-ends, look-finds, look-goes-on, search-finds}
 use Rattle.recall_hire.proofs.walk.Search.only_needing.Goals as goal
 

@@ -1,6 +1,6 @@
 use Rattle.std.specs.List.{slice_get}
 use Rattle.std.proofs.Common.{◌-◌, ◌<◌, length, ap, ◌∙◌, arith, length-append}
-use Rattle.prefix_tree.proofs.Readings.{get_left}
+use Rattle.market_types.proofs.RowReadings.{get_left}
 use Rattle.wide_rows.specs.Joined.{joined_below}
 use Rattle.wide_rows.proofs.Joined.{split_newest, get_later}
 use Rattle.wide_rows.proofs.index.Index.row_at.Goals as goal

@@ -1,5 +1,5 @@
 use Rattle.std.proofs.Common.{◌≡◌, ◌++◌, length, ap, sym, subst, ◌∙◌, arith}
-use Rattle.prefix_tree.specs.Rows.{IsNewestFirst}
+use Rattle.market_types.specs.Rows.{IsNewestFirst}
 use Rattle.wide_rows.specs.Leaves.{lane, rows_in}
 use Rattle.wide_rows.proofs.Rows.{length-rows}
 use Rattle.wide_rows.proofs.Whole.{joined_leaf}

@@ -1,5 +1,5 @@
 use Rattle.std.proofs.Common.{ap, sym, ◌∙◌, Some}
-use Rattle.prefix_tree.specs.Rows.{first_mandated}
+use Rattle.market_types.specs.Rows.{first_mandated}
 use Rattle.wide_rows.proofs.Whole.{none_mandated, top_within, top_mandated}
 use Rattle.wide_rows.proofs.leaf.Leaf.first_mandated.Goals as goal
 

@@ -1,6 +1,6 @@
 use Rattle.std.proofs.Common.{not, is_some, ap, sym, ◌∙◌, inl, inr, eq-eqb}
 use Rattle.std.proofs.lemmas.Bool.{cases_eq, ne_eqb}
-use Rattle.prefix_tree.specs.Rows.{first_mandated}
+use Rattle.market_types.specs.Rows.{first_mandated}
 use Rattle.market_types.specs.declared.row.Row.{Row}
 use Rattle.std.proofs.Common.{List, Option}
 use Rattle.wide_rows.proofs.Whole.{none_mandated, top_mandated}

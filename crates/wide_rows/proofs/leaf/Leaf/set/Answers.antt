@@ -1,5 +1,5 @@
 use Rattle.std.proofs.Common.{◌≡◌, ap, subst, ◌∙◌, arith}
-use Rattle.prefix_tree.specs.Rows.{set_row}
+use Rattle.market_types.specs.Rows.{set_row}
 use Rattle.wide_rows.specs.Leaves.{rows_in}
 use Rattle.wide_rows.proofs.Whole.{set_nowhere, set_there, set_leaf}
 use Rattle.wide_rows.proofs.leaf.Leaf.set.Goals as goal

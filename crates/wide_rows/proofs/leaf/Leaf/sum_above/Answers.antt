@@ -1,6 +1,6 @@
 use Rattle.std.proofs.Common.{ap, ◌∙◌, ◌≡◌, ◌∷◌, [], arith}
 use Rattle.wide_rows.specs.Leaves.{lane, rows_in, rows_below}
-use Rattle.prefix_tree.specs.Rows.{requests_above}
+use Rattle.market_types.specs.Rows.{requests_above}
 use Rattle.wide_rows.proofs.Whole.{above_rows, above_low, total_rows, rows_low}
 use Rattle.wide_rows.proofs.leaf.Leaf.sum_above.Goals as goal
 

@@ -1,5 +1,5 @@
 use Rattle.std.proofs.Common.{◌≡◌, ap, subst, ◌∙◌, Some, arith}
-use Rattle.prefix_tree.specs.Rows.{row_at, without}
+use Rattle.market_types.specs.Rows.{row_at, without}
 use Rattle.wide_rows.specs.Leaves.{rows_in}
 use Rattle.wide_rows.proofs.Whole.{row_there, row_nowhere, removed_there, without_nowhere, without_leaf}
 use Rattle.wide_rows.proofs.leaf.Leaf.take.Goals as goal

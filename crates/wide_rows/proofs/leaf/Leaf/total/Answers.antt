@@ -1,5 +1,5 @@
 use Rattle.std.proofs.Common.{ap, ◌∙◌, arith}
-use Rattle.prefix_tree.specs.Rows.{requests}
+use Rattle.market_types.specs.Rows.{requests}
 use Rattle.wide_rows.proofs.Whole.{total_rows, rows_low}
 use Rattle.wide_rows.proofs.leaf.Leaf.total.Goals as goal
 

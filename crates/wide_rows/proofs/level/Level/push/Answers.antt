@@ -1,8 +1,8 @@
 use Rattle.std.proofs.Common.{◌≡◌, ◌+◌, ◌*◌, ◌/◌, ◌<◌, ◌≤◌, ◌∷◌, length, ap, ◌∙◌, sym, subst, arith}
 use Rattle.std.specs.Prelude.{All}
-use Rattle.prefix_tree.specs.Bits.{bits}
-use Rattle.prefix_tree.specs.Rows.{requests}
-use Rattle.prefix_tree.proofs.Readings.{requests-cons}
+use Rattle.market_types.specs.Bits.{bits}
+use Rattle.market_types.specs.Rows.{requests}
+use Rattle.market_types.proofs.RowReadings.{requests-cons}
 use Rattle.wide_rows.specs.Leveled.{HasFewBoxes, IsLevel}
 use Rattle.wide_rows.specs.Forms.{leveled}
 use Rattle.wide_rows.specs.Shelves.{Shelved}

@@ -1,5 +1,5 @@
 use Rattle.std.proofs.Common.{◌≡◌, ◌<◌, length, ap, ◌∙◌, sym, arith}
-use Rattle.prefix_tree.specs.Bits.{bits}
+use Rattle.market_types.specs.Bits.{bits}
 use Rattle.wide_rows.specs.Forms.{leveled}
 use Rattle.wide_rows.proofs.NodeDigits.{node-leaf, node-shelf}
 use Rattle.wide_rows.proofs.WayDown.{if_some}

@@ -1,6 +1,6 @@
 use Rattle.std.proofs.Common.{◌≡◌, ap, ◌∙◌, sym, arith, Some, None}
-use Rattle.prefix_tree.specs.Rows.{requests, row_at}
-use Rattle.prefix_tree.proofs.Updates.{request-within}
+use Rattle.market_types.specs.Rows.{requests, row_at}
+use Rattle.market_types.proofs.RowReadings.{request-within}
 use Rattle.wide_rows.specs.Leveled.{IsLevel}
 use Rattle.wide_rows.specs.Forms.{leveled}
 use Rattle.wide_rows.proofs.OneLevel.{level_without, without_missing, without_requests}

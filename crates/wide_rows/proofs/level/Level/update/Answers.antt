@@ -1,7 +1,8 @@
 use Rattle.std.proofs.Common.{◌≡◌, ◌+◌, ◌-◌, ◌<◌, length, refl, ap, ◌∙◌, arith, Some}
-use Rattle.prefix_tree.specs.Bits.{bits}
-use Rattle.prefix_tree.specs.Rows.{row_at, set_row}
-use Rattle.prefix_tree.proofs.Updates.{set-requests, request-within}
+use Rattle.market_types.specs.Bits.{bits}
+use Rattle.market_types.specs.Rows.{row_at, set_row}
+use Rattle.market_types.proofs.RowChanges.{set-requests}
+use Rattle.market_types.proofs.RowReadings.{request-within}
 use Rattle.wide_rows.specs.Leveled.{IsLevel}
 use Rattle.wide_rows.proofs.NodeDigits.{node-leaf, node-shelf}
 use Rattle.wide_rows.specs.Forms.{leveled}

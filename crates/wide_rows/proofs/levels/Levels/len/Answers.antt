@@ -1,6 +1,6 @@
 use Rattle.std.specs.Prelude.{All}
 use Rattle.std.proofs.Common.{subst}
-use Rattle.prefix_tree.specs.Rows.{IsNewestFirst}
+use Rattle.market_types.specs.Rows.{IsNewestFirst}
 use Rattle.wide_rows.proofs.EightLevels.{newest-each}
 use Rattle.wide_rows.proofs.levels.Levels.len.Goals as goal
 

@@ -1,7 +1,7 @@
 use Rattle.std.specs.Prelude.{All}
 use Rattle.std.proofs.Common.{◌≡◌, ◌-◌, ◌<◌, length, ap, ◌∙◌, sym, subst, arith, get_or, set, Some}
 use Rattle.market_types.specs.declared.row.Row.{Row}
-use Rattle.prefix_tree.specs.Rows.{row_at}
+use Rattle.market_types.specs.Rows.{row_at}
 use Rattle.wide_rows.specs.Leveled.{Leveled, AreLevels, rows_of_each, rows_at, with_first, without_at}
 use Rattle.wide_rows.proofs.NodeDigits.{bits-few}
 use Rattle.wide_rows.proofs.OneLevel.{row_low, without_length}

@@ -1,7 +1,7 @@
 use Rattle.std.proofs.Common.{◌+◌, ◌*◌, ◌<◌, List, length, ap, sym, ◌∙◌, arith}
-use Rattle.prefix_tree.specs.Rows.{first_mandated}
+use Rattle.market_types.specs.Rows.{first_mandated}
 use Rattle.market_types.specs.declared.row.Row.{Row}
-use Rattle.prefix_tree.specs.Bits.{bits}
+use Rattle.market_types.specs.Bits.{bits}
 use Rattle.wide_rows.specs.Shelves.{Shelved, leaf_at}
 use Rattle.wide_rows.specs.Storeys.{block_of, block_rows, lanes, blocks_for}
 use Rattle.wide_rows.proofs.OfShelves.{leaf_there}

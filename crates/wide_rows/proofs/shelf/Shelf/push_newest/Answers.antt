@@ -3,7 +3,7 @@ use Rattle.std.specs.Box.{with_value}
 use Rattle.std.specs.declared.alloc.Global.{Global}
 use Rattle.std.proofs.Common.{◌≡◌, ◌+◌, ◌-◌, ◌/◌, ◌<◌, ◌≤◌, [], ◌∷◌, ℕ, List, Some, Box, length, set, ap, sym, subst, ◌∙◌, arith}
 use Rattle.std.proofs.lemmas.List.Elements.{All-pop}
-use Rattle.prefix_tree.specs.Bits.{bits}
+use Rattle.market_types.specs.Bits.{bits}
 use Rattle.market_types.specs.declared.row.Row.{Row}
 use Rattle.wide_rows.specs.Shelves.{Shelved, rows_of, leaf_at, AreLeaves}
 use Rattle.wide_rows.specs.Storeys.{WasIndexed, IsBlock, block_at}

@@ -4,8 +4,8 @@ use Rattle.std.specs.declared.alloc.Global.{Global}
 use Rattle.std.proofs.Common.{◌≡◌, [], List, Some, None, Box, length, ap, sym, subst, ◌∙◌, arith}
 use Rattle.std.proofs.lemmas.List.{length-set}
 use Rattle.std.proofs.lemmas.List.Elements.{All-push}
-use Rattle.prefix_tree.specs.Rows.{row_at, without}
-use Rattle.prefix_tree.specs.Bits.{bits}
+use Rattle.market_types.specs.Rows.{row_at, without}
+use Rattle.market_types.specs.Bits.{bits}
 use Rattle.market_types.specs.declared.row.Row.{Row}
 use Rattle.wide_rows.specs.Shelves.{Shelved, leaf_at}
 use Rattle.wide_rows.proofs.OfShelves.{leaf_there}

@@ -1,8 +1,8 @@
 use Rattle.std.specs.Box.{with_value}
 use Rattle.std.proofs.Common.{◌≡◌, ◌<◌, Some, length, ap, ◌∙◌, arith}
 use Rattle.std.proofs.lemmas.List.{length-set}
-use Rattle.prefix_tree.specs.Rows.{row_at, set_row}
-use Rattle.prefix_tree.specs.Bits.{bits}
+use Rattle.market_types.specs.Rows.{row_at, set_row}
+use Rattle.market_types.specs.Bits.{bits}
 use Rattle.wide_rows.specs.Shelves.{Shelved, rows_of, leaf_at}
 use Rattle.wide_rows.proofs.OfShelves.{leaf_there}
 use Rattle.wide_rows.proofs.NodeDigits.{bits-some}

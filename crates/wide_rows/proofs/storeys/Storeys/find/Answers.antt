@@ -1,6 +1,6 @@
 use Rattle.std.proofs.Common.{◌≡◌, ◌+◌, ◌*◌, ◌/◌, List, length, min, ap, ◌∙◌, arith}
 use Rattle.market_types.specs.declared.row.Row.{Row}
-use Rattle.prefix_tree.specs.Bits.{bits}
+use Rattle.market_types.specs.Bits.{bits}
 use Rattle.wide_rows.specs.Shelves.{leaf_at}
 use Rattle.wide_rows.specs.Storeys.{block_of, block_rows, lanes, blocks_for}
 use Rattle.wide_rows.proofs.Counted.{bits-le, bits-mono}

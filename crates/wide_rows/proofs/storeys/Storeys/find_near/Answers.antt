@@ -1,7 +1,7 @@
 use Rattle.std.proofs.Common.{length, ap, ◌∙◌, arith}
 use Rattle.market_types.specs.declared.row.Row.{Row}
 use Rattle.std.proofs.Common.{List}
-use Rattle.prefix_tree.specs.Bits.{bits}
+use Rattle.market_types.specs.Bits.{bits}
 use Rattle.wide_rows.proofs.Counted.{bits-le}
 use Rattle.wide_rows.proofs.OfShelves.{leaf_there, in_leaf}
 use Rattle.wide_rows.proofs.storeys.Storeys.find_near.Goals as goal

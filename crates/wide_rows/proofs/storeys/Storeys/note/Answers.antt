@@ -1,5 +1,5 @@
 use Rattle.std.proofs.Common.{◌≡◌, ◌+◌, ◌*◌, ◌/◌, ◌%◌, List, is_some, length, ap, ◌∙◌, arith}
-use Rattle.prefix_tree.specs.Rows.{first_mandated}
+use Rattle.market_types.specs.Rows.{first_mandated}
 use Rattle.market_types.specs.declared.row.Row.{Row}
 use Rattle.wide_rows.specs.Shelves.{leaf_at}
 use Rattle.wide_rows.specs.Storeys.{IsStorey, block_of, block_rows, lanes, blocks_for}
