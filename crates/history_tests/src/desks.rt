@@ -2,7 +2,7 @@
 
 use crate::asserts::{holds, same};
 use edit_history::{CallFault, Chronicle};
-use market_desk::Desk;
+use market_lock::Desk;
 use market_types::{ArenaId, Cmd, Level, OpenFault, Reply, SeatNo};
 use std::alloc::Global;
 use std::process::Abort;

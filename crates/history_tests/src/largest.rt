@@ -9,7 +9,7 @@ use byte_devices::TestSink;
 use edit_history::{Chronicle, Keeping, Part, Terms};
 use explainer::explain;
 use journal_replay::{Extent, Header, write_header, write_part};
-use market_desk::Desk;
+use market_lock::Desk;
 use market_types::{ArenaId, Cmd, Correction, LastNumber, Level, Opening, Reply, SeatNo};
 use std::alloc::{AllocError, Global};
 use std::process::Abort;

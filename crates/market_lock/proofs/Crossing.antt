@@ -6,11 +6,15 @@ use Rattle.std.proofs.Crossing.{crosses, frees, send as heap_send, sync as heap_
 use Rattle.atomic_table.proofs.shared.Shared.TheSendSync.{the_sync as shared_sync}
 use Rattle.atomic_table.proofs.send_lease.SendLease.TheSendSync.{the_sync as lease_sync}
 use Rattle.atomic_table.proofs.shared.Seat.TheSendSync.{the_send as seat_send}
-use Rattle.market_desk.proofs.Crossing.{desk_send}
+use Rattle.edit_history.proofs.Crossing.{chronicle_send}
+use Rattle.market_lock.specs.contracts.desk.Desk as Desk
 use Rattle.market_lock.specs.contracts.office.Office as Office
 use Rattle.market_lock.specs.contracts.office.Office.TheInside as Inside
 use Rattle.market_lock.specs.contracts.pass.Pass as Pass
 use Rattle.market_lock.specs.contracts.pass.Placed as Placed
+
+pub desk_send : IsSend Desk.the_row
+desk_send = search (crosses, sendable, chronicle_send) depth 60
 
 inside_sync : IsSync Inside.the_row
 inside_sync =

@@ -13,7 +13,7 @@ use Rattle.market_types.specs.Allotment.{active, allotment_of, is_top, recall, h
 use Rattle.market_types.specs.History.{IsLegal, calls_of, of_seat, place_in, state_after}
 use Rattle.edit_history.specs.Chronicled.{Chronicled, HasNumbersOf, market_of}
 use Rattle.edit_history.specs.Places.{placed}
-use Rattle.market_desk.specs.Workers.{own_place}
+use Rattle.market_lock.specs.Workers.{own_place}
 use Rattle.market_lock.specs.declared.view.Cut.{Cut}
 use Rattle.market_lock.specs.declared.view.Known.{Known}
 use Rattle.edit_history.specs.declared.terms.Terms.{Terms}

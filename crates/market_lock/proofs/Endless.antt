@@ -9,7 +9,7 @@ use Rattle.edit_history.specs.Chronicled.{Chronicled}
 use Rattle.edit_history.specs.Places.{LacksPlaces}
 use Rattle.edit_history.specs.declared.keeping.Keeping.{Keeping}
 use Rattle.edit_history.specs.declared.keeping.Keeping.TheVariants.{Nothing}
-use Rattle.market_desk.specs.Forgetting.{forgotten}
+use Rattle.market_lock.specs.Forgetting.{forgotten}
 use Rattle.edit_history.specs.declared.terms.Terms.{Terms}
 use Rattle.market_lock.specs.Views.{opening_of, chronicle_of, IsEndless}
 use Rattle.market_lock.specs.Seen.{OfOffice}

@@ -10,7 +10,7 @@ use Rattle.market_types.specs.Commands.{moves_seat}
 use Rattle.market_types.specs.History.{of_seat, place_after}
 use Rattle.market_core.specs.Moves.{moves, Answers}
 use Rattle.edit_history.specs.Chronicled.{entry}
-use Rattle.market_desk.specs.Workers.{own_place}
+use Rattle.market_lock.specs.Workers.{own_place}
 
 cons_if : (b : Bool) (x : Entry) (l m r : List Entry) → l ≡ m ++ r → cond b (x ∷ l) l ≡ cond b (x ∷ m) m ++ r
 cons_if true x l m r e = ap (λ k. x ∷ k) e

@@ -10,3 +10,4 @@ mod Endless
 mod Meeting
 pub mod Crossing
 mod Ending
+mod Serving

@@ -10,7 +10,7 @@ use Rattle.market_types.specs.State.{State}
 use Rattle.market_types.specs.Step.{place_of}
 use Rattle.market_types.specs.Allotment.{active, is_just}
 use Rattle.edit_history.specs.Places.{placed}
-use Rattle.market_desk.specs.Workers.{own_place}
+use Rattle.market_lock.specs.Workers.{own_place}
 use Rattle.edit_history.specs.Chronicled.{Chronicled}
 use Rattle.market_lock.specs.declared.view.Known.{Known}
 use Rattle.edit_history.specs.declared.terms.Terms.{Terms}

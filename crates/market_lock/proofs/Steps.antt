@@ -15,7 +15,7 @@ use Rattle.market_types.specs.declared.reply.Entry.{Entry}
 use Rattle.market_types.specs.History.{of_seat}
 use Rattle.edit_history.specs.Chronicled.{Chronicled}
 use Rattle.edit_history.specs.declared.terms.Terms.{Terms}
-use Rattle.market_desk.specs.Forgetting.{forgotten}
+use Rattle.market_lock.specs.Forgetting.{forgotten}
 use Rattle.market_lock.specs.declared.view.Cut.{Cut}
 use Rattle.market_lock.specs.declared.view.Known.{Known}
 use Rattle.market_lock.specs.declared.view.View.{View}

@@ -5,7 +5,7 @@ use mathlib.Core.List.{IsPrefix}
 use Rattle.market_types.specs.declared.reply.Entry.{Entry}
 use Rattle.edit_history.specs.declared.keeping.Keeping.{Keeping}
 use Rattle.edit_history.specs.declared.keeping.Keeping.TheVariants.{Everything, InParts, Nothing}
-use Rattle.market_desk.specs.Forgetting.{forgotten}
+use Rattle.market_lock.specs.Forgetting.{forgotten}
 use Rattle.market_lock.specs.declared.view.Cut.{Cut}
 use Rattle.market_lock.specs.Cutting.{entries_of, EndToEnd, cut_by, IsCutUp}
 use Rattle.market_lock.specs.Views.{cut}

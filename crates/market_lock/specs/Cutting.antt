@@ -3,7 +3,7 @@ use Rattle.std.specs.Prelude.{◌≡◌, ℕ, ◌==◌, ◌+◌, List, [], ◌�
 use Rattle.std.specs.List.{filter}
 use Rattle.market_types.specs.declared.reply.Entry.{Entry}
 use Rattle.edit_history.specs.declared.keeping.Keeping.{Keeping}
-use Rattle.market_desk.specs.Forgetting.{forgotten}
+use Rattle.market_lock.specs.Forgetting.{forgotten}
 use Rattle.market_lock.specs.declared.view.Cut.{Cut}
 
 -- the entries of the parts, one part after the other

@@ -7,3 +7,5 @@ pub mod Held
 pub mod Serving
 pub mod Moves
 pub mod Headline
+pub mod Forgetting
+pub mod Workers

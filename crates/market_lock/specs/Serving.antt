@@ -11,7 +11,7 @@ use Rattle.edit_history.specs.declared.part.Part.{Part}
 use Rattle.edit_history.specs.declared.keeping.Keeping.TheVariants.{InParts}
 use Rattle.edit_history.specs.declared.fault.CallFault.{CallFault}
 use Rattle.edit_history.specs.declared.fault.CallFault.TheVariants.{HistoryFull}
-use Rattle.market_desk.specs.Forgetting.{forgotten}
+use Rattle.market_lock.specs.Forgetting.{forgotten}
 
 -- the desk d has the seat, whose caller has counted so many calls
 abbrev pub MayServe : ℕ → Chronicled → ℕ → Type 0

@@ -9,7 +9,7 @@ use Rattle.edit_history.specs.Chronicled.{Chronicled, most_forgotten}
 use Rattle.edit_history.specs.Places.{placed, LacksPlaces}
 use Rattle.edit_history.specs.declared.keeping.Keeping.TheVariants.{Everything}
 use Rattle.edit_history.specs.declared.part.Part.{Part}
-use Rattle.market_desk.specs.Forgetting.{forgotten}
+use Rattle.market_lock.specs.Forgetting.{forgotten}
 use Rattle.edit_history.specs.declared.terms.Terms.{Terms}
 use Rattle.market_lock.specs.declared.view.Cut.{Cut}
 use Rattle.market_lock.specs.declared.view.Known.{Known}

@@ -1,6 +1,6 @@
 //! Passes and placed workers are taken back, one by one.
 ghost use Rattle.std.specs.Prelude.{◌≡◌, ◌++◌, [], ◌∷◌, All, None, Some};
-ghost use Rattle.market_desk.specs.Workers.{own_place};
+ghost use Rattle.market_lock.specs.Workers.{own_place};
 ghost use Rattle.market_lock.specs.Seen.{OfPass, OfPlaced};
 ghost use Rattle.market_lock.specs.Held.{IsClosing, kept_of, known_for, taken_in, whos};
 

@@ -13,14 +13,15 @@
 //!
 //! A call waits while another is served. An attempt ([`Office::try_call`] and the like) does not: it is `Busy` then, and changes nothing.
 //!
-//! Behind it lies one lock. The market with its history lies on a desk (`market_desk`), in the one
-//! slot of a table (`atomic_table`) whose one word tells whether the desk is at home. An attempt takes the desk, has it
-//! served, and gives it back; a call that waits makes attempts. `rule` says what holds between any two steps, `ticket` is one
+//! Behind it lies one lock. The market with its history is one value, a [`Desk`], which serves one call at a time; contracts see it as
+//! its chronicle. It lies in the one slot of a table (`atomic_table`) whose one word tells whether the desk is at home. An attempt takes
+//! the desk, has it served, and gives it back; a call that waits makes attempts. `rule` says what holds between any two steps, `ticket` is one
 //! call, `opening` and `closing` are the two ends.
 #![tactic(auto)]
 
 mod attempt;
 mod closing;
+mod desk;
 mod office;
 mod opening;
 mod pass;
@@ -29,5 +30,6 @@ mod ticket;
 mod view;
 
 pub use attempt::Attempt;
+pub use desk::Desk;
 pub use office::{Closed, Office};
 pub use pass::{Joined, Pass, Placed, Stayed};

@@ -12,7 +12,7 @@ ghost use Rattle.edit_history.specs.Places.{placed as seats_placed};
 ghost use Rattle.edit_history.specs.declared.keeping.Keeping.TheVariants.{InParts, Nothing};
 ghost use Rattle.market_types.specs.History.{IsLegal, place_after};
 ghost use Rattle.market_core.specs.Moves.{Answers};
-ghost use Rattle.market_desk.specs.Workers.{own_place};
+ghost use Rattle.market_lock.specs.Workers.{own_place};
 ghost use Rattle.market_lock.specs.Attempts.{IfMade, IfBusy};
 ghost use Rattle.market_lock.specs.Views.{opening_of, chronicle_of, chronicle_cut, seats_placed_after, IsEndless};
 ghost use Rattle.market_lock.specs.Seen.{OfPass, OfPlaced, IsSamePass, Looks, HasCut, fresh, kept_by, Met, AllParts};

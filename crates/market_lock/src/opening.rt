@@ -4,12 +4,12 @@ ghost use Rattle.market_lock.specs.declared.view.View.TheVariants.{Opener};
 ghost use Rattle.market_lock.specs.Views.{chronicle_of};
 ghost use Rattle.market_lock.specs.Seen.{fresh, office_of};
 
+use crate::desk::Desk;
 use crate::pass::Pass;
 use crate::rule::{Deal, Place, Shelf};
 use crate::ticket::Ticket;
 use atomic_table::Table;
 use edit_history::{Chronicle, Terms};
-use market_desk::Desk;
 use market_types::SeatNo;
 use std::alloc::{AllocError, Global};
 

@@ -18,7 +18,7 @@ pub struct Pass {
 
 impl Model for Pass {
     ghost use Rattle.std.specs.Prelude.{◌≡◌, None};
-    ghost use Rattle.market_desk.specs.Workers.{own_place};
+    ghost use Rattle.market_lock.specs.Workers.{own_place};
     ghost use Rattle.market_lock.specs.Seen.{OfPass};
 
     ghost Value = { OfPass };
@@ -36,7 +36,7 @@ pub struct Placed {
 
 impl Model for Placed {
     ghost use Rattle.std.specs.Prelude.{◌≡◌, Some};
-    ghost use Rattle.market_desk.specs.Workers.{own_place};
+    ghost use Rattle.market_lock.specs.Workers.{own_place};
     ghost use Rattle.market_lock.specs.Seen.{OfPlaced};
 
     ghost Value = { OfPlaced };

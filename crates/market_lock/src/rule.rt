@@ -1,8 +1,8 @@
 //! The rule of the lock, and its steps: each says what it tells the seat that takes it.
+use crate::desk::Desk;
 use crate::view::View;
 use atomic_table::{Join, Play, Seat, Split, Table, TableRule};
 use edit_history::Terms;
-use market_desk::Desk;
 use std::alloc::Global;
 
 /// The desk is at home, or one seat has it; what each seat knows is true of its history.

@@ -7,7 +7,7 @@ ghost use Rattle.edit_history.specs.Chronicled.{most_forgotten};
 ghost use Rattle.edit_history.specs.Parts.{EndsWith};
 ghost use Rattle.edit_history.specs.Places.{takes};
 ghost use Rattle.edit_history.specs.declared.keeping.Keeping.TheVariants.{InParts};
-ghost use Rattle.market_desk.specs.Workers.{own_place};
+ghost use Rattle.market_lock.specs.Workers.{own_place};
 ghost use Rattle.market_lock.specs.Attempts.{IfMade, IfBusy};
 ghost use Rattle.market_lock.specs.Cutting.{IsCutUp};
 ghost use Rattle.market_lock.specs.Views.{opening_of, seats_placed_after, same_cuts, next_cuts};

@@ -1,5 +1,5 @@
 use Rattle.std.proofs.Common.{◌≡◌, ◌++◌, vec_len, All, None}
-use Rattle.market_desk.specs.Workers.{own_place}
+use Rattle.market_lock.specs.Workers.{own_place}
 use Rattle.market_lock.specs.Seen.{OfPass}
 use Rattle.market_lock.specs.Held.{IsClosing, kept_of, taken_in}
 use Rattle.market_lock.proofs.closing.take_back_passes.Given as goal

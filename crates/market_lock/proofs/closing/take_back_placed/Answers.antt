@@ -1,6 +1,6 @@
 use Rattle.std.proofs.Common.{◌≡◌, ◌++◌, ◌∷◌, [], ap, sym, ◌∙◌, subst, All, Some}
 use Rattle.std.proofs.lemmas.List.Elements.{All-push, All-pop}
-use Rattle.market_desk.specs.Workers.{own_place}
+use Rattle.market_lock.specs.Workers.{own_place}
 use Rattle.market_lock.specs.Seen.{OfPlaced}
 use Rattle.market_lock.specs.Held.{kept_of, taken_in, whos}
 use Rattle.market_lock.proofs.Meeting.{takes_in, whos_last}

@@ -1,5 +1,5 @@
 use Rattle.std.proofs.Common.{◌≡◌, ◌++◌, vec_len, All, Some}
-use Rattle.market_desk.specs.Workers.{own_place}
+use Rattle.market_lock.specs.Workers.{own_place}
 use Rattle.market_lock.specs.Seen.{OfPlaced}
 use Rattle.market_lock.specs.Held.{IsClosing, kept_of, taken_in, whos}
 use Rattle.market_lock.proofs.closing.take_back_placed.Given as goal

@@ -2,7 +2,7 @@ use Rattle.std.proofs.Common.{◌≡◌, ℕ, List, [], ◌∷◌, get_or, lengt
 use Rattle.atomic_table.specs.Table.{rest}
 use Rattle.market_types.specs.History.{of_seat}
 use Rattle.edit_history.specs.Chronicled.{Chronicled}
-use Rattle.market_desk.specs.Forgetting.{most_counted}
+use Rattle.market_lock.specs.Forgetting.{most_counted}
 use Rattle.market_lock.proofs.Calls.{one_more_own, refused_so}
 use Rattle.market_lock.proofs.ticket.serve.Goals as goal
 

@@ -3,7 +3,7 @@ use Rattle.market_types.specs.State.{State}
 use Rattle.market_types.specs.Allotment.{active}
 use Rattle.edit_history.specs.Chronicled.{Chronicled, HasNumbersOf, market_of}
 use Rattle.edit_history.specs.Places.{placed}
-use Rattle.market_desk.specs.Forgetting.{forgotten}
+use Rattle.market_lock.specs.Forgetting.{forgotten}
 use Rattle.edit_history.specs.declared.terms.Terms.{Terms}
 use Rattle.market_lock.specs.Seen.{OfOffice, Met, AllParts}
 use Rattle.market_lock.specs.Held.{whos}

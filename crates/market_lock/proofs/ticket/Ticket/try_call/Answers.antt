@@ -6,7 +6,7 @@ use Rattle.market_types.specs.History.{place_after}
 use Rattle.market_core.specs.Moves.{Answers}
 use Rattle.edit_history.specs.declared.fault.CallFault.{CallFault}
 use Rattle.edit_history.specs.Places.{takes}
-use Rattle.market_desk.specs.Workers.{own_place}
+use Rattle.market_lock.specs.Workers.{own_place}
 use Rattle.market_lock.specs.Seen.{OfPass, known_of, pass_of, Extends, OthersCut}
 use Rattle.market_lock.specs.Moves.{Fails}
 use Rattle.market_lock.proofs.Calls.{may_serve, served_by, may_give, ticket_after, later_after, extends_after, fails_after, cuts_known, answers_after, never_after, moved_after, still_after}

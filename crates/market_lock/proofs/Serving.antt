@@ -4,7 +4,7 @@ use Rattle.std.specs.List.{count_by}
 use Rattle.std.proofs.lemmas.List.Sums.{sum_by-cons}
 use Rattle.edit_history.specs.declared.keeping.Keeping.{Keeping}
 use Rattle.edit_history.specs.declared.keeping.Keeping.TheVariants.{Everything, InParts, Nothing}
-use Rattle.market_desk.specs.Forgetting.{forgotten}
+use Rattle.market_lock.specs.Forgetting.{forgotten}
 
 -- what is not kept does not change by being told again
 pub forgotten-again : (q : Keeping) (calls cut from : ℕ) → from ≡ forgotten q calls cut → from ≡ forgotten q calls from

@@ -1,7 +1,7 @@
 use Rattle.std.proofs.Common.{length}
 use Rattle.edit_history.specs.Chronicled.{Chronicled}
-use Rattle.market_desk.proofs.Serving.{forgotten-again}
-use Rattle.market_desk.proofs.desk.Desk.serve.Goals as goal
+use Rattle.market_lock.proofs.Serving.{forgotten-again}
+use Rattle.market_lock.proofs.desk.Desk.serve.Goals as goal
 
 pub invariant_of-self-2 : goal.invariant_of-self-2
 invariant_of-self-2 c =

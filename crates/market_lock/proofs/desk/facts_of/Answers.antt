@@ -1,8 +1,8 @@
 use Rattle.std.proofs.Common.{◌≡◌, length, ap, sym, ◌∙◌, arith}
 use Rattle.market_types.specs.State.{State}
 use Rattle.edit_history.specs.Chronicled.{market_of}
-use Rattle.market_desk.proofs.Serving.{few-placed}
-use Rattle.market_desk.proofs.desk.facts_of.Goals as goal
+use Rattle.market_lock.proofs.Serving.{few-placed}
+use Rattle.market_lock.proofs.desk.facts_of.Goals as goal
 
 pub returns-clause-few_placed : goal.returns-clause-few_placed
 returns-clause-few_placed c =

@@ -1,4 +1,5 @@
-//! The market with its history.
+//! The desk of an office: the market with its history, as one value that a lock can guard. Its chronicle may be one that keeps no
+//! entries, or whose entries are taken out in parts ([`Desk::cut`]).
 ghost use Rattle.std.specs.Prelude.{◌≡◌, ℕ, ◌+◌, ◌<◌, ◌≤◌, ◌++◌, [], ◌∷◌, length, IfOk, OnOk, OnErr, IfErr, IsErrOf, IsOk, vec_capacity, IfSome, IfNone, OnSome, IsSome};
 ghost use Rattle.market_types.specs.Step.{step, place_of};
 ghost use Rattle.market_types.specs.History.{IsLegal, place_in};
@@ -9,7 +10,7 @@ ghost use Rattle.edit_history.specs.Parts.{EndsWith};
 ghost use Rattle.edit_history.specs.Places.{takes, placed, LacksPlaces};
 ghost use Rattle.edit_history.specs.declared.fault.CallFault.TheVariants.{HistoryFull};
 ghost use Rattle.edit_history.specs.declared.keeping.Keeping.TheVariants.{InParts};
-ghost use Rattle.market_desk.specs.Forgetting.{forgotten, most_counted};
+ghost use Rattle.market_lock.specs.Forgetting.{forgotten, most_counted};
 
 use edit_history::{CallFault, Chronicle, Keeping, MOST_FORGOTTEN, Part, own_entries_place_a_seat};
 use market_core::a_call_moves_its_own_seat;
@@ -26,7 +27,7 @@ pub struct Desk {
 impl Model for Desk {
     ghost use Rattle.std.specs.Prelude.{◌≡◌, length};
     ghost use Rattle.edit_history.specs.Chronicled.{Chronicled};
-    ghost use Rattle.market_desk.specs.Forgetting.{forgotten};
+    ghost use Rattle.market_lock.specs.Forgetting.{forgotten};
 
     ghost Value = { Chronicled };
 

@@ -1,2 +1,0 @@
-mod Serving
-pub mod Crossing
