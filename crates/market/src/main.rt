@@ -7,6 +7,7 @@ mod progress;
 
 use crate::progress::{Meter, MeteredSource, ProgressGate};
 use byte_devices::{ReadSource, WriteSink};
+use chart_engine::run_chart;
 use clap::Error;
 use clap::error::ErrorKind;
 use drive_engine::{DriveEnd, run_drive, run_drive_through, status_of_drive};
@@ -14,7 +15,7 @@ use journal_replay::Verdict;
 use market_drive::DriveFault;
 use market_prog::{
     ChartOptions, Choice, DriveOptions, ReplayOptions, RunFault, ScriptOptions, ScriptTask,
-    explain_script, read_words, run_chart, run_journal, run_replay, run_script, status_of_replay,
+    explain_script, read_words, run_journal, run_replay, run_script, status_of_replay,
     status_of_run,
 };
 use std::fmt::Display;

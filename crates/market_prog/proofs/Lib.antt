@@ -1,4 +1,4 @@
-mod Telling
+pub mod Telling
 mod Examples
 pub mod Rows
 pub mod Walked
@@ -12,4 +12,3 @@ pub mod Explaining
 pub mod History
 pub mod Journaling
 pub mod Spelling
-pub mod Drawn

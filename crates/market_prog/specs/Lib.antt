@@ -3,7 +3,6 @@ pub mod Passed
 pub mod Command
 pub mod Faults
 pub mod Replay
-pub mod Drawing
 pub mod Run
 pub mod Explain
 pub mod Sessions

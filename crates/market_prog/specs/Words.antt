@@ -8,7 +8,7 @@ use Rattle.clap.specs.declared.builder.ArgAction.TheVariants.{Append, Set, SetTr
 use Rattle.clap.specs.declared.builder.value_parser.ValueParser.TheVariants.{Signed}
 use Rattle.market_prog.specs.declared.words.Choice.{Choice}
 use Rattle.market_prog.specs.declared.words.Choice.TheVariants.{Script, Replay, Drive, Chart}
-use Rattle.market_prog.specs.declared.chart.ChartOptions.{ChartOptions}
+use Rattle.market_prog.specs.declared.words.ChartOptions.{ChartOptions}
 use Rattle.market_prog.specs.declared.words.ScriptTask.{ScriptTask}
 use Rattle.market_prog.specs.declared.words.ScriptTask.TheVariants.{Answer, Journal, Explain}
 use Rattle.market_types.specs.declared.opening.Opening.{Opening}

@@ -5,7 +5,6 @@ ghost use Rattle.market_prog.specs.Words.{AreArenasOf, AreSpelled, Chooses, IsCh
 ghost use Rattle.market_prog.specs.Command.{IsCommandOf};
 ghost use Rattle.market_prog.specs.Passed.{HasChartNumbers, HasNumber, HasMarketNumbers, NamesSubcommand};
 
-use crate::chart::ChartOptions;
 use crate::help;
 use clap::{Arg, ArgAction, ArgMatches, Command, Error};
 use market_types::{ArenaId, LastNumber, Opening};
@@ -63,6 +62,21 @@ pub struct DriveOptions {
     /// How many workers run its jobs, 1 to 16.
     pub workers: u32,
     /// `--progress`: how many jobs are done is told while they run, also where standard error is no terminal.
+    pub progress: bool,
+}
+
+/// What is drawn of a journal.
+#[derive(Debug, PartialEq, Eq, Drop)]
+pub struct ChartOptions {
+    /// How many columns there are at most, from 1 on. All arenas together never have more than 1,792.
+    pub width: u32,
+    /// The first entry that is drawn, from 1 on.
+    pub from: u32,
+    /// The last entry that is drawn.
+    pub to: u32,
+    /// The arenas that are drawn, at most 16.
+    pub arenas: Vec<ArenaId>,
+    /// `--progress`: how much is read is told meanwhile, also where standard error is no terminal.
     pub progress: bool,
 }
 

@@ -3,45 +3,27 @@ ghost use Rattle.std.specs.Prelude.{◌≡◌, ◌≢◌, ◌+◌, ◌*◌, ◌<
 ghost use Rattle.std.specs.Io.KnownBytes.{Appends, IsAtEnd};
 ghost use Rattle.byte_devices.specs.Devices.{WritesFront};
 ghost use Rattle.journal_chart.specs.Picture.{picture_text};
-ghost use Rattle.market_prog.specs.Drawing.{Draws, StopsDrawing, columns_of};
+ghost use Rattle.chart_engine.specs.Drawing.{Draws, StopsDrawing, columns_of};
 ghost use Rattle.market_prog.specs.Replay.{IsTellingFault};
 
-use crate::fault::RunFault;
 use byte_devices::{Sink, Source, put_all};
 use journal_chart::{Chart, chart_source, push_picture};
 use journal_replay::Verdict;
-use market_types::ArenaId;
+use market_prog::{ChartOptions, RunFault};
 use std::alloc::Global;
 
 /// How many cells a picture has at most, a cell being a column of an arena. So a picture has less than 2 MB.
 const MOST_CELLS: usize = 1_792;
 
-/// What is drawn of a journal.
-#[derive(Debug, PartialEq, Eq, Drop)]
-pub struct ChartOptions {
-    /// How many columns there are at most, from 1 on. All arenas together never have more than 1,792.
-    pub width: u32,
-    /// The first entry that is drawn, from 1 on.
-    pub from: u32,
-    /// The last entry that is drawn.
-    pub to: u32,
-    /// The arenas that are drawn, at most 16.
-    pub arenas: Vec<ArenaId>,
-    /// `--progress`: how much is read is told meanwhile, also where standard error is no terminal.
-    pub progress: bool,
-}
-
-impl ChartOptions {
-    /// How many columns the chart has at most.
-    fn columns(&self) -> u32
-        requires width { 1 ≤ self.now.width }
-        requires few { length self.now.arenas.items ≤ 16 }
-        ensures exact { result ≡ columns_of self.now }
-        ensures some { 0 < result }
-    {
-        let most = MOST_CELLS / self.arenas.len().max(1);
-        self.width.min(most as u32)
-    }
+/// How many columns the chart has at most.
+fn columns_of(options: &ChartOptions) -> u32
+    requires width { 1 ≤ options.now.width }
+    requires few { length options.now.arenas.items ≤ 16 }
+    ensures exact { result ≡ columns_of options.now }
+    ensures some { 0 < result }
+{
+    let most = MOST_CELLS / options.arenas.len().max(1);
+    options.width.min(most as u32)
 }
 
 /// Writes the picture of a chart, before whose moments so many entries came. All of its memory is taken before the first write.
@@ -95,7 +77,7 @@ pub fn run_chart<R: Source, W: Sink>(
     ensures whole_before_write { IfErr result (λ fault. fault ≡ RunFault.Write → (R.ended source.new ≡ true) × IsAtEnd (R.left source.new)) }
     ensures untouched { IfErr result (λ fault. fault ≢ RunFault.Write → sink.new ≡ sink.old) }
 {
-    let columns = options.columns();
+    let columns = columns_of(options);
     let (from, to) = (options.from, options.to);
     let (found, chart) = chart_source(alloc, columns, &options.arenas, from, to, source)?;
     if let Verdict::Legal(_) = &found {

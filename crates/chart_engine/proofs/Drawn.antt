@@ -17,11 +17,11 @@ use Rattle.journal_replay.specs.Verdicts.{StopsReading, limit_of}
 use Rattle.journal_chart.specs.Numbers.{Charted, moments_of}
 use Rattle.journal_chart.specs.Journals.{Charts, IsChartOf}
 use Rattle.journal_chart.specs.Picture.{picture_text}
-use Rattle.market_prog.specs.declared.chart.ChartOptions.{ChartOptions}
+use Rattle.market_prog.specs.declared.words.ChartOptions.{ChartOptions}
 use Rattle.market_prog.specs.declared.fault.RunFault.{RunFault}
 use Rattle.market_prog.specs.declared.fault.RunFault.TheVariants.{Open, Read, TooLong, Write, Memory, HistoryFull}
 use Rattle.market_prog.specs.Faults.{run_fault_of_input}
-use Rattle.market_prog.specs.Drawing.{Draws, DrawsBefore, IsDrawnOf, StopsDrawing, columns_of}
+use Rattle.chart_engine.specs.Drawing.{Draws, DrawsBefore, IsDrawnOf, StopsDrawing, columns_of}
 use Rattle.market_prog.specs.Replay.{IsTellingFault}
 use Rattle.market_prog.proofs.Telling.{telling-cause}
 
