@@ -62,10 +62,25 @@ impl Line {
     pub(crate) fn halve(&mut self)
         ensures { self.new ≡ halved self.old }
     {
-        for place in 0..self.columns.len() {
-            let first = self.at(2 * place);
-            let second = self.at(2 * place + 1);
-            self.columns[place] = joined(first, second);
-        }
+        halve_columns(&mut self.columns);
+    }
+}
+
+/// Makes each two columns one, and puts as many without numbers behind them: each column is read once, and written at most once.
+fn halve_columns(columns: &mut [Option<Span>])
+    ensures { columns.new ≡ halved columns.old }
+{
+    let pairs = columns.len() / 2;
+    for place in 0..pairs {
+        columns[place] = joined(columns[2 * place], columns[2 * place + 1]);
+    }
+    // Where their number is odd, the last has none beside it.
+    let mut halves = pairs;
+    if 2 * pairs < columns.len() {
+        columns[pairs] = columns[2 * pairs];
+        halves = pairs + 1;
+    }
+    for place in halves..columns.len() {
+        columns[place] = None;
     }
 }
