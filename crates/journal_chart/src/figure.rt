@@ -1,6 +1,6 @@
 //! A column of a row, as text.
-ghost use Rattle.std.specs.Prelude.{◌≡◌, ◌++◌, ◌<◌, ◌≤◌, OnOk, string_bytes};
-ghost use Rattle.journal_chart.specs.Picture.{area_text, bar_of, bars_text, cell_text, figure_at, ground_text, limits_cell, limits_place, limits_title, marks_text, placed_limits, placed_text, rise_of, shapes_text, stands_at, title_text};
+ghost use Rattle.std.specs.Prelude.{◌≡◌, ◌+◌, ◌*◌, ◌++◌, ◌<◌, ◌≤◌, OnOk, codes, decimal, string_bytes};
+ghost use Rattle.journal_chart.specs.Picture.{area_text, bar_of, bar_text, bars_text, cell_text, figure_at, ground_text, limits_cell, limits_place, limits_title, marks_text, placed_limits, placed_text, range_text, rise_of, shapes_text, stands_at, title_text};
 
 use crate::row::Row;
 use crate::span::Span;
@@ -32,25 +32,6 @@ struct Bar {
     height: u64,
 }
 
-/// A number, or the least and the most of several.
-#[derive(Clone, Copy)]
-struct Range(Span);
-
-impl fmt::Display for Range {
-    ghost use Rattle.std.specs.Prelude.{Some};
-    ghost use Rattle.journal_chart.specs.Picture.{range_text};
-
-    ghost output = { λ r. Some (range_text r.0) };
-
-    fn fmt<W: fmt::Write>(&self, f: &mut fmt::Formatter<W>) -> fmt::Result {
-        let Span { least, most } = self.0;
-        if least == most {
-            return write!(f, "{least}");
-        }
-        write!(f, "{least} to {most}")
-    }
-}
-
 impl fmt::Display for Entries {
     ghost use Rattle.std.specs.Prelude.{Some};
     ghost use Rattle.journal_chart.specs.Picture.{entries_text};
@@ -63,18 +44,6 @@ impl fmt::Display for Entries {
             return write!(f, "entry {first}");
         }
         write!(f, "entries {first} to {last}")
-    }
-}
-
-impl fmt::Display for Bar {
-    ghost use Rattle.std.specs.Prelude.{Some};
-    ghost use Rattle.journal_chart.specs.Picture.{bar_text};
-
-    ghost output = { λ b. Some (bar_text b) };
-
-    fn fmt<W: fmt::Write>(&self, f: &mut fmt::Formatter<W>) -> fmt::Result {
-        let (y, height) = (self.y, self.height);
-        write!(f, " d=\"M4 {y}v{height}\"/>")
     }
 }
 
@@ -125,6 +94,54 @@ fn bar_of(scale: u64, span: Span) -> Bar
     }
 }
 
+/// Writes a digit.
+#[inline(always)]
+fn write_digit(text: &mut String, digit: u64) -> Result<(), AllocError>
+    requires { digit < 10 }
+    ensures { OnOk result (string_bytes text.new ≡ string_bytes text.old ++ decimal digit) }
+{
+    text.push((b'0' + digit as u8) as char)
+}
+
+/// Writes a number. Nearly all in a picture are below 100, and these need no buffer.
+fn write_number(text: &mut String, number: u64) -> Result<(), AllocError>
+    ensures { OnOk result (string_bytes text.new ≡ string_bytes text.old ++ decimal number) }
+{
+    if number < 10 {
+        return write_digit(text, number);
+    }
+    if number < 100 {
+        write_digit(text, number / 10)?;
+        return write_digit(text, number % 10);
+    }
+    write!(text, "{number}")
+}
+
+/// Writes a number, or the least and the most of several, behind its name.
+fn write_range(text: &mut String, name: &str, range: Span) -> Result<(), AllocError>
+    ensures { OnOk result (string_bytes text.new ≡ string_bytes text.old ++ (name.now ++ range_text range)) }
+{
+    text.push_str(name)?;
+    write_number(text, u64::from(range.least))?;
+    if range.least == range.most {
+        return Ok(());
+    }
+    text.push_str(" to ")?;
+    write_number(text, u64::from(range.most))
+}
+
+/// Writes a bar behind the name of its class.
+fn write_bar(text: &mut String, class: &str, bar: Bar) -> Result<(), AllocError>
+    ensures { OnOk result (string_bytes text.new ≡ string_bytes text.old ++ (class.now ++ bar_text bar)) }
+{
+    text.push_str(class)?;
+    text.push_str(" d=\"M4 ")?;
+    write_number(text, bar.y)?;
+    text.push_str("v")?;
+    write_number(text, bar.height)?;
+    text.push_str("\"/>")
+}
+
 /// Writes what a pointer over a column is told.
 fn write_title(
     text: &mut String,
@@ -134,13 +151,12 @@ fn write_title(
 ) -> Result<(), AllocError>
     ensures { OnOk result (string_bytes text.new ≡ string_bytes text.old ++ title_text entries arena figure) }
 {
-    let (level, request) = (Range(figure.level), Range(figure.request));
-    let (allot, active) = (Range(figure.allot), Range(figure.active));
-    write!(text, "<title>{entries}: arena {arena}, level {level}")?;
-    write!(
-        text,
-        ", request {request}, allotment {allot}, active {active}</title>"
-    )
+    write!(text, "<title>{entries}: arena {arena}")?;
+    write_range(text, ", level ", figure.level)?;
+    write_range(text, ", request ", figure.request)?;
+    write_range(text, ", allotment ", figure.allot)?;
+    write_range(text, ", active ", figure.active)?;
+    text.push_str("</title>")
 }
 
 /// Writes the ground.
@@ -172,7 +188,8 @@ fn write_area(text: &mut String, scale: u64, allot: Span) -> Result<(), AllocErr
             most: allot.least,
         },
     );
-    write!(text, "<path class=\"m\"{most}<path class=\"l\"{least}")
+    write_bar(text, "<path class=\"m\"", most)?;
+    write_bar(text, "<path class=\"l\"", least)
 }
 
 /// Writes the request and the active workers as bars.
@@ -180,8 +197,8 @@ fn write_bars(text: &mut String, scale: u64, request: Span, active: Span) -> Res
     requires { 0 < scale }
     ensures { OnOk result (string_bytes text.new ≡ string_bytes text.old ++ bars_text scale request active) }
 {
-    let (request, active) = (bar_of(scale, request), bar_of(scale, active));
-    write!(text, "<path class=\"r\"{request}<path class=\"a\"{active}")
+    write_bar(text, "<path class=\"r\"", bar_of(scale, request))?;
+    write_bar(text, "<path class=\"a\"", bar_of(scale, active))
 }
 
 /// Writes the marks of recalls and of hires.
@@ -196,7 +213,8 @@ fn write_marks(text: &mut String, recall: u32, hire: u32) -> Result<(), AllocErr
         y: 34,
         height: u64::from(hire.min(2)),
     };
-    write!(text, "<path class=\"k\"{recall}<path class=\"n\"{hire}")
+    write_bar(text, "<path class=\"k\"", recall)?;
+    write_bar(text, "<path class=\"n\"", hire)
 }
 
 /// Writes the ground, the area of the allotment, the bars, and the marks.
@@ -232,6 +250,15 @@ pub(crate) fn write_cell(
     write_placed(text, arena, scale, entries, place, figure)
 }
 
+/// Writes where a column stands, and what ends that.
+fn write_place(text: &mut String, place: u32, end: &str) -> Result<(), AllocError>
+    ensures { OnOk result (string_bytes text.new ≡ string_bytes text.old ++ (codes "<g transform=\"translate(" ++ (decimal (180 + 8 * place) ++ end.now))) }
+{
+    text.push_str("<g transform=\"translate(")?;
+    write_number(text, 180 + 8 * u64::from(place))?;
+    text.push_str(end)
+}
+
 /// Writes a column at its place.
 fn write_placed(
     text: &mut String,
@@ -244,8 +271,7 @@ fn write_placed(
     requires { 0 < scale }
     ensures { OnOk result (string_bytes text.new ≡ string_bytes text.old ++ placed_text arena scale entries place figure) }
 {
-    let x = 180 + 8 * u64::from(place);
-    write!(text, "<g transform=\"translate({x})\">")?;
+    write_place(text, place, ")\">")?;
     write_title(text, entries, arena, figure)?;
     write_shapes(text, scale, figure)?;
     text.push_str("</g>\n")
@@ -281,20 +307,17 @@ fn write_limits_title(
 ) -> Result<(), AllocError>
     ensures { OnOk result (string_bytes text.new ≡ string_bytes text.old ++ limits_title entries limit effective) }
 {
-    let (limit, effective) = (Range(limit), Range(effective));
-    write!(text, "<title>{entries}: limit {limit}")?;
-    write!(
-        text,
-        ", effective limit {effective}</title><path class=\"h\" d=\"M4 0v36\"/>"
-    )
+    write!(text, "<title>{entries}")?;
+    write_range(text, ": limit ", limit)?;
+    write_range(text, ", effective limit ", effective)?;
+    text.push_str("</title><path class=\"h\" d=\"M4 0v36\"/>")
 }
 
 /// Writes where a column of the limits stands.
 fn write_limits_place(text: &mut String, place: u32) -> Result<(), AllocError>
     ensures { OnOk result (string_bytes text.new ≡ string_bytes text.old ++ limits_place place) }
 {
-    let x = 180 + 8 * u64::from(place);
-    write!(text, "<g transform=\"translate({x} 60)\">")
+    write_place(text, place, " 60)\">")
 }
 
 /// Writes a column of the limits at its place.
