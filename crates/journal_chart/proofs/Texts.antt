@@ -1,5 +1,5 @@
 -- Texts that are put one behind the other.
-use Rattle.std.proofs.Common.{◌≡◌, ℕ, ◌+◌, ◌<◌, if◌then◌else◌, true, false, List, [], ◌∷◌, ◌++◌, drop, length, get_or, Result, Ok, Err, OnOk, is_ok, subst, codes, refl, sym, ap, ◌∙◌, append_assoc, append-nil, arith}
+use Rattle.std.proofs.Common.{◌≡◌, ℕ, ◌+◌, ◌<◌, if◌then◌else◌, Bool, true, false, List, [], ◌∷◌, ◌++◌, drop, length, get_or, Result, Ok, Err, OnOk, is_ok, subst, codes, refl, sym, ap, ◌∙◌, append_assoc, append-nil, arith}
 use Rattle.std.specs.List.{flat_map, range_with_len}
 use Rattle.std.proofs.lemmas.List.{flat_map_more, map-id, at_drop_more}
 use Rattle.std.proofs.Math.Numerals.{suc-eq-add-one}
@@ -7,7 +7,7 @@ use Rattle.std.proofs.lemmas.List.FromFn.{map-range_with_len_more}
 use Rattle.journal_chart.specs.declared.row.Row.{Row}
 use Rattle.journal_chart.specs.declared.sheet.Sheet.{Sheet}
 use Rattle.journal_chart.specs.Numbers.{Drawn}
-use Rattle.journal_chart.specs.Picture.{axis_text, head_text, is_at, levels_end, levels_text, limits_text, row_text, rows_end, rows_text, sheet_text, wide_of}
+use Rattle.journal_chart.specs.Picture.{axis_text, head_text, is_at, levels_end, levels_text, limits_text, row_text, rows_end, rows_text, run_first, sheet_text, wide_of}
 
 -- one text more in front of those that are put
 pub behind : {T E : Type 0} (r : Result T E) (o a b x y : List ℕ) → a ≡ o ++ x → OnOk r (b ≡ a ++ y) → OnOk r (b ≡ o ++ (x ++ y))
@@ -37,6 +37,36 @@ next-text text n o a b e f =
     let longer : range_with_len 0 (n + 1) ≡ range_with_len 0 n ++ n ∷ [] =
     sym (map-id (range_with_len 0 (n + 1))) ∙ map-range_with_len_more (λ (k : ℕ). k) 0 n n (omega arith) ∙ ap (λ l. l ++ n ∷ []) (map-id (range_with_len 0 n)) in
     f ∙ ap (λ t. t ++ text n) e ∙ flat_map_more text o (range_with_len 0 n) n ∙ ap (λ l. o ++ flat_map text l) (sym longer)
+
+-- a column that goes on with the next puts no text
+pub next-none : (goes_on : ℕ → Bool) (run : ℕ → List ℕ) (n : ℕ) (o a : List ℕ) → goes_on n ≡ true
+    → a ≡ o ++ flat_map (λ k. if goes_on k then [] else run k) (range_with_len 0 n)
+    → a ≡ o ++ flat_map (λ k. if goes_on k then [] else run k) (range_with_len 0 (n + 1))
+next-none goes_on run n o a on e =
+    next-text (λ k. if goes_on k then [] else run k) n o a a e (sym (append-nil a) ∙ ap (λ (on : Bool). a ++ (if on then [] else run n)) (sym on))
+
+-- one that does not puts the text of those that end there
+pub next-run : (goes_on : ℕ → Bool) (run : ℕ → List ℕ) (n : ℕ) (o a b : List ℕ) → goes_on n ≡ false
+    → a ≡ o ++ flat_map (λ k. if goes_on k then [] else run k) (range_with_len 0 n) → b ≡ a ++ run n
+    → b ≡ o ++ flat_map (λ k. if goes_on k then [] else run k) (range_with_len 0 (n + 1))
+next-run goes_on run n o a b ends e f =
+    next-text (λ k. if goes_on k then [] else run k) n o a b e (f ∙ ap (λ (on : Bool). a ++ (if on then [] else run n)) (sym ends))
+
+-- ---- columns that are drawn as one
+
+pub run_first-none : (goes_on : ℕ → Bool) → 0 ≡ run_first goes_on 0
+unfolding run_first
+run_first-none goes_on = refl
+
+pub run_first-on : (goes_on : ℕ → Bool) (n first : ℕ) → goes_on n ≡ true → first ≡ run_first goes_on n → first ≡ run_first goes_on (n + 1)
+unfolding run_first
+run_first-on goes_on n first on e =
+    e ∙ ap (λ (on : Bool). if on then run_first goes_on n else n + 1) (sym on) ∙ ap (λ k. run_first goes_on k) (suc-eq-add-one n)
+
+pub run_first-ends : (goes_on : ℕ → Bool) (n : ℕ) → goes_on n ≡ false → n + 1 ≡ run_first goes_on (n + 1)
+unfolding run_first
+run_first-ends goes_on n ends =
+    ap (λ (on : Bool). if on then run_first goes_on n else n + 1) (sym ends) ∙ ap (λ k. run_first goes_on k) (suc-eq-add-one n)
 
 -- ---- levels, one below the other
 

@@ -1,11 +1,12 @@
 -- The picture of a chart, as the text of an SVG: a function of the chart's numbers alone (own).
-use Rattle.std.specs.Prelude.{ℕ, zero, suc, ◌+◌, ◌-◌, ◌*◌, ◌/◌, ◌%◌, min, max, ◌==◌, ◌||◌, if◌then◌else◌, Bool, false, List, [], ◌∷◌, ◌++◌, Option, None, Some, codes, decimal}
+use Rattle.std.specs.Prelude.{ℕ, zero, suc, ◌+◌, ◌-◌, ◌*◌, ◌/◌, ◌%◌, min, max, ◌==◌, ◌&&◌, ◌||◌, nat_lt, if◌then◌else◌, Bool, true, false, List, [], ◌∷◌, ◌++◌, Option, None, Some, codes, decimal}
 use Rattle.std.specs.List.{count_by, flat_map, list_any, range_with_len}
 use Rattle.journal_chart.specs.declared.span.Span.{Span}
 use Rattle.journal_chart.specs.declared.row.Row.{Row}
 use Rattle.journal_chart.specs.declared.figure.Figure.{Figure}
 use Rattle.journal_chart.specs.declared.figure.Bar.{Bar}
 use Rattle.journal_chart.specs.declared.figure.Entries.{Entries}
+use Rattle.journal_chart.specs.declared.figure.Run.{Run}
 use Rattle.journal_chart.specs.declared.sheet.Sheet.{Sheet}
 use Rattle.journal_chart.specs.Columns.{width_of}
 use Rattle.journal_chart.specs.Lines.{at}
@@ -17,7 +18,7 @@ use Rattle.journal_chart.specs.Numbers.{Drawn, Charted}
 abbrev pub range_text : Span → List ℕ
 range_text s = if s.least == s.most then decimal s.least else decimal s.least ++ (codes " to " ++ decimal s.most)
 
--- the entries of a column
+-- the entries of columns beside each other
 abbrev pub entries_text : Entries → List ℕ
 entries_text e = if e.first == e.last then codes "entry " ++ decimal e.first else codes "entries " ++ (decimal e.first ++ (codes " to " ++ decimal e.last))
 
@@ -48,32 +49,40 @@ figure_of (Some level) (Some request) (Some allot) (Some active) (Some recall) (
 abbrev pub figure_at : Row → ℕ → Option Figure
 figure_at r place = figure_of (at r.level place) (at r.request place) (at r.allot place) (at r.active place) (at r.recall place) (at r.hire place)
 
--- what a pointer over a column is told
+-- what a pointer over columns is told
 abbrev pub title_text : Entries → ℕ → Figure → List ℕ
 title_text e arena f =
     (codes "<title>" ++ (entries_text e ++ (codes ": arena " ++ (decimal arena ++ (codes ", level " ++ range_text f.level)))))
     ++ (codes ", request " ++ (range_text f.request ++ (codes ", allotment " ++ (range_text f.allot
     ++ (codes ", active " ++ (range_text f.active ++ codes "</title>"))))))
 
--- the ground of a column, which is another where the arena moved between levels
+-- the ground of columns, which is another where the arena moved between levels
 abbrev pub ground_text : Span → List ℕ
 ground_text level =
     if level.least == level.most then codes "<path class=\"h\" d=\"M4 0v36\"/>" else codes "<path class=\"v\" d=\"M4 0v36\"/>"
 
--- the allotment as an area, pale to its most and full to its least
+-- an area from the foot of the row to a number, after the name of its class
+abbrev pub foot_text : ℕ → ℕ → List ℕ
+foot_text scale number = bar_text (bar_of scale (record { least = 0; most = number }))
+
+-- the allotment as an area, full to its least, and pale to its most where that is more
 abbrev pub area_text : ℕ → Span → List ℕ
 area_text scale allot =
-    codes "<path class=\"m\"" ++ (bar_text (bar_of scale (record { least = 0; most = allot.most }))
-    ++ (codes "<path class=\"l\"" ++ bar_text (bar_of scale (record { least = 0; most = allot.least }))))
+    if allot.least == allot.most
+    then codes "<path class=\"l\"" ++ foot_text scale allot.least
+    else codes "<path class=\"m\"" ++ (foot_text scale allot.most ++ (codes "<path class=\"l\"" ++ foot_text scale allot.least))
 
 -- the request and the active workers
 abbrev pub bars_text : ℕ → Span → Span → List ℕ
 bars_text scale request active = codes "<path class=\"r\"" ++ (bar_text (bar_of scale request) ++ (codes "<path class=\"a\"" ++ bar_text (bar_of scale active)))
 
--- marks of recalls and of hires, which have no height where there are none
+-- a mark at this height, where there are some
+abbrev pub mark_text : List ℕ → ℕ → ℕ → List ℕ
+mark_text class y some = if some == 0 then [] else class ++ bar_text (record { y = y; height = min 2 some })
+
+-- marks of recalls and of hires
 abbrev pub marks_text : ℕ → ℕ → List ℕ
-marks_text recall hire =
-    codes "<path class=\"k\"" ++ (bar_text (record { y = 31; height = min 2 recall }) ++ (codes "<path class=\"n\"" ++ bar_text (record { y = 34; height = min 2 hire })))
+marks_text recall hire = mark_text (codes "<path class=\"k\"") 31 recall ++ mark_text (codes "<path class=\"n\"") 34 hire
 
 abbrev pub shapes_text : ℕ → Figure → List ℕ
 shapes_text scale f = ground_text f.level ++ (area_text scale f.allot ++ (bars_text scale f.request f.active ++ marks_text f.recall.most f.hire.most))
@@ -83,18 +92,53 @@ abbrev pub stands_at : ℕ → Option Span → Bool
 stands_at level None = false
 stands_at level (Some s) = (s.least == level) || (s.most == level)
 
--- a column of an arena at its place
-abbrev pub placed_text : ℕ → ℕ → Entries → ℕ → Figure → List ℕ
-placed_text arena scale e place f =
-    (codes "<g transform=\"translate(" ++ (decimal (180 + 8 * place) ++ codes ")\">")) ++ (title_text e arena f ++ (shapes_text scale f ++ codes "</g>\n"))
+-- where the columns from one to another stand, each 8 wide, and what ends that
+abbrev pub place_text : Run → List ℕ → List ℕ
+place_text run end = codes "<g transform=\"matrix(" ++ (decimal (run.last - run.first + 1) ++ (codes " 0 0 1 " ++ (decimal (180 + 8 * run.first) ++ end)))
 
--- a column of an arena at a level, where it is drawn there
-abbrev pub cell_text : ℕ → ℕ → ℕ → Entries → ℕ → Option Figure → List ℕ
-cell_text level arena scale e place None = []
-cell_text level arena scale e place (Some f) =
+-- columns of an arena, drawn as one at their place
+abbrev pub placed_text : ℕ → ℕ → Entries → Run → Figure → List ℕ
+placed_text arena scale e run f = place_text run (codes " 0)\">") ++ (title_text e arena f ++ (shapes_text scale f ++ codes "</g>\n"))
+
+-- columns of an arena at a level, where it is drawn there
+abbrev pub cell_text : ℕ → ℕ → ℕ → Entries → Run → Option Figure → List ℕ
+cell_text level arena scale e run None = []
+cell_text level arena scale e run (Some f) =
     if stands_at level (Some f.level)
-    then placed_text arena scale e place f
+    then placed_text arena scale e run f
     else []
+
+-- ---- columns that say the same
+
+-- whether two columns of a line say the same
+abbrev pub same_span : Option Span → Option Span → Bool
+same_span None None = true
+same_span None (Some t) = false
+same_span (Some s) None = false
+same_span (Some s) (Some t) = (s.least == t.least) && (s.most == t.most)
+
+-- whether a column of a line says what the next says
+abbrev pub says_next : List (Option Span) → ℕ → Bool
+says_next columns place = same_span (at columns place) (at columns (place + 1))
+
+-- whether a row says in a column what it says in the next
+abbrev pub row_says_next : Row → ℕ → Bool
+row_says_next r place =
+    says_next r.level place
+    && (says_next r.request place && (says_next r.allot place && (says_next r.active place && (says_next r.recall place && says_next r.hire place))))
+
+-- whether a column of so many is drawn as one with the next, since a row says the same there
+abbrev pub row_goes_on : ℕ → Row → ℕ → Bool
+row_goes_on filled r place = nat_lt (place + 1) filled && row_says_next r place
+
+-- the first of the columns that are drawn as one with this one and end there
+unfoldable pub run_first : (ℕ → Bool) → ℕ → ℕ
+run_first goes_on zero = zero
+run_first goes_on (suc place) = if goes_on place then run_first goes_on place else place + 1
+
+-- these columns
+abbrev pub run_of : (ℕ → Bool) → ℕ → Run
+run_of goes_on place = record { first = run_first goes_on place; last = place }
 
 -- ---- rows
 
@@ -120,17 +164,22 @@ filled sheet = min sheet.columns (if sheet.moments == 0 then 0 else (sheet.momen
 abbrev pub first_entry : Sheet → ℕ → ℕ
 first_entry sheet place = sheet.before + place * sheet.width + 1
 
--- the entries of a column
-abbrev pub entries_of : Sheet → ℕ → Entries
-entries_of sheet place =
-    record {
-      first = first_entry sheet place;
-      last = sheet.before + place * sheet.width + min sheet.width (sheet.moments - place * sheet.width);
-    }
+-- the last entry of a column
+abbrev pub last_entry : Sheet → ℕ → ℕ
+last_entry sheet place = sheet.before + place * sheet.width + min sheet.width (sheet.moments - place * sheet.width)
 
--- a column of a row at a level
+-- the entries of the columns from one to another
+abbrev pub entries_of : Sheet → Run → Entries
+entries_of sheet run = record { first = first_entry sheet run.first; last = last_entry sheet run.last }
+
+-- the columns of a row at a level from one to another, in which it says the same
+abbrev pub run_text : Sheet → ℕ → ℕ → Row → Run → List ℕ
+run_text sheet level scale r run = cell_text level r.arena scale (entries_of sheet run) run (figure_at r run.last)
+
+-- the columns of a row at a level that end at a place
 abbrev pub column_text : Sheet → ℕ → ℕ → Row → ℕ → List ℕ
-column_text sheet level scale r place = cell_text level r.arena scale (entries_of sheet place) place (figure_at r place)
+column_text sheet level scale r place =
+    if row_goes_on (filled sheet) r place then [] else run_text sheet level scale r (run_of (row_goes_on (filled sheet) r) place)
 
 -- the columns of a row at a level
 abbrev pub columns_text : Sheet → ℕ → ℕ → Row → List ℕ
@@ -177,28 +226,34 @@ abbrev pub limits_title : Entries → Span → Span → List ℕ
 limits_title e limit effective =
     (codes "<title>" ++ (entries_text e ++ (codes ": limit " ++ range_text limit))) ++ (codes ", effective limit " ++ (range_text effective ++ codes "</title><path class=\"h\" d=\"M4 0v36\"/>"))
 
--- where a column of the limits stands
-abbrev pub limits_place : ℕ → List ℕ
-limits_place place = codes "<g transform=\"translate(" ++ (decimal (180 + 8 * place) ++ codes " 60)\">")
+-- columns of the limits, drawn as one at their place
+abbrev pub placed_limits : ℕ → Entries → Run → Span → Span → List ℕ
+placed_limits scale e run limit effective =
+    place_text run (codes " 60)\">") ++ (limits_title e limit effective ++ (bars_text scale limit effective ++ codes "</g>\n"))
 
--- a column of the limits at its place
-abbrev pub placed_limits : ℕ → Entries → ℕ → Span → Span → List ℕ
-placed_limits scale e place limit effective = limits_place place ++ (limits_title e limit effective ++ (bars_text scale limit effective ++ codes "</g>\n"))
+-- columns of the limits, where they have moments
+abbrev pub limits_cell : ℕ → Entries → Run → Option Span → Option Span → List ℕ
+limits_cell scale e run None effective = []
+limits_cell scale e run (Some limit) None = []
+limits_cell scale e run (Some limit) (Some effective) =
+    placed_limits scale e run limit effective
 
--- a column of the limits, where it has moments
-abbrev pub limits_cell : ℕ → Entries → ℕ → Option Span → Option Span → List ℕ
-limits_cell scale e place None effective = []
-limits_cell scale e place (Some limit) None = []
-limits_cell scale e place (Some limit) (Some effective) =
-    placed_limits scale e place limit effective
+-- whether a column of so many is drawn as one with the next, since the limits are the same there
+abbrev pub limits_go_on : ℕ → Drawn → ℕ → Bool
+limits_go_on filled d place = nat_lt (place + 1) filled && (says_next d.limit place && says_next d.effective place)
 
 -- what stands at the top of the limits: the greatest of them, 1 at least
 abbrev pub limits_scale : Drawn → ℕ
 limits_scale d = max 1 (max (greatest d.limit) (greatest d.effective))
 
--- the column of the limits at a place
+-- the columns of the limits from one to another, in which they are the same
+abbrev pub limits_run : Sheet → ℕ → Drawn → Run → List ℕ
+limits_run sheet scale d run = limits_cell scale (entries_of sheet run) run (at d.limit run.last) (at d.effective run.last)
+
+-- the columns of the limits that end at a place
 abbrev pub limits_column : Sheet → ℕ → Drawn → ℕ → List ℕ
-limits_column sheet scale d place = limits_cell scale (entries_of sheet place) place (at d.limit place) (at d.effective place)
+limits_column sheet scale d place =
+    if limits_go_on (filled sheet) d place then [] else limits_run sheet scale d (run_of (limits_go_on (filled sheet) d) place)
 
 -- all columns of the limits
 abbrev pub limits_columns : Sheet → ℕ → Drawn → List ℕ

@@ -1,6 +1,6 @@
-//! A column of a row, as text.
+//! Columns of a row, as text: those beside each other that say the same are drawn as one.
 ghost use Rattle.std.specs.Prelude.{◌≡◌, ◌+◌, ◌*◌, ◌++◌, ◌<◌, ◌≤◌, OnOk, codes, decimal, string_bytes};
-ghost use Rattle.journal_chart.specs.Picture.{area_text, bar_of, bar_text, bars_text, cell_text, figure_at, ground_text, limits_cell, limits_place, limits_title, marks_text, placed_limits, placed_text, range_text, rise_of, shapes_text, stands_at, title_text};
+ghost use Rattle.journal_chart.specs.Picture.{area_text, bar_of, bar_text, bars_text, cell_text, figure_at, foot_text, ground_text, limits_cell, limits_title, mark_text, marks_text, place_text, placed_limits, placed_text, range_text, rise_of, row_goes_on, row_says_next, shapes_text, stands_at, title_text};
 
 use crate::row::Row;
 use crate::span::Span;
@@ -18,7 +18,14 @@ pub(crate) struct Figure {
     pub(crate) hire: Span,
 }
 
-/// The first and the last entry of a column.
+/// Columns beside each other that say the same, by the places of the first and of the last.
+#[derive(Clone, Copy)]
+pub(crate) struct Run {
+    pub(crate) first: u32,
+    pub(crate) last: u32,
+}
+
+/// The first and the last entry of columns beside each other.
 #[derive(Clone, Copy)]
 pub(crate) struct Entries {
     pub(crate) first: u64,
@@ -60,6 +67,26 @@ impl Row {
             recall: self.recall.at(place)?,
             hire: self.hire.at(place)?,
         })
+    }
+
+    /// Whether the row says in a column what it says in the next.
+    fn says_next(&self, place: u32) -> bool
+        ensures { result ≡ row_says_next self.now place }
+    {
+        self.level.says_next(place)
+            && self.request.says_next(place)
+            && self.allot.says_next(place)
+            && self.active.says_next(place)
+            && self.recall.says_next(place)
+            && self.hire.says_next(place)
+    }
+
+    /// Whether a column of so many is drawn as one with the next, since the row says the same there.
+    pub(crate) fn goes_on(&self, filled: u32, place: u32) -> bool
+        requires { place < filled }
+        ensures { result ≡ row_goes_on filled self.now place }
+    {
+        place + 1 < filled && self.says_next(place)
     }
 }
 
@@ -142,7 +169,7 @@ fn write_bar(text: &mut String, class: &str, bar: Bar) -> Result<(), AllocError>
     text.push_str("\"/>")
 }
 
-/// Writes what a pointer over a column is told.
+/// Writes what a pointer over columns is told.
 fn write_title(
     text: &mut String,
     entries: Entries,
@@ -169,27 +196,27 @@ fn write_ground(text: &mut String, level: Span) -> Result<(), AllocError>
     text.push_str("<path class=\"v\" d=\"M4 0v36\"/>")
 }
 
+/// Writes an area from the foot of the row to a number.
+fn write_foot(text: &mut String, class: &str, scale: u64, number: u32) -> Result<(), AllocError>
+    requires { 0 < scale }
+    ensures { OnOk result (string_bytes text.new ≡ string_bytes text.old ++ (class.now ++ foot_text scale number)) }
+{
+    let range = Span {
+        least: 0,
+        most: number,
+    };
+    write_bar(text, class, bar_of(scale, range))
+}
+
 /// Writes the allotment as an area.
 fn write_area(text: &mut String, scale: u64, allot: Span) -> Result<(), AllocError>
     requires { 0 < scale }
     ensures { OnOk result (string_bytes text.new ≡ string_bytes text.old ++ area_text scale allot) }
 {
-    let most = bar_of(
-        scale,
-        Span {
-            least: 0,
-            most: allot.most,
-        },
-    );
-    let least = bar_of(
-        scale,
-        Span {
-            least: 0,
-            most: allot.least,
-        },
-    );
-    write_bar(text, "<path class=\"m\"", most)?;
-    write_bar(text, "<path class=\"l\"", least)
+    if allot.least != allot.most {
+        write_foot(text, "<path class=\"m\"", scale, allot.most)?;
+    }
+    write_foot(text, "<path class=\"l\"", scale, allot.least)
 }
 
 /// Writes the request and the active workers as bars.
@@ -201,20 +228,23 @@ fn write_bars(text: &mut String, scale: u64, request: Span, active: Span) -> Res
     write_bar(text, "<path class=\"a\"", bar_of(scale, active))
 }
 
+/// Writes a mark at a height, where there are some.
+fn write_mark(text: &mut String, class: &str, y: u64, some: u32) -> Result<(), AllocError>
+    ensures { OnOk result (string_bytes text.new ≡ string_bytes text.old ++ mark_text class.now y some) }
+{
+    if some == 0 {
+        return Ok(());
+    }
+    let height = u64::from(some.min(2));
+    write_bar(text, class, Bar { y, height })
+}
+
 /// Writes the marks of recalls and of hires.
 fn write_marks(text: &mut String, recall: u32, hire: u32) -> Result<(), AllocError>
     ensures { OnOk result (string_bytes text.new ≡ string_bytes text.old ++ marks_text recall hire) }
 {
-    let recall = Bar {
-        y: 31,
-        height: u64::from(recall.min(2)),
-    };
-    let hire = Bar {
-        y: 34,
-        height: u64::from(hire.min(2)),
-    };
-    write_bar(text, "<path class=\"k\"", recall)?;
-    write_bar(text, "<path class=\"n\"", hire)
+    write_mark(text, "<path class=\"k\"", 31, recall)?;
+    write_mark(text, "<path class=\"n\"", 34, hire)
 }
 
 /// Writes the ground, the area of the allotment, the bars, and the marks.
@@ -228,18 +258,19 @@ fn write_shapes(text: &mut String, scale: u64, figure: Figure) -> Result<(), All
     write_marks(text, figure.recall.most, figure.hire.most)
 }
 
-/// Writes a column of an arena at a level, where it is drawn there.
+/// Writes columns of an arena at a level, where it is drawn there.
 pub(crate) fn write_cell(
     text: &mut String,
     level: u32,
     arena: u32,
     scale: u64,
     entries: Entries,
-    place: u32,
+    run: Run,
     figure: Option<Figure>,
 ) -> Result<(), AllocError>
-    requires { 0 < scale }
-    ensures { OnOk result (string_bytes text.new ≡ string_bytes text.old ++ cell_text level arena scale entries place figure) }
+    requires high { 0 < scale }
+    requires some { run.first ≤ run.last }
+    ensures { OnOk result (string_bytes text.new ≡ string_bytes text.old ++ cell_text level arena scale entries run figure) }
 {
     let Some(figure) = figure else {
         return Ok(());
@@ -247,47 +278,52 @@ pub(crate) fn write_cell(
     if !stands_at(level, Some(figure.level)) {
         return Ok(());
     }
-    write_placed(text, arena, scale, entries, place, figure)
+    write_placed(text, arena, scale, entries, run, figure)
 }
 
-/// Writes where a column stands, and what ends that.
-fn write_place(text: &mut String, place: u32, end: &str) -> Result<(), AllocError>
-    ensures { OnOk result (string_bytes text.new ≡ string_bytes text.old ++ (codes "<g transform=\"translate(" ++ (decimal (180 + 8 * place) ++ end.now))) }
+/// Writes where columns stand, each 8 wide, and what ends that.
+fn write_place(text: &mut String, run: Run, end: &str) -> Result<(), AllocError>
+    requires { run.first ≤ run.last }
+    ensures { OnOk result (string_bytes text.new ≡ string_bytes text.old ++ place_text run end.now) }
 {
-    text.push_str("<g transform=\"translate(")?;
-    write_number(text, 180 + 8 * u64::from(place))?;
+    text.push_str("<g transform=\"matrix(")?;
+    write_number(text, u64::from(run.last - run.first) + 1)?;
+    text.push_str(" 0 0 1 ")?;
+    write_number(text, 180 + 8 * u64::from(run.first))?;
     text.push_str(end)
 }
 
-/// Writes a column at its place.
+/// Writes columns at their place.
 fn write_placed(
     text: &mut String,
     arena: u32,
     scale: u64,
     entries: Entries,
-    place: u32,
+    run: Run,
     figure: Figure,
 ) -> Result<(), AllocError>
-    requires { 0 < scale }
-    ensures { OnOk result (string_bytes text.new ≡ string_bytes text.old ++ placed_text arena scale entries place figure) }
+    requires high { 0 < scale }
+    requires some { run.first ≤ run.last }
+    ensures { OnOk result (string_bytes text.new ≡ string_bytes text.old ++ placed_text arena scale entries run figure) }
 {
-    write_place(text, place, ")\">")?;
+    write_place(text, run, " 0)\">")?;
     write_title(text, entries, arena, figure)?;
     write_shapes(text, scale, figure)?;
     text.push_str("</g>\n")
 }
 
-/// Writes a column of the limits.
+/// Writes columns of the limits.
 pub(crate) fn write_limits_cell(
     text: &mut String,
     scale: u64,
     entries: Entries,
-    place: u32,
+    run: Run,
     limit: Option<Span>,
     effective: Option<Span>,
 ) -> Result<(), AllocError>
-    requires { 0 < scale }
-    ensures { OnOk result (string_bytes text.new ≡ string_bytes text.old ++ limits_cell scale entries place limit effective) }
+    requires high { 0 < scale }
+    requires some { run.first ≤ run.last }
+    ensures { OnOk result (string_bytes text.new ≡ string_bytes text.old ++ limits_cell scale entries run limit effective) }
 {
     let Some(limit) = limit else {
         return Ok(());
@@ -295,10 +331,10 @@ pub(crate) fn write_limits_cell(
     let Some(effective) = effective else {
         return Ok(());
     };
-    write_placed_limits(text, scale, entries, place, limit, effective)
+    write_placed_limits(text, scale, entries, run, limit, effective)
 }
 
-/// Writes what a pointer over a column of the limits is told, and the ground.
+/// Writes what a pointer over columns of the limits is told, and the ground.
 fn write_limits_title(
     text: &mut String,
     entries: Entries,
@@ -313,26 +349,20 @@ fn write_limits_title(
     text.push_str("</title><path class=\"h\" d=\"M4 0v36\"/>")
 }
 
-/// Writes where a column of the limits stands.
-fn write_limits_place(text: &mut String, place: u32) -> Result<(), AllocError>
-    ensures { OnOk result (string_bytes text.new ≡ string_bytes text.old ++ limits_place place) }
-{
-    write_place(text, place, " 60)\">")
-}
-
-/// Writes a column of the limits at its place.
+/// Writes columns of the limits at their place.
 fn write_placed_limits(
     text: &mut String,
     scale: u64,
     entries: Entries,
-    place: u32,
+    run: Run,
     limit: Span,
     effective: Span,
 ) -> Result<(), AllocError>
-    requires { 0 < scale }
-    ensures { OnOk result (string_bytes text.new ≡ string_bytes text.old ++ placed_limits scale entries place limit effective) }
+    requires high { 0 < scale }
+    requires some { run.first ≤ run.last }
+    ensures { OnOk result (string_bytes text.new ≡ string_bytes text.old ++ placed_limits scale entries run limit effective) }
 {
-    write_limits_place(text, place)?;
+    write_place(text, run, " 60)\">")?;
     write_limits_title(text, entries, limit, effective)?;
     write_bars(text, scale, limit, effective)?;
     text.push_str("</g>\n")

@@ -1,6 +1,7 @@
 //! A line of a chart.
 ghost use Rattle.std.specs.Prelude.{◌≡◌, IfOk, None, Some, replicate};
 ghost use Rattle.journal_chart.specs.Lines.{added, at, halved};
+ghost use Rattle.journal_chart.specs.Picture.{same_span, says_next};
 
 use crate::span::{Span, joined};
 use std::alloc::{AllocError, Global};
@@ -49,6 +50,14 @@ impl Line {
         }
     }
 
+    /// Whether the column at a place says what the next says.
+    pub(crate) fn says_next(&self, place: u32) -> bool
+        ensures { result ≡ says_next self.now place }
+    {
+        let place = place as usize;
+        same(self.at(place), self.at(place + 1))
+    }
+
     /// Puts a number into the column at a place, if there is one.
     pub(crate) fn add(&mut self, place: usize, number: u32)
         ensures { self.new ≡ added place (Some number) self.old }
@@ -63,6 +72,17 @@ impl Line {
         ensures { self.new ≡ halved self.old }
     {
         halve_columns(&mut self.columns);
+    }
+}
+
+/// Whether two columns say the same.
+fn same(one: Option<Span>, other: Option<Span>) -> bool
+    ensures { result ≡ same_span one other }
+{
+    match (one, other) {
+        (None, None) => true,
+        (Some(one), Some(other)) => one.least == other.least && one.most == other.most,
+        _ => false,
     }
 }
 

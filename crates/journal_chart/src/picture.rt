@@ -1,38 +1,39 @@
 //! The picture of a chart, as the text of an SVG.
 ghost use Rattle.std.specs.Prelude.{◌≡◌, ◌+◌, ◌*◌, ◌++◌, ◌<◌, ◌≤◌, ◌^◌, length, OnErr, OnOk, string_bytes};
 ghost use Rattle.std.specs.List.{count_by};
-ghost use Rattle.journal_chart.specs.Picture.{axis_name, axis_text, box_text, column_text, columns_text, filled, head_text, is_at, legend_text, levels_end, levels_text, limits_column, limits_columns, limits_name, limits_scale, limits_text, name_text, picture_text, row_text, rows_end, rows_text, sheet_text, size_text, style_text, tick_text, ticks_text};
+ghost use Rattle.journal_chart.specs.Picture.{axis_name, axis_text, box_text, columns_text, filled, head_text, is_at, legend_text, levels_end, levels_text, limits_columns, limits_go_on, limits_name, limits_run, limits_scale, limits_text, name_text, picture_text, row_text, rows_end, rows_text, run_text, sheet_text, size_text, style_text, tick_text, ticks_text};
 
 use crate::chart::Chart;
-use crate::figure::{write_cell, write_limits_cell};
+use crate::figure::{Run, write_cell, write_limits_cell};
 use crate::lines::Lines;
 use crate::row::Row;
 use crate::sheet::{Sheet, greatest, is_at, scale_of};
 use std::alloc::AllocError;
 
-/// Writes a column of a row at a level.
-fn write_column(
+/// Writes columns of a row at a level, in which it says the same.
+fn write_run(
     text: &mut String,
     sheet: Sheet,
     level: u32,
     scale: u64,
     row: &Row,
-    place: u32,
+    run: Run,
 ) -> Result<(), AllocError>
     requires wide { 0 < sheet.width }
     requires countable { sheet.before + sheet.moments < 2 ^ 64 }
-    requires inside { place < filled sheet }
+    requires some { run.first ≤ run.last }
+    requires inside { run.last < filled sheet }
     requires high { 0 < scale }
-    ensures { OnOk result (string_bytes text.new ≡ string_bytes text.old ++ column_text sheet level scale row.now place) }
+    ensures { OnOk result (string_bytes text.new ≡ string_bytes text.old ++ run_text sheet level scale row.now run) }
 {
-    let figure = row.figure(place as usize);
+    let figure = row.figure(run.last as usize);
     write_cell(
         text,
         level,
         row.arena.get(),
         scale,
-        sheet.entries(place),
-        place,
+        sheet.entries(run),
+        run,
         figure,
     )
 }
@@ -50,8 +51,15 @@ fn write_columns(
     requires high { 0 < scale }
     ensures { OnOk result (string_bytes text.new ≡ string_bytes text.old ++ columns_text sheet level scale row.now) }
 {
-    for place in 0..sheet.filled() {
-        write_column(text, sheet, level, scale, row, place)?;
+    let filled = sheet.filled();
+    let mut first = 0;
+    for place in 0..filled {
+        if row.goes_on(filled, place) {
+            continue;
+        }
+        let run = Run { first, last: place };
+        write_run(text, sheet, level, scale, row, run)?;
+        first = place + 1;
     }
     Ok(())
 }
@@ -166,23 +174,32 @@ fn write_levels(text: &mut String, sheet: Sheet, rows: &[Row]) -> Result<(), All
     Ok(())
 }
 
-/// Writes a column of the limits.
-fn write_limits_column(
+/// Writes columns of the limits, in which they are the same.
+fn write_limits_run(
     text: &mut String,
     sheet: Sheet,
     scale: u64,
     lines: &Lines,
-    place: u32,
+    run: Run,
 ) -> Result<(), AllocError>
     requires wide { 0 < sheet.width }
     requires countable { sheet.before + sheet.moments < 2 ^ 64 }
-    requires inside { place < filled sheet }
+    requires some { run.first ≤ run.last }
+    requires inside { run.last < filled sheet }
     requires high { 0 < scale }
-    ensures { OnOk result (string_bytes text.new ≡ string_bytes text.old ++ limits_column sheet scale lines.now place) }
+    ensures { OnOk result (string_bytes text.new ≡ string_bytes text.old ++ limits_run sheet scale lines.now run) }
 {
-    let limit = lines.limit().at(place as usize);
-    let effective = lines.effective().at(place as usize);
-    write_limits_cell(text, scale, sheet.entries(place), place, limit, effective)
+    let limit = lines.limit().at(run.last as usize);
+    let effective = lines.effective().at(run.last as usize);
+    write_limits_cell(text, scale, sheet.entries(run), run, limit, effective)
+}
+
+/// Whether a column of so many is drawn as one with the next, since the limits are the same there.
+fn limits_go_on(filled: u32, lines: &Lines, place: u32) -> bool
+    requires { place < filled }
+    ensures { result ≡ limits_go_on filled lines.now place }
+{
+    place + 1 < filled && lines.limit().says_next(place) && lines.effective().says_next(place)
 }
 
 /// Writes the columns of the limits.
@@ -197,8 +214,15 @@ fn write_limits_columns(
     requires high { 0 < scale }
     ensures { OnOk result (string_bytes text.new ≡ string_bytes text.old ++ limits_columns sheet scale lines.now) }
 {
-    for place in 0..sheet.filled() {
-        write_limits_column(text, sheet, scale, lines, place)?;
+    let filled = sheet.filled();
+    let mut first = 0;
+    for place in 0..filled {
+        if limits_go_on(filled, lines, place) {
+            continue;
+        }
+        let run = Run { first, last: place };
+        write_limits_run(text, sheet, scale, lines, run)?;
+        first = place + 1;
     }
     Ok(())
 }
@@ -374,7 +398,7 @@ fn write_picture(text: &mut String, before: u32, chart: &Chart) -> Result<(), Al
 
 /// Puts the picture of a chart, an SVG that stands alone, behind what `out` holds. It has a row for each arena at each level at which
 /// it stood (of the levels of one column, the least and the greatest), in which each column tells a pointer its numbers and its
-/// entries; `before` entries came before the first moment. `Err` says that memory ran out, and leaves `out` as it was.
+/// entries, and columns beside each other that say the same are drawn as one; `before` entries came before the first moment. `Err` says that memory ran out, and leaves `out` as it was.
 pub fn push_picture(out: &mut Vec<u8>, before: u32, chart: &Chart) -> Result<(), AllocError>
     requires few { length chart.now.lines.rows < 2 ^ 32 }
     requires countable { before + chart.now.moments < 2 ^ 64 }

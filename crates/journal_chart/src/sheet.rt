@@ -1,9 +1,9 @@
 //! The columns of a picture.
-ghost use Rattle.std.specs.Prelude.{◌≡◌, ◌+◌, ◌*◌, ◌<◌, ◌^◌};
+ghost use Rattle.std.specs.Prelude.{◌≡◌, ◌+◌, ◌*◌, ◌<◌, ◌≤◌, ◌^◌};
 ghost use Rattle.std.specs.List.{list_any};
-ghost use Rattle.journal_chart.specs.Picture.{entries_of, filled, first_entry, greatest, is_at, most_of, scale_of, stands_at, wide_of};
+ghost use Rattle.journal_chart.specs.Picture.{entries_of, filled, first_entry, greatest, is_at, last_entry, most_of, scale_of, stands_at, wide_of};
 
-use crate::figure::{Entries, stands_at};
+use crate::figure::{Entries, Run, stands_at};
 use crate::row::Row;
 use crate::span::Span;
 
@@ -56,18 +56,28 @@ impl Sheet {
         u64::from(self.before) + self.moments_before(place) + 1
     }
 
-    /// The entries of a column.
-    pub(crate) fn entries(self, place: u32) -> Entries
+    /// The last entry of a column.
+    fn last_entry(self, place: u32) -> u64
         requires wide { 0 < self.width }
         requires countable { self.before + self.moments < 2 ^ 64 }
         requires inside { place < filled self }
-        ensures { result ≡ entries_of self place }
+        ensures { result ≡ last_entry self place }
     {
         let passed = self.moments_before(place);
-        let before = u64::from(self.before) + passed;
+        u64::from(self.before) + passed + self.width.min(self.moments - passed)
+    }
+
+    /// The entries of columns beside each other.
+    pub(crate) fn entries(self, run: Run) -> Entries
+        requires wide { 0 < self.width }
+        requires countable { self.before + self.moments < 2 ^ 64 }
+        requires some { run.first ≤ run.last }
+        requires inside { run.last < filled self }
+        ensures { result ≡ entries_of self run }
+    {
         Entries {
-            first: before + 1,
-            last: before + self.width.min(self.moments - passed),
+            first: self.first_entry(run.first),
+            last: self.last_entry(run.last),
         }
     }
 }

@@ -126,21 +126,25 @@ fn draws_nine_calls(rt: &impl Abort, alloc: Global, chart: &Chart) {
     let axis = "<text x=\"8\" y=\"260\">entry</text>\n<text x=\"180\" y=\"260\">1</text>\n</svg>\n";
     holds(rt, text.contains(size));
     holds(rt, text.ends_with(axis));
-    let limit = "<g transform=\"translate(180 60)\">\
+    let limit = "<g transform=\"matrix(1 0 0 1 180 60)\">\
         <title>entries 1 to 4: limit 7, effective limit ";
     holds(rt, text.contains(limit));
+    let both = "<g transform=\"matrix(2 0 0 1 188 60)\">\
+        <title>entries 5 to 9: limit 1, effective limit 1</title>\
+        <path class=\"h\" d=\"M4 0v36\"/><path class=\"r\" d=\"M4 24v2\"/><path class=\"a\" d=\"M4 24v2\"/></g>\n<g transform=\"translate(0 120)";
+    holds(rt, text.contains(both));
     let row = "<g transform=\"translate(0 200)\"><text x=\"8\" y=\"24\">level 2, arena 1</text>\
-        <text x=\"172\" y=\"10\" class=\"e\">3</text>\n<g transform=\"translate(180)\">";
+        <text x=\"172\" y=\"10\" class=\"e\">3</text>\n<g transform=\"matrix(1 0 0 1 180 0)\">";
     holds(rt, text.contains(row));
     let first =
         "<title>entries 1 to 4: arena 1, level 2, request 0 to 3, allotment 0 to 3, active 0 to 2</title>\
         <path class=\"h\" d=\"M4 0v36\"/>\
         <path class=\"m\" d=\"M4 0v30\"/><path class=\"l\" d=\"M4 28v2\"/>\
         <path class=\"r\" d=\"M4 0v30\"/><path class=\"a\" d=\"M4 10v20\"/>\
-        <path class=\"k\" d=\"M4 31v0\"/><path class=\"n\" d=\"M4 34v2\"/></g>\n";
+        <path class=\"n\" d=\"M4 34v2\"/></g>\n";
     holds(rt, text.contains(first));
     let last = "<g transform=\"translate(0 120)\"><text x=\"8\" y=\"24\">level 1, arena 1</text>\
-        <text x=\"172\" y=\"10\" class=\"e\">3</text>\n<g transform=\"translate(196)\">\
+        <text x=\"172\" y=\"10\" class=\"e\">3</text>\n<g transform=\"matrix(1 0 0 1 196 0)\">\
         <title>entry 9: arena 1, level 1, request 3, allotment 0, active 1</title>";
     holds(rt, text.contains(last));
 }
