@@ -1,9 +1,9 @@
 -- What is written of answers is the outcome of their plan.
 use Rattle.std.proofs.Common.{◌≡◌, ℕ, suc, ◌+◌, ◌<◌, List, [], ◌∷◌, ◌++◌, length, slice_index_or, refl, ap, ap₂, ◌∙◌, arith}
-use Rattle.drive_plan.specs.declared.task.PlannedJob.{PlannedJob}
-use Rattle.drive_plan.specs.declared.task.Done.{Done}
-use Rattle.drive_plan.specs.Values.{value_of}
-use Rattle.drive_plan.specs.Outcome.{IsOutcome}
+use Rattle.plan_jobs.specs.declared.task.PlannedJob.{PlannedJob}
+use Rattle.plan_jobs.specs.declared.task.Done.{Done}
+use Rattle.plan_jobs.specs.Values.{value_of}
+use Rattle.plan_jobs.specs.Outcome.{IsOutcome}
 use Rattle.drive_engine.specs.Texts.{answer_lines, job_line, outcome_lines}
 
 -- answers with the jobs' values, the first of which has this number

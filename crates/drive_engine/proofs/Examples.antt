@@ -3,8 +3,8 @@ use Rattle.std.proofs.Common.{◌≡◌, ℕ, List, [], ◌∷◌, ◌++◌, Ok,
 use Rattle.std.specs.Fmt.{digits}
 use Rattle.market_texts.specs.Reading.{level, number}
 use Rattle.line_engine.specs.Lines.{ended_lines, unfinished_line}
-use Rattle.drive_plan.specs.declared.task.PlannedJob.{PlannedJob}
-use Rattle.drive_plan.specs.declared.task.Task.TheVariants.{Sum, Digits}
+use Rattle.plan_jobs.specs.declared.task.PlannedJob.{PlannedJob}
+use Rattle.plan_jobs.specs.declared.task.Task.TheVariants.{Sum, Digits}
 use Rattle.drive_plan.specs.declared.reader.PlanFault.TheVariants as plan
 use Rattle.drive_plan.specs.Reading.{line_of, long_number}
 use Rattle.drive_plan.specs.Format.{plan_of}

@@ -1,8 +1,8 @@
 -- What is written of a plan that was driven (own).
 use Rattle.std.specs.Prelude.{ℕ, ◌+◌, List, [], ◌∷◌, ◌++◌, codes, decimal}
-use Rattle.drive_plan.specs.declared.task.PlannedJob.{PlannedJob}
-use Rattle.drive_plan.specs.declared.task.Done.{Done}
-use Rattle.drive_plan.specs.Values.{value_of}
+use Rattle.plan_jobs.specs.declared.task.PlannedJob.{PlannedJob}
+use Rattle.plan_jobs.specs.declared.task.Done.{Done}
+use Rattle.plan_jobs.specs.Values.{value_of}
 use Rattle.market_drive.specs.declared.fault.DriveFault.{DriveFault}
 use Rattle.market_drive.specs.declared.fault.DriveFault.TheVariants.{BadPlan, Unservable, Unfinished, Doubled, Missing, Memory}
 

@@ -2,9 +2,9 @@
 ghost use Rattle.std.specs.Prelude.{◌≡◌, ◌++◌, IfOk, OnOk, decimal};
 ghost use Rattle.drive_engine.specs.Texts.{answer_lines, fault_line, job_line, numbered_line};
 
-use drive_plan::Done;
 use itoa::Buffer;
 use market_drive::DriveFault;
+use plan_jobs::Done;
 use std::alloc::{AllocError, Global};
 
 /// Puts a text and a number behind what stands in `out`.

@@ -3,10 +3,10 @@ use Rattle.std.proofs.Common.{◌≡◌, ℕ, List, [], ◌∷◌, ◌++◌, Som
 use Rattle.std.specs.Fmt.{digits}
 use Rattle.market_texts.specs.Reading.{level, number}
 use Rattle.line_engine.specs.Lines.{ended_lines, unfinished_line}
-use Rattle.drive_plan.specs.declared.task.Task.TheVariants.{Sum, Digits}
+use Rattle.plan_jobs.specs.declared.task.Task.TheVariants.{Sum, Digits}
 use Rattle.drive_plan.specs.declared.line.PlanLine.TheVariants.{Market, Arena, Job}
 use Rattle.drive_plan.specs.declared.reader.PlanFault.TheVariants.{BadPlan}
-use Rattle.drive_plan.specs.Values.{value_of}
+use Rattle.plan_jobs.specs.Values.{value_of}
 use Rattle.drive_plan.specs.Reading.{line_of, long_number}
 use Rattle.drive_plan.specs.Format.{plan_of}
 

@@ -9,7 +9,7 @@ use Rattle.line_engine.specs.declared.form.LineForm.TheVariants.{Whole, WithoutL
 use Rattle.drive_plan.specs.declared.line.PlanLine.{PlanLine}
 use Rattle.drive_plan.specs.declared.line.PlanLine.TheVariants.{Market, Arena, Control, Job}
 use Rattle.drive_plan.specs.declared.plan.PlannedArena.{PlannedArena}
-use Rattle.drive_plan.specs.declared.task.PlannedJob.{PlannedJob}
+use Rattle.plan_jobs.specs.declared.task.PlannedJob.{PlannedJob}
 use Rattle.drive_plan.specs.declared.reader.Progress.{Progress}
 use Rattle.drive_plan.specs.declared.reader.Progress.TheVariants.{Unopened, Planned as PlannedSoFar, Bad}
 use Rattle.drive_plan.specs.declared.reader.PlanFault.TheVariants.{BadPlan}

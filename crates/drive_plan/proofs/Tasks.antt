@@ -6,7 +6,7 @@ use Rattle.std.proofs.lemmas.List.Splits.{slice_split_none, join_with_byte-slice
 use Rattle.std.proofs.lemmas.Slice.Eq.{bytes_eq-Decides}
 use Rattle.market_texts.specs.Reading.{is_space, number}
 use Rattle.market_texts.proofs.Decimals.{digits_no_space, own}
-use Rattle.drive_plan.specs.declared.task.Task.TheVariants.{Sum, Digits}
+use Rattle.plan_jobs.specs.declared.task.Task.TheVariants.{Sum, Digits}
 use Rattle.drive_plan.specs.Reading.{number_in, long_number, task_of}
 use Rattle.drive_plan.specs.Tasks.{task_left}
 

@@ -1,6 +1,3 @@
-pub mod Values
-pub mod Outcome
-pub mod Gathering
 pub mod Reading
 pub mod Tasks
 pub mod Plans

@@ -1,7 +1,7 @@
 -- Plans, and which lines may follow one another in them (own).
 use Rattle.std.specs.Prelude.{◌≤◌, ℕ, ◌==◌, nat_le, not, if◌then◌else◌, List, [], ◌∷◌, ◌++◌, length, Option, Some, None}
 use Rattle.std.specs.List.{All}
-use Rattle.drive_plan.specs.declared.task.PlannedJob.{PlannedJob}
+use Rattle.plan_jobs.specs.declared.task.PlannedJob.{PlannedJob}
 use Rattle.drive_plan.specs.declared.plan.PlannedArena.{PlannedArena}
 use Rattle.drive_plan.specs.declared.line.PlanLine.{PlanLine}
 use Rattle.drive_plan.specs.declared.line.PlanLine.TheVariants.{Market, Arena, Control, Job}

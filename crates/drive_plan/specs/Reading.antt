@@ -3,8 +3,8 @@ use Rattle.std.specs.Prelude.{ℕ, ◌^◌, ◌&&◌, List, [], ◌∷◌, nat_l
 use Rattle.std.specs.Str.{bytes_eq}
 use Rattle.std.specs.List.{slice_split}
 use Rattle.market_texts.specs.Reading.{is_space, level, number, number_below}
-use Rattle.drive_plan.specs.declared.task.Task.{Task}
-use Rattle.drive_plan.specs.declared.task.Task.TheVariants.{Sum, Digits}
+use Rattle.plan_jobs.specs.declared.task.Task.{Task}
+use Rattle.plan_jobs.specs.declared.task.Task.TheVariants.{Sum, Digits}
 use Rattle.drive_plan.specs.declared.line.PlanLine.{PlanLine}
 use Rattle.drive_plan.specs.declared.line.PlanLine.TheVariants.{Market, Arena, Control, Job}
 

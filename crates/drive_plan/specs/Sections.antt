@@ -6,7 +6,7 @@ use Rattle.line_engine.specs.declared.form.LineForm.TheVariants.{TooLong}
 use Rattle.drive_plan.specs.declared.line.PlanLine.{PlanLine}
 use Rattle.drive_plan.specs.declared.line.PlanLine.TheVariants.{Market, Arena, Control, Job}
 use Rattle.drive_plan.specs.declared.plan.PlannedArena.{PlannedArena}
-use Rattle.drive_plan.specs.declared.task.PlannedJob.{PlannedJob}
+use Rattle.plan_jobs.specs.declared.task.PlannedJob.{PlannedJob}
 use Rattle.drive_plan.specs.Format.{is_passed_over, longest_line}
 use Rattle.drive_plan.specs.Plans.{Planned}
 use Rattle.drive_plan.specs.Reading.{line_of}

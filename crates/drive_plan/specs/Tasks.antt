@@ -1,6 +1,6 @@
 -- What the reader of a task answers, which no public clause has.
 use Rattle.std.specs.Prelude.{ℕ, List, [], ◌∷◌, Option, None}
-use Rattle.drive_plan.specs.declared.task.Task.{Task}
+use Rattle.plan_jobs.specs.declared.task.Task.{Task}
 use Rattle.drive_plan.specs.Reading.{task_of}
 
 -- the task of a job's last fields: its kind and its argument, and no other

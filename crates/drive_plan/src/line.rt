@@ -9,9 +9,9 @@ ghost use Rattle.drive_plan.specs.Reading.{alone, arena_line, arena_wanted, cont
 ghost use Rattle.drive_plan.specs.Tasks.{task_left};
 
 use crate::plan::PlannedArena;
-use crate::task::{PlannedJob, Task};
 use market_texts::{cut_field, read_level, read_number, read_number_to};
 use market_types::{ArenaId, Level};
+use plan_jobs::{PlannedJob, Task};
 
 /// The most of a number of workers: a hard limit, slots, and what an arena asks for.
 const MOST_WORKERS: u32 = 65_535;

@@ -4,8 +4,8 @@ ghost use Rattle.std.specs.List.{All};
 ghost use Rattle.drive_plan.specs.Plans.{FitsArena, FitsControl, FitsJob, FitsLine, FitsMarket, after_market, with_arena, with_control, with_job, with_line};
 
 use crate::line::PlanLine;
-use crate::task::PlannedJob;
 use market_types::Level;
+use plan_jobs::PlannedJob;
 use std::alloc::{AllocError, Global};
 use std::marker::Model;
 

@@ -9,8 +9,8 @@ use Rattle.std.proofs.lemmas.Option.{same_Some, slice_get_within, get_or_from_sl
 use mathlib.Core.Logic.{dite}
 use native.Mathlib.Decide.{ℕ_discrete}
 use Rattle.drive_plan.specs.declared.plan.PlannedArena.{PlannedArena}
-use Rattle.drive_plan.specs.declared.task.PlannedJob.{PlannedJob}
-use Rattle.drive_plan.specs.declared.task.Job.{Job}
+use Rattle.plan_jobs.specs.declared.task.PlannedJob.{PlannedJob}
+use Rattle.plan_jobs.specs.declared.task.Job.{Job}
 use Rattle.drive_plan.specs.Plans.{FitsJob}
 use Rattle.worker_main.specs.declared.station.Station.{Station}
 use Rattle.worker_main.proofs.Lists.{set_same, set_else}

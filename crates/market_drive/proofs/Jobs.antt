@@ -3,7 +3,7 @@ use Rattle.std.proofs.Common.{◌≡◌, ◌≤◌, ℕ, true, List, [], ◌∷�
 use Rattle.std.specs.List.{All}
 use Rattle.std.proofs.lemmas.Bool.{cases_Bool, eqb-true}
 use Rattle.std.proofs.lemmas.List.Elements.{All-head, All-tail}
-use Rattle.drive_plan.specs.declared.task.PlannedJob.{PlannedJob}
+use Rattle.plan_jobs.specs.declared.task.PlannedJob.{PlannedJob}
 use Rattle.drive_plan.specs.Plans.{FitsJob}
 use Rattle.market_drive.specs.Servable.{has_job}
 

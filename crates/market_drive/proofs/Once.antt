@@ -4,13 +4,13 @@ use Rattle.std.specs.List.{AllByRecursion, enumerate_from, sum_by}
 use Rattle.std.proofs.lemmas.Bool.{cases_Bool, eqb-true, cases_lt}
 use Rattle.std.proofs.lemmas.List.Elements.{All-from_recursion}
 use Rattle.std.proofs.lemmas.List.Sums.{sum_by-cons, sum_by-append}
-use Rattle.drive_plan.specs.declared.task.Task.{Task}
-use Rattle.drive_plan.specs.declared.task.Task.TheVariants.{Sum, Digits}
-use Rattle.drive_plan.specs.declared.task.PlannedJob.{PlannedJob}
-use Rattle.drive_plan.specs.declared.task.Job.{Job}
-use Rattle.drive_plan.specs.declared.task.Done.{Done}
+use Rattle.plan_jobs.specs.declared.task.Task.{Task}
+use Rattle.plan_jobs.specs.declared.task.Task.TheVariants.{Sum, Digits}
+use Rattle.plan_jobs.specs.declared.task.PlannedJob.{PlannedJob}
+use Rattle.plan_jobs.specs.declared.task.Job.{Job}
+use Rattle.plan_jobs.specs.declared.task.Done.{Done}
 use Rattle.drive_plan.specs.Plans.{Planned}
-use Rattle.drive_plan.specs.Outcome.{IsOfPlan, IsSound, times}
+use Rattle.plan_jobs.specs.Outcome.{IsOfPlan, IsSound, times}
 use Rattle.worker_main.specs.Books.{results}
 use Rattle.market_drive.specs.declared.fault.DriveFault.{DriveFault}
 use Rattle.market_drive.specs.declared.fault.DriveFault.TheVariants.{BadPlan, Unservable, Unfinished, Doubled, Missing, Memory}

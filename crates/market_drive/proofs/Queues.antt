@@ -3,8 +3,8 @@ use Rattle.std.proofs.Common.{◌≡◌, ◌≤◌, ◌<◌, ◌+◌, ℕ, refl,
 use Rattle.std.specs.Prelude.{slice_get}
 use Rattle.std.specs.List.{AllZip}
 use Rattle.job_queue.specs.Seen.{QueueId, OfTaker}
-use Rattle.drive_plan.specs.declared.task.Job.{Job}
-use Rattle.drive_plan.specs.declared.task.PlannedJob.{PlannedJob}
+use Rattle.plan_jobs.specs.declared.task.Job.{Job}
+use Rattle.plan_jobs.specs.declared.task.PlannedJob.{PlannedJob}
 use Rattle.worker_main.specs.declared.station.Station.{Station}
 use Rattle.worker_main.specs.Stations.{IsTakerOf, HaveOwnArenas}
 use Rattle.worker_main.specs.Books.{IsTakerAfter}

@@ -8,8 +8,8 @@ use Rattle.std.proofs.lemmas.Grind.{flat_map-append}
 use Rattle.job_queue.specs.declared.view.Fed.{Fed}
 use Rattle.job_queue.specs.Jobs.{fed_from}
 use Rattle.job_queue.specs.Seen.{QueueId, OfFeeder, OfTaker, fresh_taker, all_stored, all_taken, AllTaken, IsLeft}
-use Rattle.drive_plan.specs.declared.task.Job.{Job}
-use Rattle.drive_plan.specs.declared.task.Done.{Done}
+use Rattle.plan_jobs.specs.declared.task.Job.{Job}
+use Rattle.plan_jobs.specs.declared.task.Done.{Done}
 use Rattle.worker_main.specs.declared.report.Ended.{Ended}
 use Rattle.worker_main.specs.Books.{jobs_of, results, kept_back}
 use Rattle.market_drive.specs.Racks.{OfEnds, OfRack}

@@ -1,7 +1,7 @@
 -- Which jobs are an arena's, and what its queue is like. No clause of a public call has these words but `AreNumbered` (own).
 use Rattle.std.specs.Prelude.{◌≡◌, ℕ, ◌+◌, ◌<◌, ◌==◌, max, List, length, slice_index_or}
 use Rattle.std.specs.List.{count_by}
-use Rattle.drive_plan.specs.declared.task.PlannedJob.{PlannedJob}
+use Rattle.plan_jobs.specs.declared.task.PlannedJob.{PlannedJob}
 use Rattle.worker_main.specs.declared.station.Station.{Station}
 
 -- how many of the jobs are this arena's

@@ -13,7 +13,7 @@ use Rattle.edit_history.specs.declared.terms.Terms.{Terms}
 use Rattle.market_lock.specs.Seen.{OfPass, IsSamePass, Met}
 use Rattle.office_crew.specs.Works.{IsUnused}
 use Rattle.drive_plan.specs.Plans.{Planned}
-use Rattle.drive_plan.specs.declared.task.Done.{Done}
+use Rattle.plan_jobs.specs.declared.task.Done.{Done}
 use Rattle.worker_main.specs.declared.station.Station.{Station}
 use Rattle.worker_main.specs.declared.report.Ended.{Ended}
 use Rattle.worker_main.specs.declared.report.Ended.TheVariants.{Call}

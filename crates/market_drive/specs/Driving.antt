@@ -5,8 +5,8 @@ use Rattle.market_lock.specs.Headline.{IsGivenBy}
 use Rattle.market_lock.specs.declared.office.Closed.{Closed}
 use Rattle.drive_plan.specs.Plans.{Planned}
 use Rattle.drive_plan.specs.Format.{plan_of}
-use Rattle.drive_plan.specs.Outcome.{IsOutcome}
-use Rattle.drive_plan.specs.declared.task.Done.{Done}
+use Rattle.plan_jobs.specs.Outcome.{IsOutcome}
+use Rattle.plan_jobs.specs.declared.task.Done.{Done}
 use Rattle.drive_plan.specs.declared.reader.PlanFault.TheVariants as plan
 use Rattle.market_drive.specs.Servable.{IsUnservable, IsLeastUnservable}
 use Rattle.worker_main.specs.declared.report.Ended.{Ended}

@@ -1,9 +1,9 @@
 -- What the ends of workers, and their answers, come to (own).
 use Rattle.std.specs.Prelude.{◌≡◌, Bool, true, false, if◌then◌else◌, List, Option, Some, None}
 use Rattle.std.specs.List.{list_any}
-use Rattle.drive_plan.specs.declared.task.PlannedJob.{PlannedJob}
-use Rattle.drive_plan.specs.declared.task.Done.{Done}
-use Rattle.drive_plan.specs.Outcome.{IsDoubled, IsMissing}
+use Rattle.plan_jobs.specs.declared.task.PlannedJob.{PlannedJob}
+use Rattle.plan_jobs.specs.declared.task.Done.{Done}
+use Rattle.plan_jobs.specs.Outcome.{IsDoubled, IsMissing}
 use Rattle.edit_history.specs.declared.fault.CallFault.TheVariants as fault
 use Rattle.worker_main.specs.declared.report.Ended.{Ended}
 use Rattle.worker_main.specs.declared.report.Ended.TheVariants as ended

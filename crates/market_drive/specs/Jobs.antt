@@ -4,9 +4,9 @@ use Rattle.std.specs.Prelude.{◌≡◌, ℕ, ◌==◌, List, [], ◌++◌, map,
 use Rattle.std.specs.List.{enumerate_from, filter, flat_map, sum_by}
 use Rattle.job_queue.specs.Seen.{OfTaker, all_taken}
 use Rattle.drive_plan.specs.declared.plan.PlannedArena.{PlannedArena}
-use Rattle.drive_plan.specs.declared.task.PlannedJob.{PlannedJob}
-use Rattle.drive_plan.specs.declared.task.Job.{Job}
-use Rattle.drive_plan.specs.declared.task.Done.{Done}
+use Rattle.plan_jobs.specs.declared.task.PlannedJob.{PlannedJob}
+use Rattle.plan_jobs.specs.declared.task.Job.{Job}
+use Rattle.plan_jobs.specs.declared.task.Done.{Done}
 use Rattle.worker_main.specs.declared.station.Station.{Station}
 use Rattle.worker_main.specs.declared.report.Ended.{Ended}
 use Rattle.worker_main.specs.Books.{jobs_of, results, kept_back}

@@ -2,7 +2,7 @@
 -- (own).
 use Rattle.std.specs.Prelude.{◌≡◌, ◌≤◌, ℕ, List, [], map}
 use Rattle.job_queue.specs.Seen.{QueueId, OfTaker}
-use Rattle.drive_plan.specs.declared.task.Job.{Job}
+use Rattle.plan_jobs.specs.declared.task.Job.{Job}
 
 -- a worker's takers: of which queues, in their order; for how many there is room; and what is known of each
 pub record OfRack : Type 0 where

@@ -7,7 +7,7 @@ use Rattle.market_types.specs.State.{State, opening}
 use Rattle.market_types.specs.Allotment.{allotment_of}
 use Rattle.market_types.specs.History.{state_after}
 use Rattle.drive_plan.specs.declared.plan.PlannedArena.{PlannedArena}
-use Rattle.drive_plan.specs.declared.task.PlannedJob.{PlannedJob}
+use Rattle.plan_jobs.specs.declared.task.PlannedJob.{PlannedJob}
 use Rattle.drive_plan.specs.Plans.{Planned}
 use Rattle.market_drive.specs.Making.{asks, founding}
 

@@ -4,8 +4,9 @@ ghost use Rattle.std.specs.List.{All};
 ghost use Rattle.drive_plan.specs.Plans.{FitsJob};
 ghost use Rattle.market_drive.specs.Arenas.{count_of};
 
-use drive_plan::{MOST_ARENAS, PlannedJob};
+use drive_plan::MOST_ARENAS;
 use market_types::ArenaId;
+use plan_jobs::PlannedJob;
 
 /// The place of an arena among all of them: that of arena 1 is 0.
 pub(crate) fn place_of(arena: ArenaId) -> usize

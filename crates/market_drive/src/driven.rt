@@ -1,7 +1,7 @@
 //! What a plan leaves that was driven.
 
-use drive_plan::Done;
 use market_lock::Closed;
+use plan_jobs::Done;
 
 /// What driving a plan leaves.
 #[derive(Drop)]

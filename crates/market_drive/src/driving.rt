@@ -1,7 +1,7 @@
 //! A plan is driven.
 ghost use Rattle.std.specs.Prelude.{◌≡◌, ◌<◌, ◌≤◌, Ok, All, IfOk, IfErr};
 ghost use Rattle.drive_plan.specs.Format.{plan_of};
-ghost use Rattle.drive_plan.specs.Outcome.{IsOutcome};
+ghost use Rattle.plan_jobs.specs.Outcome.{IsOutcome};
 ghost use Rattle.market_drive.specs.Causes.{IsOpenedBy, WasLetThrough};
 ghost use Rattle.market_drive.specs.Making.{commands_of};
 ghost use Rattle.market_drive.specs.Driving.{HasCause, HasCauseIn, IsDriven, IsDue, IsEnding, IsLate, IsOfText, IsOfficeOf, IsOfficeOfText};
@@ -12,7 +12,8 @@ use crate::fault::DriveFault;
 use crate::lines::line_up;
 use crate::servable::unservable;
 use crate::shifts::{Shifts, work_shifts};
-use drive_plan::{Done, Plan, PlanFault, read_plan};
+use drive_plan::{Plan, PlanFault, read_plan};
+use plan_jobs::Done;
 use std::alloc::{AllocError, Global};
 use std::marker::Brand;
 use std::sync::Wait;

@@ -1,12 +1,12 @@
 //! What stays of a queue while its takers are away.
 ghost use Rattle.std.specs.Prelude.{◌≡◌, ◌+◌, ◌<◌, ◌≤◌, ℕ, [], ◌∷◌, ◌++◌, length, IfOk};
 ghost use Rattle.std.specs.List.{sum_by};
-ghost use Rattle.drive_plan.specs.declared.task.Job.{Job as OfJob};
+ghost use Rattle.plan_jobs.specs.declared.task.Job.{Job as OfJob};
 ghost use Rattle.market_drive.specs.Jobs.{IsUnfed, taken_by};
 ghost use Rattle.market_drive.specs.Racks.{unfed};
 
-use drive_plan::{Job, PlannedJob};
 use job_queue::{Feeder, JobQueue, Taker};
+use plan_jobs::{Job, PlannedJob};
 use std::alloc::{AllocError, Global};
 use std::marker::Model;
 use std::sync::Wait;
@@ -23,7 +23,7 @@ impl Model for Ends {
     ghost use Rattle.std.specs.Prelude.{◌≡◌, ◌≤◌, vec_len, vec_capacity};
     ghost use Rattle.std.specs.List.{All};
     ghost use Rattle.job_queue.specs.Seen.{OfTaker};
-    ghost use Rattle.drive_plan.specs.declared.task.Job.{Job};
+    ghost use Rattle.plan_jobs.specs.declared.task.Job.{Job};
     ghost use Rattle.market_drive.specs.Racks.{OfEnds};
 
     ghost Value = { OfEnds };

@@ -1,13 +1,14 @@
 //! What the ends of the workers and their answers come to.
 ghost use Rattle.std.specs.Prelude.{◌≡◌, Some, None, IfOk, IfErr, IfSome, IsPermutation};
 ghost use Rattle.std.specs.List.{list_any};
-ghost use Rattle.drive_plan.specs.Outcome.{IsOutcome};
+ghost use Rattle.plan_jobs.specs.Outcome.{IsOutcome};
 ghost use Rattle.market_drive.specs.Driving.{IsLate};
 ghost use Rattle.market_drive.specs.Ending.{end_fault, is_broken_off, is_for_memory, IsDueTo};
 
 use crate::fault::DriveFault;
-use drive_plan::{Done, GatherFault, Plan};
+use drive_plan::Plan;
 use edit_history::CallFault;
+use plan_jobs::{Done, GatherFault};
 use worker_main::Ended;
 
 /// The worker ended for want of memory.
@@ -54,7 +55,7 @@ fn end_fault(ended: &[Ended]) -> Option<DriveFault>
 /// The answers to a plan's jobs, in order of number, by workers that ended so. It takes no memory, and the time of sorting them.
 ///
 /// `Memory` comes first, where a worker ended for want of it; then `Unfinished`, where one ended on a gate, a missing station or
-/// a full history; then `Doubled` and `Missing`, as of `drive_plan`.
+/// a full history; then `Doubled` and `Missing`, as of `plan_jobs`.
 pub fn gather_done(plan: &Plan, done: Vec<Done>, ended: &[Ended]) -> Result<Vec<Done>, DriveFault>
     ensures outcome { IfOk result (λ gathered. IsOutcome plan.now.jobs gathered.items) }
     ensures same { IfOk result (λ gathered. IsPermutation done.items gathered.items) }
@@ -65,7 +66,7 @@ pub fn gather_done(plan: &Plan, done: Vec<Done>, ended: &[Ended]) -> Result<Vec<
     if let Some(fault) = end_fault(ended) {
         return Err(fault);
     }
-    match drive_plan::outcome_of(plan.jobs(), done) {
+    match plan_jobs::outcome_of(plan.jobs(), done) {
         Ok(gathered) => Ok(gathered),
         Err(GatherFault::Doubled(number)) => Err(DriveFault::Doubled(number)),
         Err(GatherFault::Missing(number)) => Err(DriveFault::Missing(number)),

@@ -1,7 +1,7 @@
 //! The queues of a plan.
 ghost use Rattle.std.specs.Prelude.{◌≡◌, ◌+◌, ◌<◌, ◌≤◌, ◌++◌, ◌∷◌, [], ℕ, length, map, IfOk, AllPairs};
 ghost use Rattle.std.specs.List.{All, sum_by};
-ghost use Rattle.drive_plan.specs.declared.task.Job.{Job};
+ghost use Rattle.plan_jobs.specs.declared.task.Job.{Job};
 ghost use Rattle.market_drive.specs.Jobs.{AreFed, HaveRequestsOf, IsUnfed, fed_weight, numbered, taken_weight};
 ghost use Rattle.market_drive.specs.Racks.{AreAway, IsFor, unfed};
 ghost use Rattle.market_drive.specs.Lines.{queues_at};
@@ -12,8 +12,9 @@ ghost use Rattle.worker_main.specs.Stations.{HaveOwnArenas};
 use crate::counting::{count_jobs, place_of};
 use crate::ends::{Ends, open_queue};
 use crate::racks::Racks;
-use drive_plan::{MOST_ARENAS, Plan, PlannedJob};
+use drive_plan::{MOST_ARENAS, Plan};
 use market_types::ArenaId;
+use plan_jobs::PlannedJob;
 use std::alloc::{AllocError, Global};
 use std::marker::Model;
 use std::sync::Wait;

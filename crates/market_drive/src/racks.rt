@@ -1,14 +1,15 @@
 //! The right to pop of each worker.
 ghost use Rattle.std.specs.Prelude.{◌≡◌, ◌++◌, ◌∷◌, [], ◌+◌, ◌<◌, ◌≤◌, ℕ, List, length, vec_len, IfOk, IfSome, IfNone};
 ghost use Rattle.std.specs.List.{All, sum_by};
-ghost use Rattle.drive_plan.specs.declared.task.Job.{Job as OfJob};
+ghost use Rattle.plan_jobs.specs.declared.task.Job.{Job as OfJob};
 ghost use Rattle.market_drive.specs.Jobs.{taken_by, taken_weight};
 ghost use Rattle.job_queue.specs.Seen.{QueueId};
 ghost use Rattle.market_drive.specs.Racks.{IsFor, IsRoomy, OfRack, queues_of};
 
 use crate::ends::Ends;
-use drive_plan::{Job, MOST_ARENAS};
+use drive_plan::MOST_ARENAS;
 use job_queue::Taker;
+use plan_jobs::Job;
 use std::alloc::{AllocError, Global};
 use std::marker::Model;
 

@@ -1,6 +1,6 @@
 //! What the workers of a plan tell in the end.
 ghost use Rattle.std.specs.Prelude.{◌≡◌, [], false, true, None, Err, IfErr, IfOk, OnOk, IsPermutation};
-ghost use Rattle.drive_plan.specs.Outcome.{IsOutcome};
+ghost use Rattle.plan_jobs.specs.Outcome.{IsOutcome};
 ghost use Rattle.market_drive.specs.Driving.{IsLate};
 ghost use Rattle.market_drive.specs.Ending.{IsDueTo, end_fault};
 ghost use Rattle.market_drive.specs.Reports.{told, untold};
@@ -9,8 +9,9 @@ ghost use Rattle.worker_main.specs.declared.report.Ended.TheVariants.{Call};
 
 use crate::fault::DriveFault;
 use crate::gathering::gather_done;
-use drive_plan::{Done, Plan};
+use drive_plan::Plan;
 use edit_history::CallFault;
+use plan_jobs::Done;
 use std::alloc::{AllocError, Global};
 use std::marker::Model;
 use worker_main::Ended;

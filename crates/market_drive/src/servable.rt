@@ -6,9 +6,10 @@ ghost use Rattle.market_types.specs.History.{state_after};
 ghost use Rattle.market_drive.specs.Servable.{calls_of_first, has_job, IsLeastUnservable, IsUnservable, lone_state};
 
 use crate::commands::{founding, request};
-use drive_plan::{Plan, PlannedJob};
+use drive_plan::Plan;
 use market_core::Market;
 use market_types::{ArenaId, Cmd, OpenFault, SeatNo};
+use plan_jobs::PlannedJob;
 use std::alloc::{AllocError, Global};
 
 /// Some job is the arena's.

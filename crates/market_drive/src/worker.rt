@@ -8,15 +8,15 @@ ghost use Rattle.market_drive.specs.Jobs.{HasShown, taken_by};
 ghost use Rattle.market_drive.specs.Causes.{CanEndAt, HasEndedSo, WasLetThrough};
 ghost use Rattle.market_drive.specs.Opening.{HasTakenTurns};
 ghost use Rattle.market_types.specs.declared.reply.Entry.{Entry};
-ghost use Rattle.drive_plan.specs.declared.task.Done.{Done as AnAnswer};
+ghost use Rattle.plan_jobs.specs.declared.task.Done.{Done as AnAnswer};
 ghost use Rattle.worker_main.specs.Stations.{HaveOwnArenas};
 ghost use Rattle.worker_main.specs.Turns.{AreTurnsOf};
 ghost use Rattle.worker_main.specs.declared.report.Ended.{Ended as AnEnd};
 
 use crate::racks::Rack;
-use drive_plan::Done;
 use market_lock::{Office, Pass, Placed};
 use office_crew::{Caller, Task};
+use plan_jobs::Done;
 use std::alloc::Global;
 use std::marker::{Brand, Model, PhantomData};
 use std::mem;
@@ -33,7 +33,7 @@ pub(crate) trait Yard {
     ghost use Rattle.market_types.specs.declared.reply.Entry.{Entry};
     ghost use Rattle.job_queue.specs.Seen.{QueueId};
     ghost use Rattle.worker_main.specs.declared.report.Ended.{Ended};
-    ghost use Rattle.drive_plan.specs.declared.task.Done.{Done};
+    ghost use Rattle.plan_jobs.specs.declared.task.Done.{Done};
 
     ghost queues: { List QueueId };
 
@@ -70,7 +70,7 @@ pub(crate) struct Worker<'a, G: Gate, Y: Yard> {
 impl<'a, G: Gate, Y: Yard> Model for Worker<'a, G, Y> {
     ghost use Rattle.std.specs.Prelude.{◌≡◌, ℕ, List, Option, IsSomeAnd, All, AllPairs};
     ghost use Rattle.market_types.specs.declared.reply.Entry.{Entry};
-    ghost use Rattle.drive_plan.specs.declared.task.Done.{Done};
+    ghost use Rattle.plan_jobs.specs.declared.task.Done.{Done};
     ghost use Rattle.worker_main.specs.Stations.{HaveOwnArenas};
     ghost use Rattle.worker_main.specs.Turns.{AreTurnsOf};
     ghost use Rattle.worker_main.specs.declared.report.Ended.{Ended};

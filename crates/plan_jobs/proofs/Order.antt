@@ -8,11 +8,11 @@ use Rattle.std.proofs.lemmas.List.Sums.{count_by_more_no, count_by_more_yes, sum
 use Rattle.std.proofs.lemmas.List.Sorted.{All-permutation, IsPermutation-sym, sum_by-IsPermutation}
 use mathlib.Core.Logic.{dite}
 use native.Mathlib.Decide.{ℕ_discrete}
-use Rattle.drive_plan.specs.declared.task.Done.{Done}
-use Rattle.drive_plan.specs.declared.task.PlannedJob.{PlannedJob}
-use Rattle.drive_plan.specs.Values.{value_of}
-use Rattle.drive_plan.specs.Outcome.{times, IsOfPlan, IsSound, IsDoubled, IsMissing, IsOutcome}
-use Rattle.drive_plan.specs.Gathering.{IsInOrder, Rises}
+use Rattle.plan_jobs.specs.declared.task.Done.{Done}
+use Rattle.plan_jobs.specs.declared.task.PlannedJob.{PlannedJob}
+use Rattle.plan_jobs.specs.Values.{value_of}
+use Rattle.plan_jobs.specs.Outcome.{times, IsOfPlan, IsSound, IsDoubled, IsMissing, IsOutcome}
+use Rattle.plan_jobs.specs.Gathering.{IsInOrder, Rises}
 
 -- the number of the answer at a place
 abbrev pub num : List Done → ℕ → Done → ℕ

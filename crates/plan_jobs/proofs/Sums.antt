@@ -3,7 +3,7 @@ use Rattle.std.proofs.Common.{◌≡◌, ℕ, zero, suc, ◌+◌, ◌-◌, ◌*�
 use Rattle.std.specs.List.{sum_by}
 use Rattle.std.proofs.lemmas.Fmt.{decimal_step, decimal_digit, decimal_by_steps}
 use Rattle.std.proofs.lemmas.List.Sums.{sum_by_push}
-use Rattle.drive_plan.specs.Values.{sum_to, digits_sum}
+use Rattle.plan_jobs.specs.Values.{sum_to, digits_sum}
 
 pub sum_to_more : (n : ℕ) → sum_to (n + 1) ≡ sum_to n + (n + 1)
 sum_to_more n = let e : n + 1 ≡ suc n = omega arith in ap sum_to e

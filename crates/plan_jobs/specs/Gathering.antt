@@ -2,11 +2,11 @@
 -- `IsGatherFault` (own).
 use Rattle.std.specs.Prelude.{ℕ, ◌+◌, ◌<◌, List, length, slice_index_or}
 use Rattle.std.specs.List.Sorted.{IsNonDecreasingBy}
-use Rattle.drive_plan.specs.declared.task.PlannedJob.{PlannedJob}
-use Rattle.drive_plan.specs.declared.task.Done.{Done}
-use Rattle.drive_plan.specs.declared.gather.GatherFault.{GatherFault}
-use Rattle.drive_plan.specs.declared.gather.GatherFault.TheVariants.{Doubled, Missing}
-use Rattle.drive_plan.specs.Outcome.{IsDoubled, IsMissing, IsOfPlan, IsSound}
+use Rattle.plan_jobs.specs.declared.task.PlannedJob.{PlannedJob}
+use Rattle.plan_jobs.specs.declared.task.Done.{Done}
+use Rattle.plan_jobs.specs.declared.gather.GatherFault.{GatherFault}
+use Rattle.plan_jobs.specs.declared.gather.GatherFault.TheVariants.{Doubled, Missing}
+use Rattle.plan_jobs.specs.Outcome.{IsDoubled, IsMissing, IsOfPlan, IsSound}
 
 -- a fault, where it is due
 abbrev pub IsGatherFault : List PlannedJob → List Done → GatherFault → Type 0

@@ -1,9 +1,9 @@
 -- What the answers to the jobs of a plan come to (own). Job k of the plan is the one at place k - 1 of its list.
 use Rattle.std.specs.Prelude.{◌≡◌, ℕ, ◌+◌, ◌==◌, ◌<◌, ◌≤◌, List, length, slice_index_or}
 use Rattle.std.specs.List.{All, count_by}
-use Rattle.drive_plan.specs.declared.task.PlannedJob.{PlannedJob}
-use Rattle.drive_plan.specs.declared.task.Done.{Done}
-use Rattle.drive_plan.specs.Values.{value_of}
+use Rattle.plan_jobs.specs.declared.task.PlannedJob.{PlannedJob}
+use Rattle.plan_jobs.specs.declared.task.Done.{Done}
+use Rattle.plan_jobs.specs.Values.{value_of}
 
 -- the answers are the values of the plan's jobs, one for each in order of number, with its task
 abbrev pub IsOutcome : List PlannedJob → List Done → Type 0

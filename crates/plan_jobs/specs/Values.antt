@@ -1,8 +1,8 @@
 -- What a task is worth (own).
 use Rattle.std.specs.Prelude.{ℕ, zero, suc, ◌+◌, ◌-◌, decimal}
 use Rattle.std.specs.List.{sum_by}
-use Rattle.drive_plan.specs.declared.task.Task.{Task}
-use Rattle.drive_plan.specs.declared.task.Task.TheVariants.{Sum, Digits}
+use Rattle.plan_jobs.specs.declared.task.Task.{Task}
+use Rattle.plan_jobs.specs.declared.task.Task.TheVariants.{Sum, Digits}
 
 -- 1 + 2 + .. + n
 abbrev pub sum_to : ℕ → ℕ

@@ -1,8 +1,8 @@
 //! Answers in order of number, each job's once.
 ghost use Rattle.std.specs.Prelude.{◌≤◌, IfErr, IfNone, IfOk, IfSome, length};
 ghost use Rattle.std.specs.List.Sorted.{IsPermutation};
-ghost use Rattle.drive_plan.specs.Outcome.{IsDoubled, IsMissing, IsOutcome};
-ghost use Rattle.drive_plan.specs.Gathering.{IsGatherFault, IsInOrder, Rises};
+ghost use Rattle.plan_jobs.specs.Outcome.{IsDoubled, IsMissing, IsOutcome};
+ghost use Rattle.plan_jobs.specs.Gathering.{IsGatherFault, IsInOrder, Rises};
 
 use crate::task::{Done, PlannedJob};
 

@@ -1,6 +1,6 @@
 //! Tasks, and their answers.
 ghost use Rattle.std.specs.Prelude.{◌≡◌, ◌<◌, ◌+◌, ◌^◌};
-ghost use Rattle.drive_plan.specs.Values.{digits_sum, sum_to, value_of};
+ghost use Rattle.plan_jobs.specs.Values.{digits_sum, sum_to, value_of};
 
 use market_types::ArenaId;
 

@@ -12,7 +12,7 @@ use Rattle.market_lock.specs.Seen.{OfPass}
 use Rattle.market_lock.specs.Moves.{Called, Fails}
 use Rattle.job_queue.specs.declared.view.Fed.{Fed}
 use Rattle.job_queue.specs.Seen.{OfTaker, taken_one, missed_one}
-use Rattle.drive_plan.specs.declared.task.Job.{Job}
+use Rattle.plan_jobs.specs.declared.task.Job.{Job}
 use Rattle.worker_main.specs.declared.station.Station.{Station}
 use Rattle.worker_main.specs.declared.report.Ended.{Ended}
 use Rattle.worker_main.specs.declared.report.Ended.TheVariants.{Idle, GateShut, NoStation, Call, Memory}

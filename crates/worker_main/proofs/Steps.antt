@@ -12,7 +12,7 @@ use Rattle.market_types.specs.declared.reply.Reply.TheVariants.{Idle}
 use Rattle.edit_history.specs.Chronicled.{entry}
 use Rattle.market_lock.specs.Seen.{OfPass}
 use Rattle.job_queue.specs.Seen.{OfTaker}
-use Rattle.drive_plan.specs.declared.task.Job.{Job}
+use Rattle.plan_jobs.specs.declared.task.Job.{Job}
 use Rattle.worker_main.specs.declared.station.Station.{Station}
 use Rattle.worker_main.specs.Stations.{HaveOwnArenas}
 use Rattle.worker_main.specs.Turns.{Turn, entries_of, rest_of, joined, stays_for, requests_for, IsTurnOf, IsLastJoin, AreWhole, AreTurnsOf}

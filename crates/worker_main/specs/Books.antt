@@ -12,8 +12,8 @@ use Rattle.market_lock.specs.Views.{chronicle_cut}
 use Rattle.market_lock.specs.Seen.{OfPass, IsSamePass}
 use Rattle.job_queue.specs.declared.view.Fed.{Fed}
 use Rattle.job_queue.specs.Seen.{OfTaker}
-use Rattle.drive_plan.specs.declared.task.Job.{Job}
-use Rattle.drive_plan.specs.declared.task.Done.{Done}
+use Rattle.plan_jobs.specs.declared.task.Job.{Job}
+use Rattle.plan_jobs.specs.declared.task.Done.{Done}
 use Rattle.worker_main.specs.declared.station.Station.{Station}
 use Rattle.worker_main.specs.declared.report.Ended.{Ended}
 use Rattle.worker_main.specs.declared.report.Ended.TheVariants.{Idle, GateShut, NoStation, Call}

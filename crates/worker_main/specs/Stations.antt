@@ -1,6 +1,6 @@
 -- Stations, whose they are, and who takes from them (own).
 use Rattle.std.specs.Prelude.{◌≡◌, ◌≢◌, ℕ, List, slice_get, Some, All}
-use Rattle.drive_plan.specs.declared.task.Job.{Job}
+use Rattle.plan_jobs.specs.declared.task.Job.{Job}
 use Rattle.job_queue.specs.Seen.{OfTaker}
 use Rattle.worker_main.specs.declared.station.Station.{Station}
 

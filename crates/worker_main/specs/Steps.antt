@@ -5,7 +5,7 @@ use Rattle.market_types.specs.declared.reply.Reply.{Reply}
 use Rattle.market_lock.specs.Seen.{OfPass, IsSamePass}
 use Rattle.job_queue.specs.declared.view.Fed.{Fed}
 use Rattle.job_queue.specs.Seen.{OfTaker, taken_one, missed_one, all_taken}
-use Rattle.drive_plan.specs.declared.task.Job.{Job}
+use Rattle.plan_jobs.specs.declared.task.Job.{Job}
 use Rattle.worker_main.specs.declared.station.Station.{Station}
 use Rattle.worker_main.specs.declared.report.Ended.{Ended}
 use Rattle.worker_main.specs.declared.report.Ended.TheVariants.{Idle, NoStation, Call}

@@ -1,8 +1,8 @@
 //! What a worker leaves.
-use drive_plan::{Done, Job};
 use edit_history::CallFault;
 use job_queue::Taker;
 use market_types::ArenaId;
+use plan_jobs::{Done, Job};
 
 /// Why a worker ended.
 #[derive(Clone, Copy, Debug, PartialEq, Eq)]

@@ -2,9 +2,9 @@
 ghost use Rattle.std.specs.Prelude.{IfSome, IfNone};
 ghost use Rattle.worker_main.specs.Stations.{IsStationAt, IsWithout};
 
-use drive_plan::Job;
 use job_queue::JobQueue;
 use market_types::ArenaId;
+use plan_jobs::Job;
 
 /// An arena's jobs, and what its market request was: that is given back when no job is left.
 pub struct Station {

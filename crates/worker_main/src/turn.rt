@@ -2,15 +2,15 @@
 ghost use Rattle.std.specs.Prelude.{◌≡◌, ◌++◌, All, IfNone, IfSome, neg_ℤ, pos};
 ghost use Rattle.worker_main.specs.Books.{HasLackedPlaces, HasRefused, IfFull, IfShut, results};
 ghost use Rattle.worker_main.specs.Steps.{HasGivenBack, HasGoneOn, HasLooked, HasPopped, HasTurned, IfShutOut, IsBrokenOff, IsFault, still_held};
-ghost use Rattle.drive_plan.specs.declared.task.Done.{Done};
+ghost use Rattle.plan_jobs.specs.declared.task.Done.{Done};
 
 use crate::gate::{Gate, is_let_through};
 use crate::report::Ended;
 use crate::station::Station;
-use drive_plan::{Done, Job};
 use job_queue::Taker;
 use market_lock::{Office, Pass, Placed, Stayed};
 use market_types::Cmd;
+use plan_jobs::{Done, Job};
 use std::alloc::Global;
 use std::sync::Wait;
 

@@ -7,16 +7,16 @@ ghost use Rattle.market_lock.specs.Seen.{IsSamePass};
 ghost use Rattle.worker_main.specs.Stations.{HaveOwnArenas, IsTakerOf, IsWithout};
 ghost use Rattle.worker_main.specs.Turns.{AreTurnsOf, IsLastJoin, IsTurnOf};
 ghost use Rattle.worker_main.specs.Books.{HasAdded, HasLackedPlaces, HasRefused, IfFull, IfIdle, IfNoStation, IfShut, IsTakerAfter, WasPlacedAt, jobs_of, kept_back, results};
-ghost use Rattle.drive_plan.specs.declared.task.Done.{Done};
+ghost use Rattle.plan_jobs.specs.declared.task.Done.{Done};
 ghost use Rattle.worker_main.specs.Steps.{HasEarned, HasGoneOn, still_held};
 
 use crate::gate::Gate;
 use crate::report::{Ended, Report};
 use crate::station::{Station, station_of};
 use crate::turn::take_turn;
-use drive_plan::{Done, Job};
 use job_queue::Taker;
 use market_lock::{Joined, Office, Pass};
+use plan_jobs::{Done, Job};
 use std::alloc::Global;
 use std::sync::Wait;
 

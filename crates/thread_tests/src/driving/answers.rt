@@ -1,8 +1,8 @@
 //! What tasks are worth, and answers that are gathered.
 
 use crate::asserts::{holds, same};
-use drive_plan::{Done, Job, PlannedJob, Task, outcome_of};
 use market_types::ArenaId;
+use plan_jobs::{Done, Job, PlannedJob, Task, outcome_of};
 use std::alloc::Global;
 use std::process::Abort;
 use std::rt::HostRuntime;

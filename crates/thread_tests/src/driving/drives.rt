@@ -2,10 +2,11 @@
 ghost use Rattle.std.specs.Prelude.{◌<◌, ◌≤◌};
 
 use crate::asserts::{holds, same};
-use drive_plan::{Done, Job, Plan, Task, read_plan};
+use drive_plan::{Plan, read_plan};
 use edit_history::CallFault;
 use market_drive::{DriveFault, drive, drive_to_close, gather_done};
 use market_types::ArenaId;
+use plan_jobs::{Done, Job, Task};
 use std::alloc::{AllocError, Global};
 use std::process::Abort;
 use std::rt::HostRuntime;

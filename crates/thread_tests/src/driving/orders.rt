@@ -3,8 +3,9 @@
 ghost use Rattle.std.specs.Prelude.{◌<◌, ◌≤◌, length};
 
 use crate::asserts::same;
-use drive_plan::{PlannedJob, read_plan};
+use drive_plan::read_plan;
 use market_drive::drive;
+use plan_jobs::PlannedJob;
 use rand::{RngExt, SeedableRng};
 use rand_xoshiro::SplitMix64;
 use std::alloc::{AllocError, Global};

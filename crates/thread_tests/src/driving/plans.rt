@@ -2,8 +2,9 @@
 
 use super::answers::planned;
 use crate::asserts::{holds, same};
-use drive_plan::{Plan, PlannedArena, PlannedJob, Task, read_plan};
+use drive_plan::{Plan, PlannedArena, read_plan};
 use market_types::{ArenaId, Level};
+use plan_jobs::{PlannedJob, Task};
 use std::alloc::Global;
 use std::process::Abort;
 use std::rt::HostRuntime;

@@ -5,11 +5,11 @@ ghost use Rattle.job_queue.specs.Seen.{AreAllOf, fresh_feeder, fresh_taker};
 ghost use Rattle.market_types.specs.Commands.{moves_seat};
 
 use crate::asserts::{holds, same};
-use drive_plan::{Done, Job, Task};
 use edit_history::CallFault;
 use job_queue::{Feeder, JobQueue, Taker};
 use market_lock::{Closed, Office, Pass, Placed};
 use market_types::{ArenaId, Cmd, Level, OpenFault};
+use plan_jobs::{Done, Job, Task};
 use std::alloc::Global;
 use std::process::Abort;
 use std::rt::HostRuntime;

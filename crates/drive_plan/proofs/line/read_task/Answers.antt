@@ -1,5 +1,5 @@
 use Rattle.std.proofs.Common.{◌∙◌, ap, option_map}
-use Rattle.drive_plan.specs.declared.task.Task.TheVariants.{Sum, Digits}
+use Rattle.plan_jobs.specs.declared.task.Task.TheVariants.{Sum, Digits}
 use Rattle.drive_plan.specs.Reading.{long_number}
 use Rattle.drive_plan.proofs.Tasks.{sum_left, digits_left, other_word}
 use Rattle.drive_plan.proofs.line.read_task.Goals as goal

@@ -2,7 +2,7 @@ use Rattle.std.proofs.Common.{◌∙◌, [], ap, sym}
 use Rattle.std.specs.List.{range_with_len}
 use Rattle.std.proofs.lemmas.List.{same_from_push}
 use Rattle.job_queue.specs.Seen.{OfFeeder, fresh_feeder}
-use Rattle.drive_plan.specs.declared.task.Job.{Job}
+use Rattle.plan_jobs.specs.declared.task.Job.{Job}
 use Rattle.market_drive.specs.Jobs.{taken_by}
 use Rattle.market_drive.proofs.Sums.{fresh_took}
 use Rattle.market_drive.proofs.ends.open_queue.Goals as goal

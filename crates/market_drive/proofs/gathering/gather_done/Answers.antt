@@ -1,7 +1,7 @@
 use Rattle.std.proofs.Common.{◌∙◌, sym, subst, List}
-use Rattle.drive_plan.specs.Gathering.{IsGatherFault}
-use Rattle.drive_plan.specs.Outcome.{IsDoubled, IsMissing, IsOutcome}
-use Rattle.drive_plan.specs.declared.task.PlannedJob.{PlannedJob}
+use Rattle.plan_jobs.specs.Gathering.{IsGatherFault}
+use Rattle.plan_jobs.specs.Outcome.{IsDoubled, IsMissing, IsOutcome}
+use Rattle.plan_jobs.specs.declared.task.PlannedJob.{PlannedJob}
 use Rattle.market_drive.proofs.gathering.gather_done.Goals as goal
 
 pub returns-in-Ok-clause-outcome : goal.returns-in-Ok-clause-outcome

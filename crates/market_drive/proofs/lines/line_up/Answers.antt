@@ -1,7 +1,7 @@
 use Rattle.std.proofs.Common.{rules, refl, get_or, ◌≡◌, ◌≤◌, ◌+◌, ◌∙◌, ap, sym, subst, arith, List, All, length, max}
 use Rattle.std.proofs.lemmas.List.Sums.{count_by-le-length}
 use Rattle.drive_plan.specs.declared.plan.PlannedArena.{PlannedArena}
-use Rattle.drive_plan.specs.declared.task.PlannedJob.{PlannedJob}
+use Rattle.plan_jobs.specs.declared.task.PlannedJob.{PlannedJob}
 use Rattle.market_drive.specs.Arenas.{count_of}
 use Rattle.std.proofs.lemmas.List.Elements.{All-push}
 use Rattle.job_queue.specs.Seen.{QueueId}

@@ -1,5 +1,5 @@
 use Rattle.std.proofs.Common.{◌≡◌, ℕ, length, take, All}
-use Rattle.drive_plan.specs.declared.task.Job.{Job}
+use Rattle.plan_jobs.specs.declared.task.Job.{Job}
 use Rattle.market_drive.specs.Racks.{AreAway, IsFor, IsRoomy}
 use Rattle.market_drive.specs.Lines.{queues_at}
 use Rattle.market_drive.specs.Arenas.{HasRoomFor}

@@ -1,6 +1,6 @@
 use Rattle.std.proofs.Common.{◌≡◌, ◌++◌, ℕ, false, reverse, vec_len}
 use Rattle.std.specs.List.{sum_by}
-use Rattle.drive_plan.specs.declared.task.Job.{Job}
+use Rattle.plan_jobs.specs.declared.task.Job.{Job}
 use Rattle.market_drive.specs.Reports.{shown}
 use Rattle.market_drive.proofs.Endings.{faults_of}
 use Rattle.market_drive.proofs.shifts.hear.Given as goal

@@ -1,6 +1,6 @@
 use Rattle.std.proofs.Common.{◌≡◌, ◌+◌, ◌≤◌, ◌++◌, ℕ, false, length, reverse, vec_len, All}
 use Rattle.std.specs.List.{sum_by}
-use Rattle.drive_plan.specs.declared.task.Job.{Job}
+use Rattle.plan_jobs.specs.declared.task.Job.{Job}
 use Rattle.market_drive.specs.Jobs.{taken_weight}
 use Rattle.market_drive.specs.Racks.{IsFor}
 use Rattle.market_drive.specs.Reports.{ends_of, shown}

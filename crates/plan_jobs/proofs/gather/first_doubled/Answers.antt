@@ -1,7 +1,7 @@
 use Rattle.std.proofs.Common.{rules, ◌≡◌, ◌≢◌, ◌<◌, arith}
-use Rattle.drive_plan.proofs.Order.{at_any, of_plan, not_of_plan, seen_more, seen_all, doubled_stray, doubled_again}
-use Rattle.drive_plan.proofs.gather.first_doubled.Goals as goal
-use Rattle.drive_plan.proofs.gather.first_doubled.Goals.{then-done-last-via-then-done-last, then-done-last-via-else-done-last+then-done-jobs}
+use Rattle.plan_jobs.proofs.Order.{at_any, of_plan, not_of_plan, seen_more, seen_all, doubled_stray, doubled_again}
+use Rattle.plan_jobs.proofs.gather.first_doubled.Goals as goal
+use Rattle.plan_jobs.proofs.gather.first_doubled.Goals.{then-done-last-via-then-done-last, then-done-last-via-else-done-last+then-done-jobs}
 
 pub returns-then-done-last-clause-doubled : goal.returns-then-done-last-clause-doubled
 returns-then-done-last-clause-doubled c =

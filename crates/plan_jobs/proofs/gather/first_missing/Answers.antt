@@ -1,8 +1,8 @@
 use Rattle.std.proofs.Common.{◌∙◌, ◌≤◌, length, ap, arith}
-use Rattle.drive_plan.specs.declared.task.Done.{Done}
-use Rattle.drive_plan.proofs.Order.{default, missing_at, outcome}
-use Rattle.drive_plan.proofs.gather.first_missing.Goals as goal
-use Rattle.drive_plan.proofs.gather.first_missing.Goals.{then-place-sorted-via-then-place-sorted, then-place-sorted-via-else-place-sorted+then-sorted-place}
+use Rattle.plan_jobs.specs.declared.task.Done.{Done}
+use Rattle.plan_jobs.proofs.Order.{default, missing_at, outcome}
+use Rattle.plan_jobs.proofs.gather.first_missing.Goals as goal
+use Rattle.plan_jobs.proofs.gather.first_missing.Goals.{then-place-sorted-via-then-place-sorted, then-place-sorted-via-else-place-sorted+then-sorted-place}
 
 pub returns-then-place-sorted-clause-missing : goal.returns-then-place-sorted-clause-missing
 returns-then-place-sorted-clause-missing c =

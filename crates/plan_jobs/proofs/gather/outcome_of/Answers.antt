@@ -1,10 +1,10 @@
 use Rattle.std.proofs.Common.{rules, subst, sym}
 use Rattle.std.proofs.lemmas.List.Sorted.{IsNonDecreasingBy-from_sort_by_key}
-use Rattle.drive_plan.specs.declared.task.Done.{Done}
-use Rattle.drive_plan.specs.Outcome.{IsDoubled, IsMissing, IsOutcome}
-use Rattle.drive_plan.specs.Gathering.{IsInOrder, Rises}
-use Rattle.drive_plan.proofs.Order.{doubled_in, missing_in}
-use Rattle.drive_plan.proofs.gather.outcome_of.Goals as goal
+use Rattle.plan_jobs.specs.declared.task.Done.{Done}
+use Rattle.plan_jobs.specs.Outcome.{IsDoubled, IsMissing, IsOutcome}
+use Rattle.plan_jobs.specs.Gathering.{IsInOrder, Rises}
+use Rattle.plan_jobs.proofs.Order.{doubled_in, missing_in}
+use Rattle.plan_jobs.proofs.gather.outcome_of.Goals as goal
 
 pub first_doubled-requires-clause-in_order : goal.first_doubled-requires-clause-in_order
 first_doubled-requires-clause-in_order c =

@@ -1,6 +1,6 @@
 use Rattle.std.proofs.Common.{arith}
-use Rattle.drive_plan.proofs.Sums.{digits_sum_step, digits_sum_digit, digits_sum_small}
-use Rattle.drive_plan.proofs.task.digits_sum.Goals as goal
+use Rattle.plan_jobs.proofs.Sums.{digits_sum_step, digits_sum_digit, digits_sum_small}
+use Rattle.plan_jobs.proofs.task.digits_sum.Goals as goal
 
 pub overflow_add-sum : goal.overflow_add-sum
 overflow_add-sum c =

@@ -1,6 +1,6 @@
 use Rattle.std.proofs.Common.{◌≡◌, ◌+◌}
-use Rattle.drive_plan.specs.Values.{digits_sum}
-use Rattle.drive_plan.proofs.task.digits_sum.Given as goal
+use Rattle.plan_jobs.specs.Values.{digits_sum}
+use Rattle.plan_jobs.proofs.task.digits_sum.Given as goal
 
 abbrev pub invariant-loop-rest : goal.invariant-loop-rest
 invariant-loop-rest l = l.sum + digits_sum l.rest ≡ digits_sum l.fn.number

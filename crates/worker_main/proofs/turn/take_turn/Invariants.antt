@@ -1,5 +1,5 @@
 use Rattle.std.proofs.Common.{◌≡◌, All}
-use Rattle.drive_plan.specs.declared.task.Done.{Done}
+use Rattle.plan_jobs.specs.declared.task.Done.{Done}
 use Rattle.worker_main.specs.Books.{results}
 use Rattle.worker_main.specs.Steps.{HasGoneOn, HasPopped, IsInside}
 use Rattle.worker_main.proofs.turn.take_turn.Given as goal

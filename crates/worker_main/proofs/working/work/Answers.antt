@@ -1,5 +1,5 @@
 use Rattle.std.proofs.Common.{All, [], sym, subst, arith, IfNone, IfSome}
-use Rattle.drive_plan.specs.declared.task.Done.{Done}
+use Rattle.plan_jobs.specs.declared.task.Done.{Done}
 use Rattle.worker_main.specs.Turns.{IsTurnOf, IsLastJoin}
 use Rattle.worker_main.specs.Books.{results, HasAdded, HasLackedPlaces, HasRefused, IfFull, IfIdle, IfNoStation, IfShut, WasPlacedAt}
 use Rattle.worker_main.specs.Steps.{HasEarned}

@@ -1,5 +1,5 @@
 use Rattle.std.proofs.Common.{[], All}
-use Rattle.drive_plan.specs.declared.task.Done.{Done}
+use Rattle.plan_jobs.specs.declared.task.Done.{Done}
 use Rattle.std.specs.List.{AllZip}
 use Rattle.worker_main.specs.Turns.{AreWhole}
 use Rattle.worker_main.specs.Books.{results, HasAdded, IsTakerAfter}

@@ -1,7 +1,7 @@
 use Rattle.std.proofs.Common.{◌≤◌, ◌∙◌, ℕ, sym, subst}
 use Rattle.std.specs.List.{sum_by}
 use Rattle.std.proofs.lemmas.List.{nil_from_length}
-use Rattle.drive_plan.specs.declared.task.Job.{Job}
+use Rattle.plan_jobs.specs.declared.task.Job.{Job}
 use Rattle.market_drive.specs.Jobs.{taken_by}
 use Rattle.market_drive.specs.Racks.{OfEnds}
 use Rattle.market_drive.proofs.Sums.{settled_once}

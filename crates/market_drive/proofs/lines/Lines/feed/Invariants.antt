@@ -1,6 +1,6 @@
 use Rattle.std.proofs.Common.{◌≡◌, ◌≤◌, ℕ, vec_capacity, map, take}
 use Rattle.std.specs.List.{sum_by}
-use Rattle.drive_plan.specs.declared.task.Job.{Job}
+use Rattle.plan_jobs.specs.declared.task.Job.{Job}
 use Rattle.market_drive.specs.Racks.{unfed}
 use Rattle.market_drive.specs.Jobs.{AreFed, fed_weight, numbered}
 use Rattle.market_drive.proofs.lines.Lines.feed.Given as goal

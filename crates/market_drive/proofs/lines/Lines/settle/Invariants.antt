@@ -1,5 +1,5 @@
 use Rattle.std.proofs.Common.{◌≡◌, ◌≤◌, ◌+◌, ℕ, length, vec_len, All}
-use Rattle.drive_plan.specs.declared.task.Job.{Job}
+use Rattle.plan_jobs.specs.declared.task.Job.{Job}
 use Rattle.market_drive.specs.Jobs.{fed_weight, taken_weight}
 use Rattle.market_drive.specs.Racks.{AreAway, IsFor}
 use Rattle.market_drive.specs.Lines.{queues_at, queues_ended}

@@ -1,7 +1,7 @@
 use Rattle.std.proofs.Common.{◌≡◌, ◌+◌, ◌≤◌, ◌<◌, [], ◌∷◌, ◌++◌, List, ℕ, length, vec_len, vec_capacity, All}
 use Rattle.std.specs.List.{sum_by}
 use Rattle.job_queue.specs.Seen.{QueueId}
-use Rattle.drive_plan.specs.declared.task.Job.{Job}
+use Rattle.plan_jobs.specs.declared.task.Job.{Job}
 use Rattle.market_drive.specs.Jobs.{taken_by, taken_weight}
 use Rattle.market_drive.specs.Racks.{IsFor, IsRoomy, OfRack}
 use Rattle.market_drive.proofs.racks.Racks.deal.Given as goal

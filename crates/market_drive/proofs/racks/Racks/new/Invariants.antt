@@ -1,5 +1,5 @@
 use Rattle.std.proofs.Common.{◌≡◌, ◌≤◌, ◌-◌, ℕ, [], length, All}
-use Rattle.drive_plan.specs.declared.task.Job.{Job}
+use Rattle.plan_jobs.specs.declared.task.Job.{Job}
 use Rattle.market_drive.specs.Jobs.{taken_weight}
 use Rattle.market_drive.specs.Racks.{IsFor, IsRoomy}
 use Rattle.market_drive.proofs.racks.Racks.new.Given as goal

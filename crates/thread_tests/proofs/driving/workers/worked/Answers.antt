@@ -2,7 +2,7 @@ use Rattle.std.proofs.Common.{◌≡◌, ◌≢◌, zero, suc, List, [], ◌∷�
 use Rattle.std.specs.List.{AllZip}
 use Rattle.std.proofs.lemmas.List.Elements.{All-cons, All-nil, length_all_zip}
 use Rattle.job_queue.specs.Seen.{OfTaker, OfFeeder, AreAllOf}
-use Rattle.drive_plan.specs.declared.task.Job.{Job}
+use Rattle.plan_jobs.specs.declared.task.Job.{Job}
 use Rattle.worker_main.specs.declared.station.Station.{Station}
 use Rattle.worker_main.specs.Stations.{IsTakerOf, HaveOwnArenas}
 use Rattle.worker_main.specs.Books.{IsTakerAfter}
