@@ -11,6 +11,7 @@ pub mod Sharing
 pub mod Told
 pub mod Still
 pub mod Near
+pub mod First
 pub mod Next
 pub mod Making
 pub mod Histories

@@ -24,10 +24,10 @@ use Rattle.journal_chart.specs.Lines.{added, at}
 use Rattle.journal_chart.specs.Numbers.{level_at, line_of, row_of, shown, view_at}
 use Rattle.journal_chart.specs.Shares.{Shared, shared_of}
 use Rattle.journal_chart.specs.Steps.{after_seat, has_few, is_covered, is_covered_at, is_divided, is_idle, is_joined, is_kept, is_same_share, keeps_order, kept_levels, known_in, known_of, limited, moves_seat, near_row, needing_row, own_row, retold, seat_row, seated, seen_row, settled_row, share_told, shared_row, stands_after, stands_kept, subject, told_row}
-use Rattle.journal_chart.proofs.Bounds.{IsShare, Whole, allotment-level, allotment-share, at-level, both, covered-share, exact-share, same-carried}
+use Rattle.journal_chart.proofs.Bounds.{IsShare, Whole, allotment-level, at-level, both, covered-share, exact-share, same-carried}
 use Rattle.journal_chart.proofs.Charts.{line-if, readied-row}
-use Rattle.journal_chart.proofs.Kept.{Fine, Stands, Steady, apart-stands, found-number, found-within, steady-step}
-use Rattle.journal_chart.proofs.Sharing.{shared-asked, shared-given}
+use Rattle.journal_chart.proofs.Kept.{Fine, Stands, Steady, apart-stands, found-number, steady-step}
+use Rattle.journal_chart.proofs.Sharing.{divides, leveled, share, shared-asked, shared-given}
 use Rattle.journal_chart.proofs.Still.{GoesOn, added-twice}
 use Rattle.journal_chart.proofs.Told.{Retold, seated-step, told-step}
 
@@ -233,7 +233,7 @@ idle-limit s idle = go (ltb 0 (limit_of s)) refl idle
     go true some none = grind (arith, nat_tests)
     go false off none = grind (arith, nat_tests)
 
-idle-allotted : (s : State) (a : ℕ) → is_idle (shared_of s) ≡ true → allotment_of s a ≡ 0
+pub idle-allotted : (s : State) (a : ℕ) → is_idle (shared_of s) ≡ true → allotment_of s a ≡ 0
 idle-allotted s a idle =
     let none : effective_limit_of s ≡ 0 = grind (arith, nat_tests) in
     omega (arith, none, few-allotted s a (idle-limit s idle))
@@ -387,39 +387,6 @@ module _ (most : ℕ) (before : List State) (s t : State) (some : 0 < most) (on 
         hire = line-inside (shown (λ (w : ArenaView). w.hire) a) (v - n) (shown-of (λ (w : ArenaView). w.hire) a y found) spans.hire;
       }
 
-  -- ---- what the levels are given
-
-  -- a level of a market that some worker may be active in
-  record Divides (u : State) (level : ℕ) : Type 0 where
-    any : 0 < limit_of u
-    low : 1 ≤ level
-    few : level ≤ 8
-
-  divides : (u : State) (level : ℕ) → is_divided (shared_of u) level ≡ true → Divides u level
-  divides u level h =
-      let g = both (nat_lt 0 (limit_of u)) (nat_le 1 level && nat_le level 8) h in
-      let levels = both (nat_le 1 level) (nat_le level 8) g.1 in
-      record {
-        any = let e = g.0 in grind (arith, nat_tests);
-        low = let e = levels.0 in grind (arith, nat_tests);
-        few = let e = levels.1 in grind (arith, nat_tests);
-      }
-
-  leveled : (u : State) (a : ℕ) (x : Arena) → Fine u → arena_at a u.arenas ≡ Some x → x.level ≤ u.levels
-  leveled u a x fine found = found-within (λ (b : Arena). b.level ≤ u.levels) a u.arenas x found fine.leveled
-
-  -- a living arena's allotment is its share
-  share : (whole : Whole) (a : ℕ) (y : Arena) → Fine t → arena_at a t.arenas ≡ Some y → Divides t y.level
-      → IsShare (request_of y.claim) (slice_index (shared_of t).given (y.level - 1)) (slice_index (shared_of t).asked (y.level - 1)) (allotment_of t y.number)
-  share whole a y fine found d =
-      let number : y.number ≡ a = found-number a t.arenas y found in
-      let high : y.level ≤ t.levels = leveled t a y fine found in
-      let given = shared-given t y.level d.low d.few high in
-      let asked = shared-asked t y.level d.low d.few high in
-      subst (λ g. IsShare (request_of y.claim) g (slice_index (shared_of t).asked (y.level - 1)) (allotment_of t y.number)) (sym given)
-      (subst (λ k. IsShare (request_of y.claim) (assigned t y.level) k (allotment_of t y.number)) (sym asked)
-      (subst (λ n. IsShare (request_of y.claim) (assigned t y.level) (demand t y.level) (allotment_of t n)) (sym number) (allotment-share whole a t y fine.once d.any found d.low high)))
-
   -- a column has all that a living arena may be allotted, of which this is known
   cover-lines : (whole : Whole) (a : ℕ) (y : Arena) (k : Known) → Fine t → arena_at a t.arenas ≡ Some y → request_of y.claim ≡ k.request → active t y.number ≡ k.active
       → k ≡ known_in place k.request k.active (row a) → is_covered (shared_of t) k y.level ≡ true → SameLines a
@@ -436,7 +403,7 @@ module _ (most : ℕ) (before : List State) (s t : State) (some : 0 < most) (on 
 
       go : (b : Bool) → is_divided (shared_of t) y.level ≡ b → cond b (covers k.covered k.request given asked) (has_few (shared_of t) k.covered) ≡ true → SameLines a
       go true some h =
-          let divided = share whole a y fine found (divides t y.level some) in
+          let divided = share whole t a y fine found (divides t y.level some) in
           let within = covered-share k.covered k.request given asked (allotment_of t y.number) (subst (λ r. IsShare r given asked (allotment_of t y.number)) asks divided) h in
           covered-lines a y k.covered found is within.0 within.1
       go false off h =
@@ -572,7 +539,7 @@ module _ (most : ℕ) (before : List State) (s t : State) (some : 0 < most) (on 
         at_level_of (Some y) v found is =
             elim (divided (is_divided (shared_of t) y.level) (is_idle (shared_of t)) (exactly k.request (given y.level) (asked y.level)) v is) [
               | inl g ↦
-                  let own = share whole a y fine' found (divides t y.level g.0) in
+                  let own = share whole t a y fine' found (divides t y.level g.0) in
                   let own' = subst (λ r. IsShare r (given y.level) (asked y.level) (allotment_of t y.number)) (h.tells y found).0 own in
                   told-row k y v h found (exact-share k.request (given y.level) (asked y.level) (allotment_of t y.number) v own' g.1)
               | inr g ↦ told-row k y v h found (idle-allotted t y.number g.0 ∙ sym g.1)

@@ -1,8 +1,8 @@
 -- A moment more of a chart, of which it has taken the one before.
-use Rattle.std.specs.Prelude.{nat_lt, nat_le}
+use Rattle.std.specs.Prelude.{◌==◌, nat_lt, nat_le}
 use Rattle.std.proofs.Common.{◌≡◌, ℕ, suc, ◌+◌, ◌*◌, ◌/◌, ◌%◌, ◌<◌, ◌⊎◌, Bool, true, false, true≢false, cond, List, [], ◌∷◌, ◌++◌, length, map, Some, refl, sym, ap, ◌∙◌, arith, inl, inr}
 use Rattle.std.proofs.lemmas.Bool.Decides.{nat_tests}
-use Rattle.std.proofs.lemmas.List.{length-map, length_push}
+use Rattle.std.proofs.lemmas.List.{length-map, length_push, map-id}
 use Rattle.market_types.specs.declared.command.Cmd.{Cmd}
 use Rattle.market_types.specs.declared.reply.Reply.{Reply}
 use Rattle.market_types.specs.State.{State}
@@ -11,11 +11,13 @@ use Rattle.market_types.specs.Step.{step}
 use Rattle.journal_chart.specs.declared.row.Known.{Known}
 use Rattle.journal_chart.specs.declared.row.Row.{Row}
 use Rattle.journal_chart.specs.Columns.{width_of}
-use Rattle.journal_chart.specs.Numbers.{Drawn, chart_of, drawn_of, level_at, line_of, row_of, view_at}
+use Rattle.journal_chart.specs.Lines.{added}
+use Rattle.journal_chart.specs.Numbers.{Charted, Drawn, chart_of, drawn_of, level_at, line_of, row_of, view_at}
 use Rattle.journal_chart.specs.Shares.{Shared, shared_of}
-use Rattle.journal_chart.specs.Steps.{Followed, after_seat, counted_chart, each_row, first_chart, goes_on, halved_lines, halved_row, is_joined, is_still, kept_levels, known_of, known_rows, limited, moves_seat, near_chart, near_lines, near_row, near_rows, next_chart, now_shared, pairwise, roomed_lines, seat_row, seat_rows, seen_row, stands_after, taken_row}
+use Rattle.journal_chart.specs.Steps.{Followed, after_seat, begun_chart, counted_chart, each_row, first_chart, first_row, first_rows, goes_on, halved_lines, halved_row, is_joined, is_still, kept_levels, known_of, known_rows, limited, moves_seat, near_chart, near_lines, near_row, near_rows, next_chart, now_shared, pairwise, roomed_lines, seat_row, seat_rows, seen_row, stands_after, taken_row}
 use Rattle.journal_chart.proofs.Bounds.{Whole}
 use Rattle.journal_chart.proofs.Charts.{chart-taken, readied-row, stood-after}
+use Rattle.journal_chart.proofs.First.{first-row}
 use Rattle.journal_chart.proofs.Kept.{Fine}
 use Rattle.journal_chart.proofs.Near.{even-step, limited-next, near-row, seat-row}
 use Rattle.journal_chart.proofs.Still.{GoesOn, chart-still, goes-on, row-still, stays-so}
@@ -37,7 +39,7 @@ abbrev pub followed_chart : ℕ → List ℕ → List State → State → Follow
 followed_chart most arenas moments s =
     record { chart = chart_of most arenas (moments ++ s ∷ []) s; known = known_at most moments s arenas; shares = shared_of s }
 
--- ---- the first moment of a column
+-- ---- the first moment of all, and of a column
 
 module _ (most : ℕ) (moments : List State) (s t : State) (seat : ℕ) (cmd : Cmd) (reply : Reply) (some : 0 < most) (answered : step s seat cmd ≡ (reply, t)) where
   abbrev column : ℕ
@@ -79,6 +81,63 @@ module _ (most : ℕ) (moments : List State) (s t : State) (seat : ℕ) (cmd : C
       ap (λ p. known_rows p t cmd reply (roomed_lines (chart_of most arenas moments s)).rows) where_
       ∙ rows-roomed (nat_le (most * width_of most (length moments)) (length moments)) refl arenas in
       λ i. record { chart = chart i; known = known i; shares = shared_of t }
+
+-- ---- the first moment of a column after another
+
+module _ (whole : Whole) (most : ℕ) (before : List State) (s t : State) (seat : ℕ) (cmd : Cmd) (reply : Reply) (answered : step s seat cmd ≡ (reply, t)) (fine' : Fine t) (place : ℕ) where
+  abbrev past : List State
+  past = before ++ s ∷ []
+
+  -- a row, whole or halved, with what was known of its arena
+  begun-rows : (f : Row → Row) → ((a : ℕ) → (f (row_of most past s a)).arena ≡ a) → ((a : ℕ) → (f (row_of most past s a)).stands ≡ level_at a s) → (arenas : List ℕ)
+      → first_rows place t cmd reply (map f (map (row_of most past s) arenas)) (known_at most before s arenas)
+      ≡ (map (taken_row place t cmd reply) (map f (map (row_of most past s) arenas)), known_rows place t cmd reply (map f (map (row_of most past s) arenas)))
+  begun-rows f arena_is stands_is [] = refl
+  begun-rows f arena_is stands_is (a ∷ arenas) =
+      let first =
+      first-row whole place s t seat cmd reply answered fine' a (stood-after s t seat cmd reply answered a) (f (row_of most past s a)) (arena_is a) (stands_is a)
+      (place_of most (length before)) (row_of most past s a) in
+      let more = begun-rows f arena_is stands_is arenas in
+      λ i. ((first i).0 ∷ (more i).0, (first i).1 ∷ (more i).1)
+
+  begun-roomed : (b : Bool) (arenas : List ℕ)
+      → first_rows place t cmd reply (cond b (halved_lines (drawn_of most arenas past s)) (drawn_of most arenas past s)).rows (known_at most before s arenas)
+      ≡ (
+        map (taken_row place t cmd reply) (cond b (halved_lines (drawn_of most arenas past s)) (drawn_of most arenas past s)).rows,
+        known_rows place t cmd reply (cond b (halved_lines (drawn_of most arenas past s)) (drawn_of most arenas past s)).rows,
+      )
+  begun-roomed true arenas = begun-rows halved_row (λ a. refl) (λ a. refl) arenas
+  begun-roomed false arenas =
+      let same : map (λ (r : Row). r) (map (row_of most past s) arenas) ≡ map (row_of most past s) arenas = map-id (map (row_of most past s) arenas) in
+      (λ i. first_rows place t cmd reply (sym same i) (known_at most before s arenas))
+      ∙ begun-rows (λ (r : Row). r) (λ a. refl) (λ a. refl) arenas
+      ∙ (λ i. (map (taken_row place t cmd reply) (same i), known_rows place t cmd reply (same i)))
+
+-- it is as the first of all is taken
+chart-begun : (whole : Whole) (most : ℕ) (before : List State) (s t : State) (seat : ℕ) (cmd : Cmd) (reply : Reply) → 0 < most → step s seat cmd ≡ (reply, t) → Fine t
+    → (arenas : List ℕ) → begun_chart t cmd reply (followed_chart most arenas before s) ≡ followed_chart most arenas (before ++ s ∷ []) t
+chart-begun whole most before s t seat cmd reply some answered fine' arenas =
+    let moments : List State = before ++ s ∷ [] in
+    let c : Charted = chart_of most arenas moments s in
+    let place : ℕ = length moments / width_of most (length moments + 1) in
+    let rows = begun-roomed whole most before s t seat cmd reply answered fine' place (nat_le (most * width_of most (length moments)) (length moments)) arenas in
+    let as_first : begun_chart t cmd reply (followed_chart most arenas before s) ≡ first_chart t cmd reply c =
+    λ i. record {
+      chart =
+          record {
+            most = most;
+            moments = length moments + 1;
+            lines =
+                record {
+                  limit = added place (Some (limit_of t)) (roomed_lines c).limit;
+                  effective = added place (Some (effective_limit_of t)) (roomed_lines c).effective;
+                  rows = (rows i).0;
+                };
+          };
+      known = (rows i).1;
+      shares = shared_of t;
+    } in
+    as_first ∙ chart-first most moments s t seat cmd reply some answered arenas
 
 -- ---- a moment in the column of the last
 
@@ -199,9 +258,21 @@ next-known whole most arenas moments s t seat cmd reply ks given some answered f
     followed = record { chart = chart_of most arenas moments s; known = ks; shares = given }
 
     go : (on : Bool) → goes_on (chart_of most arenas moments s) ≡ on → (still : Bool) → is_still reply ≡ still → Knows most s arenas moments ks given
-        → cond on (cond still (record followed { chart = counted_chart (chart_of most arenas moments s) }) (near_chart t cmd reply followed)) (first_chart t cmd reply (chart_of most arenas moments s))
+        → cond on (cond still (record followed { chart = counted_chart (chart_of most arenas moments s) }) (near_chart t cmd reply followed))
+        (cond (length moments == 0) (first_chart t cmd reply (chart_of most arenas moments s)) (begun_chart t cmd reply followed))
         ≡ followed_chart most arenas moments t
-    go false off still is k = chart-first most moments s t seat cmd reply some answered arenas
+    go false off still is (inl none) =
+        let empty : (length moments == 0) ≡ true = ap (λ (ms : List State). length ms == 0) none in
+        rw empty (chart-first most moments s t seat cmd reply some answered arenas)
+    go false off still is (inr k) =
+        let ends : moments ≡ k.0 ++ s ∷ [] = k.1.0 in
+        let count : length moments ≡ suc (length k.0) = ap length ends ∙ omega (arith, length_push k.0 s) in
+        let some_ : 0 < length moments = omega (arith, count) in
+        let open_ : (length moments == 0) ≡ false = grind (arith, nat_tests) in
+        rw open_
+        ((λ i. begun_chart t cmd reply (record { chart = chart_of most arenas (ends i) s; known = k.1.1.0 i; shares = k.1.1.1 i }))
+        ∙ chart-begun whole most k.0 s t seat cmd reply some answered fine' arenas
+        ∙ ap (λ ms. followed_chart most arenas ms t) (sym ends))
     go true on still is (inl none) =
         let bad : goes_on (chart_of most arenas [] s) ≡ true = ap (λ ms. goes_on (chart_of most arenas ms s)) (sym none) ∙ on in
         absurd (true≢false (sym bad))
@@ -252,16 +323,23 @@ pub record IsMore (s : State) (cmd : Cmd) (reply : Reply) (f : Followed) : Type 
   pub moments : (next_chart s cmd reply f).chart.moments ≡ f.chart.moments + 1
 
 pub next-more : (s : State) (cmd : Cmd) (reply : Reply) (f : Followed) → IsMore s cmd reply f
-next-more s cmd reply f = record { rows = rows (goes_on f.chart) (is_still reply); moments = moments (goes_on f.chart) (is_still reply) }
+next-more s cmd reply f =
+    record { rows = rows (goes_on f.chart) (is_still reply) (f.chart.moments == 0); moments = moments (goes_on f.chart) (is_still reply) (f.chart.moments == 0) }
   where
-    rows : (on still : Bool)
-        → length (cond on (cond still (record f { chart = counted_chart f.chart }) (near_chart s cmd reply f)) (first_chart s cmd reply f.chart)).chart.lines.rows ≡ length f.chart.lines.rows
-    rows false still = length-map (roomed_lines f.chart).rows _ ∙ roomed-if (nat_le (f.chart.most * width_of f.chart.most f.chart.moments) f.chart.moments) f.chart.lines
-    rows true true = refl
-    rows true false =
+    next : Bool → Bool → Bool → Followed
+    next on still none = cond on (cond still (record f { chart = counted_chart f.chart }) (near_chart s cmd reply f)) (cond none (first_chart s cmd reply f.chart) (begun_chart s cmd reply f))
+
+    rows : (on still none : Bool) → length (next on still none).chart.lines.rows ≡ length f.chart.lines.rows
+    rows false still true = length-map (roomed_lines f.chart).rows _ ∙ roomed-if (nat_le (f.chart.most * width_of f.chart.most f.chart.moments) f.chart.moments) f.chart.lines
+    rows false still false =
+        pair-rows (first_row (f.chart.moments / width_of f.chart.most (f.chart.moments + 1)) s cmd reply (shared_of s)) (roomed_lines f.chart).rows f.known
+        ∙ roomed-if (nat_le (f.chart.most * width_of f.chart.most f.chart.moments) f.chart.moments) f.chart.lines
+    rows true true none = refl
+    rows true false none =
         near-length (f.chart.moments / width_of f.chart.most (f.chart.moments + 1)) s cmd reply f.shares f.chart.lines.rows f.known
 
-    moments : (on still : Bool) → (cond on (cond still (record f { chart = counted_chart f.chart }) (near_chart s cmd reply f)) (first_chart s cmd reply f.chart)).chart.moments ≡ f.chart.moments + 1
-    moments false still = refl
-    moments true true = refl
-    moments true false = refl
+    moments : (on still none : Bool) → (next on still none).chart.moments ≡ f.chart.moments + 1
+    moments false still true = refl
+    moments false still false = refl
+    moments true true none = refl
+    moments true false none = refl

@@ -1,13 +1,17 @@
 -- Texts that are put one behind the other.
-use Rattle.std.proofs.Common.{◌≡◌, ℕ, ◌+◌, ◌<◌, if◌then◌else◌, Bool, true, false, List, [], ◌∷◌, ◌++◌, drop, length, get_or, Result, Ok, Err, OnOk, is_ok, subst, codes, refl, sym, ap, ◌∙◌, append_assoc, append-nil, arith}
-use Rattle.std.specs.List.{flat_map, range_with_len}
+use Rattle.std.proofs.Common.{◌≡◌, ℕ, ◌+◌, ◌<◌, if◌then◌else◌, Bool, true, false, cond, eqb, Option, None, Some, List, [], ◌∷◌, ◌++◌, drop, length, get_or, Result, Ok, Err, OnOk, is_ok, subst, codes, refl, sym, ap, ◌∙◌, append_assoc, append-nil, arith}
+use Rattle.std.specs.List.{count_by, flat_map, list_any, range_with_len}
+use Rattle.std.proofs.lemmas.Bool.Decides.{nat_tests}
+use Rattle.std.proofs.lemmas.List.Sums.{sum_by-cons}
 use Rattle.std.proofs.lemmas.List.{flat_map_more, map-id, at_drop_more}
 use Rattle.std.proofs.Math.Numerals.{suc-eq-add-one}
 use Rattle.std.proofs.lemmas.List.FromFn.{map-range_with_len_more}
 use Rattle.journal_chart.specs.declared.row.Row.{Row}
+use Rattle.journal_chart.specs.declared.span.Span.{Span}
+use Rattle.journal_chart.specs.Highest.{highest, highest_in, highest_of}
 use Rattle.journal_chart.specs.declared.sheet.Sheet.{Sheet}
 use Rattle.journal_chart.specs.Numbers.{Drawn}
-use Rattle.journal_chart.specs.Picture.{axis_text, head_text, is_at, levels_end, levels_text, limits_text, row_text, rows_end, rows_text, run_first, sheet_text, wide_of}
+use Rattle.journal_chart.specs.Picture.{axis_text, head_text, is_at, levels_end, levels_text, limits_text, row_text, rows_end, rows_text, run_first, sheet_text, stands_at, wide_of}
 
 -- one text more in front of those that are put
 pub behind : {T E : Type 0} (r : Result T E) (o a b x y : List ℕ) → a ≡ o ++ x → OnOk r (b ≡ a ++ y) → OnOk r (b ≡ o ++ (x ++ y))
@@ -77,6 +81,35 @@ levels_end-none rows = refl
 pub levels_end-more : (rows : List Row) (n y : ℕ) → y ≡ levels_end rows n → rows_end (n + 1) y rows ≡ levels_end rows (n + 1)
 unfolding levels_end
 levels_end-more rows n y e = ap (λ k. rows_end (n + 1) k rows) e ∙ ap (λ k. levels_end rows k) (suc-eq-add-one n)
+
+-- ---- above the highest level
+
+above-in : (level : ℕ) (c : Option Span) → highest_in c < level → stands_at level c ≡ false
+above-in level None above = refl
+above-in level (Some s) above =
+    let least : eqb s.least level ≡ false = grind (arith, nat_tests) in
+    let most : eqb s.most level ≡ false = grind (arith, nat_tests) in
+    rw (least, most) refl
+
+above-of : (level : ℕ) (cs : List (Option Span)) → highest_of cs < level → list_any (stands_at level) cs ≡ false
+above-of level [] above = refl
+above-of level (c ∷ cs) above =
+    rw (above-in level c (omega (arith, above))) (above-of level cs (omega (arith, above)))
+
+pub above-text : (sheet : Sheet) (level y : ℕ) (rows : List Row) → highest rows < level → rows_text sheet level y rows ≡ []
+above-text sheet level y [] above = refl
+above-text sheet level y (r ∷ rows) above =
+    rw (above-of level r.level (omega (arith, above))) (above-text sheet level y rows (omega (arith, above)))
+
+above-count : (level : ℕ) (rows : List Row) → highest rows < level → count_by (is_at level) rows ≡ 0
+above-count level [] above = refl
+above-count level (r ∷ rows) above =
+    let f : Row → ℕ = λ x. cond (is_at level x) 1 0 in
+    let here : f r ≡ 0 = ap (λ (b : Bool). cond b 1 0) (above-of level r.level (omega (arith, above))) in
+    omega (arith, sum_by-cons f r rows, here, above-count level rows (omega (arith, above)))
+
+pub above-end : (level y : ℕ) (rows : List Row) → highest rows < level → rows_end level y rows ≡ y
+above-end level y rows above = omega (arith, above-count level rows above)
 
 pub levels_text-none : (sheet : Sheet) (rows : List Row) (o : List ℕ) → o ≡ o ++ levels_text sheet rows 0
 unfolding levels_text

@@ -4,5 +4,6 @@ pub mod Journals
 pub mod Lines
 pub mod Numbers
 pub mod Picture
+pub mod Highest
 pub mod Shares
 pub mod Steps

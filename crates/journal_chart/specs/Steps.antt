@@ -261,6 +261,10 @@ abbrev pub seat_row : ℕ → State → Cmd → Reply → Bool → Shared → Ro
 seat_row place s cmd reply more now r k =
     if is_just r.arena (subject cmd reply) then own_row place s cmd reply now r (seated place more reply k r) else (r, k)
 
+-- a row at the first moment of a column, by what is known of its arena at the moment before
+abbrev pub first_row : ℕ → State → Cmd → Reply → Shared → Row → Known → Row × Known
+first_row place s cmd reply now r k = if is_just r.arena (subject cmd reply) then seen_row place s cmd reply r else settled_row place s cmd reply now k r
+
 -- what levels are given after a command of a seat, and after any
 abbrev pub after_seat : State → Shared → Shared
 after_seat s was = record was { placed = placed_of s }
@@ -309,6 +313,10 @@ each_row place s cmd reply was rows ks = pairwise (near_row place s cmd reply (s
 abbrev pub near_rows : ℕ → State → Cmd → Reply → Shared → List Row → List Known → List Row × List Known
 near_rows place s cmd reply was rows ks = if moves_seat cmd then seat_rows place s cmd reply was rows ks else each_row place s cmd reply was rows ks
 
+-- rows at the first moment of a column
+abbrev pub first_rows : ℕ → State → Cmd → Reply → List Row → List Known → List Row × List Known
+first_rows place s cmd reply rows ks = pairwise (first_row place s cmd reply (shared_of s)) rows ks
+
 -- what is known of the arenas of rows that take a moment
 abbrev pub known_rows : ℕ → State → Cmd → Reply → List Row → List Known
 known_rows place s cmd reply rows = map (λ (r : Row). (seen_row place s cmd reply r).1) rows
@@ -323,6 +331,15 @@ near_lines place s cmd reply was ks d =
       limit = limited place was.limit (now_shared cmd s was).limit d.limit;
       effective = limited place was.effective (now_shared cmd s was).effective d.effective;
       rows = (near_rows place s cmd reply was d.rows ks).0;
+    }
+
+-- at the first moment of a column
+abbrev pub begun_lines : ℕ → State → Cmd → Reply → List Known → Drawn → Drawn
+begun_lines place s cmd reply ks d =
+    record {
+      limit = added place (Some (limit_of s)) d.limit;
+      effective = added place (Some (effective_limit_of s)) d.effective;
+      rows = (first_rows place s cmd reply d.rows ks).0;
     }
 
 abbrev pub passed_lines : Cmd → Reply → Drawn → Drawn
@@ -376,7 +393,7 @@ near_chart s cmd reply f =
       shares = now_shared cmd s f.shares;
     }
 
--- with the first moment of a column
+-- with the first moment of all
 abbrev pub first_chart : State → Cmd → Reply → Charted → Followed
 first_chart s cmd reply c =
     record {
@@ -385,11 +402,26 @@ first_chart s cmd reply c =
       shares = shared_of s;
     }
 
+-- with the first moment of a column after another
+abbrev pub begun_chart : State → Cmd → Reply → Followed → Followed
+begun_chart s cmd reply f =
+    record {
+      chart =
+          record {
+            most = f.chart.most;
+            moments = f.chart.moments + 1;
+            lines = begun_lines (f.chart.moments / width_of f.chart.most (f.chart.moments + 1)) s cmd reply f.known (roomed_lines f.chart);
+          };
+      known = (first_rows (f.chart.moments / width_of f.chart.most (f.chart.moments + 1)) s cmd reply (roomed_lines f.chart).rows f.known).1;
+      shares = shared_of s;
+    }
+
 -- with the moment after a command and its reply: of a chart that has taken the moment before, if any, and of what was known then
 abbrev pub next_chart : State → Cmd → Reply → Followed → Followed
 next_chart s cmd reply f =
     if goes_on f.chart then (if is_still reply then record f { chart = counted_chart f.chart } else near_chart s cmd reply f)
-    else first_chart s cmd reply f.chart
+    else if f.chart.moments == 0 then first_chart s cmd reply f.chart
+    else begun_chart s cmd reply f
 
 -- a chart that lets this moment pass
 abbrev pub passed_chart : Cmd → Reply → Charted → Charted

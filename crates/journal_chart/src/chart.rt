@@ -5,7 +5,7 @@ ghost use Rattle.market_types.specs.Step.{step};
 ghost use Rattle.journal_chart.specs.Columns.{width_of};
 ghost use Rattle.journal_chart.specs.Numbers.{chart_of};
 ghost use Rattle.journal_chart.specs.Shares.{shared_of};
-ghost use Rattle.journal_chart.specs.Steps.{first_chart, goes_on, halved_lines, is_still, near_chart, next_chart, now_shared, passed_chart, taken_chart};
+ghost use Rattle.journal_chart.specs.Steps.{begun_chart, first_chart, goes_on, halved_lines, is_still, near_chart, next_chart, now_shared, passed_chart, taken_chart};
 
 use crate::lines::Lines;
 use crate::row::Known;
@@ -105,7 +105,7 @@ impl Chart {
         self.moments % self.width > 0
     }
 
-    /// Takes the moment after an entry, as `take` does, what is then known of the arenas, and what the levels are given.
+    /// Takes the first moment, as `take` does, what is then known of the arenas, and what the levels are given.
     // Apart, as `near` is, since each entry would else make room for all that is needed here.
     #[inline(never)]
     fn look(
@@ -125,6 +125,30 @@ impl Chart {
         let width = make_room(&mut self.lines, self.columns, self.moments, self.width);
         let place = (self.moments / width) as usize;
         self.lines.look(known, shares, place, market, cmd, reply);
+        self.width = width;
+        self.moments += 1;
+    }
+
+    /// Takes the first moment of a column, where the moment before was taken, and this was then known of the arenas: what is then known of them,
+    /// and what the levels are given.
+    #[inline(never)]
+    fn begin(
+        &mut self,
+        known: &mut [Known],
+        shares: &mut Shares,
+        market: &Market,
+        cmd: &Cmd,
+        reply: &Reply,
+    )
+        requires few { self.old.moments + 1 < 2 ^ 63 }
+        requires each { length known.old ≡ length self.old.lines.rows }
+        ensures chart { self.new ≡ (begun_chart market.now cmd.now reply.now (record { chart = self.old; known = known.old; shares = shares.old })).chart }
+        ensures known { known.new ≡ (begun_chart market.now cmd.now reply.now (record { chart = self.old; known = known.old; shares = shares.old })).known }
+        ensures shares { shares.new ≡ shared_of market.now }
+    {
+        let width = make_room(&mut self.lines, self.columns, self.moments, self.width);
+        let place = (self.moments / width) as usize;
+        self.lines.begin(known, shares, place, market, cmd, reply);
         self.width = width;
         self.moments += 1;
     }
@@ -153,8 +177,8 @@ impl Chart {
     }
 
     /// Takes the moment after an entry, as `take` does, where the moment before was taken last, if any was, and this was then known of the
-    /// arenas. Where it goes into the same column only what may have changed is looked at: nothing where the market is as it was, and else
-    /// the arena that the entry is about, and those of which it is not known that they add nothing.
+    /// arenas. Only what may have changed is looked at: the arena that the entry is about, and those whose allotment is not told; in the same
+    /// column nothing where the market is as it was, and else none of which it is known that it adds nothing.
     #[inline]
     pub(crate) fn take_next(
         &mut self,
@@ -171,7 +195,11 @@ impl Chart {
         ensures shares { shares.new ≡ (next_chart market.now cmd.now reply.now (record { chart = self.old; known = known.old; shares = shares.old })).shares }
     {
         if !self.goes_on() {
-            self.look(known, shares, market, cmd, reply);
+            if self.moments == 0 {
+                self.look(known, shares, market, cmd, reply);
+            } else {
+                self.begin(known, shares, market, cmd, reply);
+            }
             return;
         }
         if is_still(reply) {

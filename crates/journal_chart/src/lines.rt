@@ -3,10 +3,10 @@ ghost use Rattle.std.specs.Prelude.{◌≡◌, IfOk, length, map};
 ghost use Rattle.market_types.specs.State.{State};
 ghost use Rattle.market_types.specs.Step.{limits_of};
 ghost use Rattle.journal_chart.specs.Shares.{shared_of};
-ghost use Rattle.journal_chart.specs.Steps.{empty_lines, empty_row, halved_lines, known_rows, limited, limited_lines, near_lines, near_rows, now_shared, passed_lines, taken_lines};
+ghost use Rattle.journal_chart.specs.Steps.{begun_lines, empty_lines, empty_row, first_rows, halved_lines, known_rows, limited, limited_lines, near_lines, near_rows, now_shared, passed_lines, taken_lines};
 
 use crate::line::Line;
-use crate::nearby::{look_rows, moves_seat, near_rows, seat_rows};
+use crate::nearby::{first_rows, look_rows, moves_seat, near_rows, seat_rows};
 use crate::row::{Known, Row, halve_rows, pass_rows, take_rows};
 use crate::shares::Shares;
 use market_core::Market;
@@ -123,6 +123,28 @@ impl Lines {
         self.add_limits(place, &limits);
         *shares = Shares::of(market, &limits);
         look_rows(&mut self.rows, known, place, market, cmd, reply);
+    }
+
+    /// Takes the first moment of a column, as `take` does, where the moment before was taken, and this was then known of the arenas: what is
+    /// then known of them, and what the levels are given.
+    pub(crate) fn begin(
+        &mut self,
+        known: &mut [Known],
+        shares: &mut Shares,
+        place: usize,
+        market: &Market,
+        cmd: &Cmd,
+        reply: &Reply,
+    )
+        requires each { length known.old ≡ length self.old.rows }
+        ensures lines { self.new ≡ begun_lines place market.now cmd.now reply.now known.old self.old }
+        ensures known { known.new ≡ (first_rows place market.now cmd.now reply.now self.old.rows known.old).1 }
+        ensures shares { shares.new ≡ shared_of market.now }
+    {
+        let limits = market.limits();
+        self.add_limits(place, &limits);
+        *shares = Shares::of(market, &limits);
+        first_rows(&mut self.rows, known, place, market, cmd, reply, shares);
     }
 
     /// Takes the moment after one that was taken into the same column, what is then known of the arenas, and what the levels are given.

@@ -3,7 +3,7 @@ ghost use Rattle.std.specs.Prelude.{◌≡◌, length, map};
 ghost use Rattle.market_types.specs.Allotment.{is_just};
 ghost use Rattle.market_types.specs.Step.{limits_of};
 ghost use Rattle.journal_chart.specs.Shares.{shared_of};
-ghost use Rattle.journal_chart.specs.Steps.{after_seat, each_row, has_few, is_covered, is_covered_at, is_divided, is_idle, is_kept, keeps_order, kept_levels, known_rows, moves_seat, near_row, own_row, pairwise, requested, retold, seat_row, seat_rows, seated, settled_row, share_told, stands_kept, subject, taken_row, told};
+ghost use Rattle.journal_chart.specs.Steps.{after_seat, each_row, first_row, first_rows, has_few, is_covered, is_covered_at, is_divided, is_idle, is_kept, keeps_order, kept_levels, known_rows, moves_seat, near_row, own_row, pairwise, requested, retold, seat_row, seat_rows, seated, settled_row, share_told, stands_kept, subject, taken_row, told};
 
 use crate::covered::{Covered, exactly};
 use crate::row::{Known, Row};
@@ -461,7 +461,60 @@ pub(crate) fn seat_rows(
     each_seat_row(rows, known, place, market, cmd, reply, more, shares);
 }
 
-/// Takes the first moment of a column into all rows, and what is then known of their arenas.
+/// Takes the first moment of a column into a row, where this is known of its arena at the moment before, and what is then known. The market
+/// is asked of the arena that the entry is about, and of another only for what is not told.
+#[inline]
+fn first_row(
+    row: &mut Row,
+    known: &mut Known,
+    place: usize,
+    market: &Market,
+    cmd: &Cmd,
+    reply: &Reply,
+    now: &Shares,
+    own: &Option<ArenaId>,
+)
+    requires own { own.now ≡ subject cmd.now reply.now }
+    ensures { (row.new, known.new) ≡ first_row place market.now cmd.now reply.now now.now row.old known.old }
+{
+    if is_just(row.arena, own) {
+        *known = row.look(place, market, cmd, reply);
+        return;
+    }
+    settle(row, known, place, market, cmd, reply, now);
+}
+
+/// Takes the first moment of a column into all rows, where this is known of their arenas at the moment before, and what is then known.
+pub(crate) fn first_rows(
+    rows: &mut [Row],
+    known: &mut [Known],
+    place: usize,
+    market: &Market,
+    cmd: &Cmd,
+    reply: &Reply,
+    now: &Shares,
+)
+    requires each { length known.old ≡ length rows.old }
+    requires shares { now.now ≡ shared_of market.now }
+    ensures rows { rows.new ≡ (first_rows place market.now cmd.now reply.now rows.old known.old).0 }
+    ensures known { known.new ≡ (first_rows place market.now cmd.now reply.now rows.old known.old).1 }
+{
+    let own = subject(cmd, reply);
+    for index in 0..rows.len() {
+        first_row(
+            &mut rows[index],
+            &mut known[index],
+            place,
+            market,
+            cmd,
+            reply,
+            now,
+            &own,
+        );
+    }
+}
+
+/// Takes the first moment of all into all rows, and what is then known of their arenas.
 pub(crate) fn look_rows(
     rows: &mut [Row],
     known: &mut [Known],

@@ -7,7 +7,7 @@ use crate::chart::Chart;
 use crate::figure::{Run, write_cell, write_limits_cell};
 use crate::lines::Lines;
 use crate::row::Row;
-use crate::sheet::{Sheet, greatest, is_at, scale_of};
+use crate::sheet::{Sheet, greatest, highest, is_at, scale_of};
 use std::alloc::AllocError;
 
 /// Writes columns of a row at a level, in which it says the same.
@@ -152,8 +152,12 @@ fn levels_end(rows: &[Row]) -> u64
     ensures exact { result ≡ levels_end rows.now 8 }
     ensures low { result < 2 ^ 48 }
 {
+    let top = highest(rows);
     let mut y = 120;
     for level in 0..8 {
+        if level >= top {
+            continue;
+        }
         y = rows_end(rows, level + 1, y);
     }
     y
@@ -166,8 +170,12 @@ fn write_levels(text: &mut String, sheet: Sheet, rows: &[Row]) -> Result<(), All
     requires few { length rows.now < 2 ^ 32 }
     ensures { OnOk result (string_bytes text.new ≡ string_bytes text.old ++ levels_text sheet rows.now 8) }
 {
+    let top = highest(rows);
     let mut y = 120;
     for level in 0..8 {
+        if level >= top {
+            continue;
+        }
         write_rows(text, sheet, level + 1, y, rows)?;
         y = rows_end(rows, level + 1, y);
     }

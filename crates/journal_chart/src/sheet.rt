@@ -1,6 +1,7 @@
 //! The columns of a picture.
 ghost use Rattle.std.specs.Prelude.{◌≡◌, ◌+◌, ◌*◌, ◌<◌, ◌≤◌, ◌^◌};
 ghost use Rattle.std.specs.List.{list_any};
+ghost use Rattle.journal_chart.specs.Highest.{highest, highest_in, highest_of};
 ghost use Rattle.journal_chart.specs.Picture.{entries_of, filled, first_entry, greatest, is_at, last_entry, most_of, scale_of, stands_at, wide_of};
 
 use crate::figure::{Entries, Run, stands_at};
@@ -112,6 +113,38 @@ pub(crate) fn scale_of(row: &Row) -> u64
     let allot = greatest(row.allot.columns());
     let active = greatest(row.active.columns());
     u64::from(request.max(allot.max(active)).max(1))
+}
+
+/// The highest level of a column, or 0.
+fn highest_in(column: Option<Span>) -> u32
+    ensures { result ≡ highest_in column }
+{
+    match column {
+        Some(span) => span.least.max(span.most),
+        None => 0,
+    }
+}
+
+/// The highest level of all columns, or 0.
+fn highest_of(columns: &[Option<Span>]) -> u32
+    ensures { result ≡ highest_of columns.now }
+{
+    let mut level = 0;
+    for column in columns {
+        level = level.max(highest_in(*column));
+    }
+    level
+}
+
+/// The highest level of all rows, or 0: none of them stands above it, so that their columns need not be searched for it.
+pub(crate) fn highest(rows: &[Row]) -> u32
+    ensures { result ≡ highest rows.now }
+{
+    let mut level = 0;
+    for row in rows {
+        level = level.max(highest_of(row.level.columns()));
+    }
+    level
 }
 
 /// This is the least or the greatest level of one of these columns.

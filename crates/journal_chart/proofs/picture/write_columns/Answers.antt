@@ -1,4 +1,4 @@
-use Rattle.std.proofs.Common.{◌≡◌, ◌++◌, ℕ, List, Bool, true, false, string_bytes, ap, sym, ◌∙◌, append-nil, arith}
+use Rattle.std.proofs.Common.{◌≡◌, ◌++◌, ℕ, Bool, true, false, string_bytes, ap, sym, ◌∙◌, append-nil, arith}
 use Rattle.journal_chart.specs.Picture.{filled, row_goes_on, run_of, run_text}
 use Rattle.journal_chart.proofs.Texts.{next-none, next-run, run_first-none, run_first-on, run_first-ends}
 use Rattle.journal_chart.proofs.picture.write_columns.Goals as goal
