@@ -52,13 +52,6 @@ covered-none from below n none h =
     let some : 0 < below = let e = g.1 in grind (arith, nat_tests) in
     (omega (arith, none, zero_), omega (arith, none, some))
 
-covered-all : (from below r n : ℕ) → n ≡ r → (leb from r && ltb r below) ≡ true → (from ≤ n) × (n < below)
-covered-all from below r n whole h =
-    let g = both (leb from r) (ltb r below) h in
-    let low : from ≤ r = let e = g.0 in grind (arith, nat_tests) in
-    let high : r < below = let e = g.1 in grind (arith, nat_tests) in
-    (omega (arith, whole, low), omega (arith, whole, high))
-
 covered-part : (from below p d c n : ℕ) → c < d → n ≡ (p + c) / d → (leb (from * d) p && leb (p + d) (below * d)) ≡ true → (from ≤ n) × (n < below)
 covered-part from below p d c n less is h =
     let g = both (leb (from * d) p) (leb (p + d) (below * d)) h in
@@ -69,17 +62,28 @@ covered-part from below p d c n less is h =
     let most : (p + c) / d < below = div_below (p + c) d below some (omega (arith, high, less)) in
     (omega (arith, is, least), omega (arith, is, most))
 
-covered-share-if : (from below r g d c n : ℕ) (asks given all : Bool) → eqb r 0 ≡ asks → eqb g 0 ≡ given → eqb g d ≡ all → (0 < r → c < d)
-    → n ≡ cond asks 0 ((r * g + c) / d)
-    → cond (asks || given) (eqb from 0 && ltb 0 below) (cond all (leb from r && ltb r below) (leb (from * d) (r * g) && leb (r * g + d) (below * d))) ≡ true
-    → (from ≤ n) × (n < below)
-covered-share-if from below r g d c n true given all none e same less is h = covered-none from below n is h
-covered-share-if from below r g d c n false true all some e same less is h = covered-none from below n (is ∙ nothing-given r g d c e (less (asks-some r some))) h
-covered-share-if from below r g d c n false false true some e same less is h = covered-all from below r n (is ∙ all-given r g d c same (less (asks-some r some))) h
-covered-share-if from below r g d c n false false false some e same less is h = covered-part from below (r * g) d c n (less (asks-some r some)) is h
+-- an arena that asks for nobody is allotted nobody
+covered-nobody : (from below p d n : ℕ) → n ≡ 0 → p ≡ 0 → 0 < d → (leb (from * d) p && leb (p + d) (below * d)) ≡ true → (from ≤ n) × (n < below)
+covered-nobody from below p d n none idle some h =
+    let sum : p + 0 ≡ 0 * d + 0 = omega (arith, idle) in
+    covered-part from below p d 0 n some (none ∙ sym (ap (λ q. q / d) sum ∙ div-mul-add 0 d 0 some)) h
+
+covered-share-if : (from below r g d c n : ℕ) (idle asks : Bool) → eqb d 0 ≡ idle → eqb r 0 ≡ asks → (0 < r → c < d) → n ≡ cond asks 0 ((r * g + c) / d)
+    → cond idle (eqb from 0 && ltb 0 below) (leb (from * d) (r * g) && leb (r * g + d) (below * d)) ≡ true → (from ≤ n) × (n < below)
+covered-share-if from below r g d c n true true e none less is h = covered-none from below n is h
+covered-share-if from below r g d c n true false e some less is h =
+    let zero_ : d ≡ 0 = grind (arith, nat_tests) in
+    let within : c < d = less (asks-some r some) in
+    absurd (omega (arith, zero_, within))
+covered-share-if from below r g d c n false true e none less is h =
+    let any : 0 < d = grind (arith, nat_tests) in
+    let zero_ : r ≡ 0 = grind (arith, nat_tests) in
+    let idle : r * g ≡ 0 = ap (λ k. k * g) zero_ ∙ omega arith in
+    covered-nobody from below (r * g) d n is idle any h
+covered-share-if from below r g d c n false false e some less is h = covered-part from below (r * g) d c n (less (asks-some r some)) is h
 
 pub covered-share : (k : Covered) (r g d n : ℕ) → IsShare r g d n → covers k r g d ≡ true → (k.from ≤ n) × (n < k.below)
-covered-share k r g d n share h = covered-share-if k.from k.below r g d share.carry n (eqb r 0) (eqb g 0) (eqb g d) refl refl refl share.less share.is h
+covered-share k r g d n share h = covered-share-if k.from k.below r g d share.carry n (eqb d 0) (eqb r 0) refl refl share.less share.is h
 
 -- a product that is a multiple leaves nothing but the carry
 whole-given : (p d c : ℕ) → eqb (p % d) 0 ≡ true → c < d → (p + c) / d ≡ p / d

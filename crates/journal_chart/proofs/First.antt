@@ -1,7 +1,6 @@
 -- The first moment of a column after one that was taken: what is told of an arena that the entry is not about needs no look at the market.
-use Rattle.std.specs.Prelude.{slice_index}
 use Rattle.std.specs.Option.{option_map}
-use Rattle.std.proofs.Common.{◌≡◌, ℕ, ◌-◌, ◌⊎◌, Bool, true, false, cond, Option, None, Some, refl, sym, ap, ◌∙◌, subst, inl, inr}
+use Rattle.std.proofs.Common.{◌≡◌, ℕ, ◌-◌, false, Option, None, Some, refl, sym, ap, ◌∙◌, inl, inr}
 use Rattle.std.proofs.lemmas.Bool.{cases_Bool}
 use Rattle.market_types.specs.declared.command.Cmd.{Cmd}
 use Rattle.market_types.specs.declared.reply.ArenaView.{ArenaView}
@@ -12,15 +11,13 @@ use Rattle.market_types.specs.Allotment.{active, allotment_of, is_just}
 use Rattle.market_types.specs.Step.{arena_at, step, view_of}
 use Rattle.journal_chart.specs.declared.row.Known.{Known}
 use Rattle.journal_chart.specs.declared.row.Row.{Row}
-use Rattle.journal_chart.specs.Covering.{exactly}
 use Rattle.journal_chart.specs.Lines.{added}
 use Rattle.journal_chart.specs.Numbers.{level_at, view_at}
 use Rattle.journal_chart.specs.Shares.{shared_of}
-use Rattle.journal_chart.specs.Steps.{first_row, is_divided, is_idle, known_in, known_of, seen_row, settled_row, share_told, shared_row, stands_after, subject, taken_row, told_row}
-use Rattle.journal_chart.proofs.Bounds.{IsShare, Whole, exact-share}
+use Rattle.journal_chart.specs.Steps.{first_row, known_in, known_of, seen_row, settled_row, share_of, shared_row, stands_after, subject, taken_row, told_row}
+use Rattle.journal_chart.proofs.Bounds.{Whole}
 use Rattle.journal_chart.proofs.Kept.{Fine, Stands, apart-stands, found-number}
-use Rattle.journal_chart.proofs.Near.{idle-allotted}
-use Rattle.journal_chart.proofs.Sharing.{divides, share}
+use Rattle.journal_chart.proofs.Near.{share-is}
 
 module _ (whole : Whole) (place : ℕ) (s t : State) (seat : ℕ) (cmd : Cmd) (reply : Reply) (answered : step s seat cmd ≡ (reply, t)) (fine' : Fine t) (a : ℕ)
     (stood : stands_after a (level_at a s) cmd reply ≡ level_at a t) (r : Row) (arena_is : r.arena ≡ a) (stands_is : r.stands ≡ level_at a s) where
@@ -56,34 +53,13 @@ module _ (whole : Whole) (place : ℕ) (s t : State) (seat : ℕ) (cmd : Cmd) (r
       (λ i. (same i, known_in place (sym n.0 i) (sym n.1 i) (same i))) ∙ (λ i. (taken_row place t cmd reply r, known_of place (view i) (taken_row place t cmd reply r)))
 
   settled-first : (k : Known) → Tells k → settled_row place t cmd reply (shared_of t) k r ≡ seen_row place t cmd reply r
-  settled-first k h = told_ (share_told (shared_of t) k r.stands) refl
+  settled-first k h =
+      (λ i. told_row place t cmd reply k r (option_map (share_of t (shared_of t) k (arena_is i)) ((stands_is ∙ sym h.level) i))) ∙ at_arena (arena_at a t.arenas) refl
     where
-      given : ℕ → ℕ
-      given level = slice_index (shared_of t).given (level - 1)
-
-      asked : ℕ → ℕ
-      asked level = slice_index (shared_of t).asked (level - 1)
-
-      divided : (b idle : Bool) (o : Option ℕ) (v : ℕ) → cond b o (cond idle (Some 0) None) ≡ Some v → ((b ≡ true) × (o ≡ Some v)) ⊎ ((idle ≡ true) × (v ≡ 0))
-      divided true idle o v is = inl (refl, is)
-      divided false true o v is = let none : 0 ≡ v = cc in inr (refl, sym none)
-      divided false false o v is = absurd (cc)
-
-      at_level_of : (o : Option Arena) (v : ℕ) → arena_at a t.arenas ≡ o → share_told (shared_of t) k (option_map (λ (b : Arena). b.level) o) ≡ Some v
-          → told_row place t cmd reply k r (Some v) ≡ seen_row place t cmd reply r
-      at_level_of None v found is = absurd (cc)
-      at_level_of (Some y) v found is =
-          elim (divided (is_divided (shared_of t) y.level) (is_idle (shared_of t)) (exactly k.request (given y.level) (asked y.level)) v is) [
-            | inl g ↦
-                let own = share whole t a y fine' found (divides t y.level g.0) in
-                let own' = subst (λ n. IsShare n (given y.level) (asked y.level) (allotment_of t y.number)) (h.tells y found).0 own in
-                told-first k y v h found (exact-share k.request (given y.level) (asked y.level) (allotment_of t y.number) v own' g.1)
-            | inr g ↦ told-first k y v h found (idle-allotted t y.number g.0 ∙ sym g.1)
-          ]
-
-      told_ : (o : Option ℕ) → share_told (shared_of t) k r.stands ≡ o → told_row place t cmd reply k r o ≡ seen_row place t cmd reply r
-      told_ None is = refl
-      told_ (Some v) is = at_level_of (arena_at a t.arenas) v refl (ap (share_told (shared_of t) k) (h.level ∙ sym stands_is) ∙ is)
+      at_arena : (o : Option Arena) → arena_at a t.arenas ≡ o
+          → told_row place t cmd reply k r (option_map (share_of t (shared_of t) k a) (option_map (λ (b : Arena). b.level) o)) ≡ seen_row place t cmd reply r
+      at_arena None none = refl
+      at_arena (Some y) found = told-first k y (share_of t (shared_of t) k a y.level) h found (share-is whole t a y k fine' found (h.tells y found).0)
 
   -- whatever was the column of the moment before
   pub first-row : (p : ℕ) (before : Row) → first_row place t cmd reply (shared_of t) r (known_of p (view_at a s) before) ≡ seen_row place t cmd reply r

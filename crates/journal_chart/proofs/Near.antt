@@ -1,5 +1,5 @@
 -- A moment more that adds nothing to the column of the last.
-use Rattle.std.specs.Prelude.{◌==◌, ◌&&◌, ◌||◌, nat_le, nat_lt, slice_index}
+use Rattle.std.specs.Prelude.{◌==◌, ◌&&◌, ◌||◌, nat_le, nat_lt, slice_index, unwrap_or}
 use Rattle.std.specs.Option.{option_map}
 use Rattle.std.proofs.Common.{◌≡◌, ℕ, zero, suc, ◌+◌, ◌-◌, ◌*◌, ◌/◌, ◌^◌, ◌<◌, ◌≤◌, ◌⊎◌, Bool, true, false, true≢false, cond, eqb, get_or, ltb, min, max, List, [], ◌∷◌, ◌++◌, length, Option, None, Some, refl, sym, ap, ◌∙◌, subst, arith, inl, inr}
 use Rattle.std.proofs.lemmas.Bool.{cases_Bool}
@@ -23,7 +23,7 @@ use Rattle.journal_chart.specs.Covering.{covered, covers, exactly, least_covered
 use Rattle.journal_chart.specs.Lines.{added, at}
 use Rattle.journal_chart.specs.Numbers.{level_at, line_of, row_of, shown, view_at}
 use Rattle.journal_chart.specs.Shares.{Shared, shared_of}
-use Rattle.journal_chart.specs.Steps.{after_seat, has_few, is_covered, is_covered_at, is_divided, is_idle, is_joined, is_kept, is_same_share, keeps_order, kept_levels, known_in, known_of, limited, moves_seat, near_row, needing_row, own_row, retold, seat_row, seated, seen_row, settled_row, share_told, shared_row, stands_after, stands_kept, subject, told_row}
+use Rattle.journal_chart.specs.Steps.{after_seat, has_few, is_covered, is_covered_at, is_divided, is_idle, is_joined, is_same_share, closed_row, has_share, is_kept, keeps_order, kept_levels, known_in, known_of, limited, moves_seat, near_row, needing_row, own_row, retold, seat_row, seated, seen_row, share_of, shared_row, stands_after, stands_kept, subject}
 use Rattle.journal_chart.proofs.Bounds.{IsShare, Whole, allotment-level, at-level, both, covered-share, exact-share, same-carried}
 use Rattle.journal_chart.proofs.Charts.{line-if, readied-row}
 use Rattle.journal_chart.proofs.Kept.{Fine, Stands, Steady, apart-stands, found-number, steady-step}
@@ -237,6 +237,33 @@ pub idle-allotted : (s : State) (a : ℕ) → is_idle (shared_of s) ≡ true →
 idle-allotted s a idle =
     let none : effective_limit_of s ≡ 0 = grind (arith, nat_tests) in
     omega (arith, none, few-allotted s a (idle-limit s idle))
+
+-- what is told of an arena's allotment is so
+pub share-is : (whole : Whole) (t : State) (a : ℕ) (y : Arena) (k : Known) → Fine t → arena_at a t.arenas ≡ Some y → request_of y.claim ≡ k.request
+    → allotment_of t y.number ≡ share_of t (shared_of t) k a y.level
+share-is whole t a y k fine found asks = go (is_divided (shared_of t) y.level) (is_idle (shared_of t)) refl refl
+  where
+    given : ℕ
+    given = slice_index (shared_of t).given (y.level - 1)
+
+    asked : ℕ
+    asked = slice_index (shared_of t).asked (y.level - 1)
+
+    number : allotment_of t y.number ≡ allotment_of t a
+    number = ap (allotment_of t) (found-number a t.arenas y found)
+
+    told : is_divided (shared_of t) y.level ≡ true → (o : Option ℕ) → exactly k.request given asked ≡ o → allotment_of t y.number ≡ unwrap_or o (allotment_of t a)
+    told some None is = number
+    told some (Some v) is =
+        let own = share whole t a y fine found (divides t y.level some) in
+        let own' = subst (λ n. IsShare n given asked (allotment_of t y.number)) asks own in
+        exact-share k.request given asked (allotment_of t y.number) v own' is
+
+    go : (divided idle : Bool) → is_divided (shared_of t) y.level ≡ divided → is_idle (shared_of t) ≡ idle
+        → allotment_of t y.number ≡ cond divided (unwrap_or (exactly k.request given asked) (allotment_of t a)) (cond idle 0 (allotment_of t a))
+    go true idle some i = told some (exactly k.request given asked) refl
+    go false true off i = idle-allotted t y.number i
+    go false false off i = number
 
 -- ---- a number at the next moment
 
@@ -519,35 +546,29 @@ module _ (most : ℕ) (before : List State) (s t : State) (some : 0 < most) (on 
         let view : known_of place (Some (view_of t y)) (row' a) ≡ known_of place (view_at a t) (row' a) = ap (λ o. known_of place (option_map (view_of t) o) (row' a)) (sym found) in
         (λ i. (same i, known_in place (sym n.0 i) (sym n.1 i) (same i))) ∙ (λ i. (row' a, view i))
 
-    settled : (k : Known) → Tells k → settled_row place t cmd reply (shared_of t) k (row a) ≡ due a
-    settled k h = told (share_told (shared_of t) k (level_at a s)) refl
+    -- the column has what it is allotted, or it is put there
+    closed : (k : Known) (other : Row) → Tells k → k ≡ known_in place k.request k.active (row a) → ((y : Arena) → arena_at a t.arenas ≡ Some y → SameLines a → (other, k) ≡ due a)
+        → closed_row place t cmd reply k (row a) other (option_map (share_of t (shared_of t) k a) (level_at a s)) ≡ due a
+    closed k other h known same =
+        ap (λ o. closed_row place t cmd reply k (row a) other (option_map (share_of t (shared_of t) k a) o)) (sym h.level) ∙ at_arena (arena_at a t.arenas) refl
       where
-        given : ℕ → ℕ
-        given level = slice_index (shared_of t).given (level - 1)
-
-        asked : ℕ → ℕ
-        asked level = slice_index (shared_of t).asked (level - 1)
-
-        divided : (b idle : Bool) (o : Option ℕ) (v : ℕ) → cond b o (cond idle (Some 0) None) ≡ Some v → ((b ≡ true) × (o ≡ Some v)) ⊎ ((idle ≡ true) × (v ≡ 0))
-        divided true idle o v is = inl (refl, is)
-        divided false true o v is = let none : 0 ≡ v = cc in inr (refl, sym none)
-        divided false false o v is = absurd (cc)
-
-        at_level_of : (o : Option Arena) (v : ℕ) → arena_at a t.arenas ≡ o → share_told (shared_of t) k (option_map (λ (b : Arena). b.level) o) ≡ Some v
-            → told_row place t cmd reply k (row a) (Some v) ≡ due a
-        at_level_of None v found is = absurd (cc)
-        at_level_of (Some y) v found is =
-            elim (divided (is_divided (shared_of t) y.level) (is_idle (shared_of t)) (exactly k.request (given y.level) (asked y.level)) v is) [
-              | inl g ↦
-                  let own = share whole t a y fine' found (divides t y.level g.0) in
-                  let own' = subst (λ r. IsShare r (given y.level) (asked y.level) (allotment_of t y.number)) (h.tells y found).0 own in
-                  told-row k y v h found (exact-share k.request (given y.level) (asked y.level) (allotment_of t y.number) v own' g.1)
-              | inr g ↦ told-row k y v h found (idle-allotted t y.number g.0 ∙ sym g.1)
+        at_arena : (o : Option Arena) → arena_at a t.arenas ≡ o
+            → closed_row place t cmd reply k (row a) other (option_map (share_of t (shared_of t) k a) (option_map (λ (b : Arena). b.level) o)) ≡ due a
+        at_arena None none = seen
+        at_arena (Some y) found =
+            let v : ℕ = share_of t (shared_of t) k a y.level in
+            let n = h.tells y found in
+            let is : allotment_of t y.number ≡ v = share-is whole t a y k fine' found n.0 in
+            elim (cases_Bool (has_share k v)) [
+              | inl has ↦
+                  let g = both (nat_le k.covered.from v) (nat_lt v k.covered.below) has in
+                  let low : k.covered.from ≤ v = let e = g.0 in grind (arith, nat_tests) in
+                  let high : v < k.covered.below = let e = g.1 in grind (arith, nat_tests) in
+                  let covers_ : k.covered ≡ covered (at (row a).allot place) (at (row a).recall place) (at (row a).hire place) (active t y.number) =
+                  ap (λ (l : Known). l.covered) known ∙ ap (covered (at (row a).allot place) (at (row a).recall place) (at (row a).hire place)) (sym n.1) in
+                  rw has (same y found (covered-lines a y k.covered found covers_ (omega (arith, is, low)) (omega (arith, is, high))))
+              | inr lacks ↦ rw lacks (told-row k y v h found is)
             ]
-
-        told : (o : Option ℕ) → share_told (shared_of t) k (level_at a s) ≡ o → told_row place t cmd reply k (row a) o ≡ due a
-        told None is = seen
-        told (Some v) is = at_level_of (arena_at a t.arenas) v refl (ap (share_told (shared_of t) k) h.level ∙ is)
 
     -- ---- the arena that the entry is about
 
@@ -587,7 +608,9 @@ module _ (most : ℕ) (before : List State) (s t : State) (some : 0 < most) (on 
       where
         -- the arena lived
         living : (x : Arena) → arena_at a s.arenas ≡ Some x → Retold t a x.level place (row a) k
-            → cond (is_covered (shared_of t) k x.level) (needing_row place k (row a), k) (settled_row place t cmd reply (shared_of t) k (row a)) ≡ due a
+            → cond (is_covered (shared_of t) k x.level) (needing_row place k (row a), k)
+            (closed_row place t cmd reply k (row a) (needing_row place k (row a)) (option_map (share_of t (shared_of t) k a) (level_at a s)))
+            ≡ due a
         living x is r =
             let level : level_at a t ≡ level_at a s =
             ap (λ o. option_map (λ (b : Arena). b.level) o) r.found ∙ ap (λ l. Some l) r.stands ∙ sym (ap (λ o. option_map (λ (b : Arena). b.level) o) is) in
@@ -605,15 +628,19 @@ module _ (most : ℕ) (before : List State) (s t : State) (some : 0 < most) (on 
                   let cover' : is_covered (shared_of t) k r.arena.level ≡ true = ap (is_covered (shared_of t) k) r.stands ∙ cover in
                   let lines = cover-lines whole a r.arena k fine' r.found r.request (ap (active t) number ∙ r.active_is) r.known cover' in
                   rw cover (needing k r.arena tells r.found r.known lines)
-              | inr other ↦ rw other (settled k tells)
+              | inr other ↦ rw other (closed k (needing_row place k (row a)) tells r.known (λ y found lines. needing k y tells found r.known lines))
             ]
 
         at_arena : (o : Option Arena) → arena_at a s.arenas ≡ o → own_row place t cmd reply (shared_of t) (row a) (Some k) ≡ due a
         at_arena None none =
             let nowhere : level_at a s ≡ None = ap (λ o. option_map (λ (b : Arena). b.level) o) none in
-            (λ i. cond (is_covered_at (shared_of t) k (nowhere i)) (needing_row place k (row a), k) (told_row place t cmd reply k (row a) (share_told (shared_of t) k (nowhere i)))) ∙ seen
+            (λ i. cond (is_covered_at (shared_of t) k (nowhere i)) (needing_row place k (row a), k)
+            (closed_row place t cmd reply k (row a) (needing_row place k (row a)) (option_map (share_of t (shared_of t) k a) (nowhere i))))
+            ∙ seen
         at_arena (Some x) is =
-            ap (λ o. cond (is_covered_at (shared_of t) k o) (needing_row place k (row a), k) (settled_row place t cmd reply (shared_of t) k (row a))) (ap (λ o. option_map (λ (b : Arena). b.level) o) is)
+            ap (λ o. cond (is_covered_at (shared_of t) k o) (needing_row place k (row a), k)
+            (closed_row place t cmd reply k (row a) (needing_row place k (row a)) (option_map (share_of t (shared_of t) k a) (level_at a s))))
+            (ap (λ o. option_map (λ (b : Arena). b.level) o) is)
             ∙ living x is (told x k is refl)
 
     -- what was known of it
@@ -640,9 +667,14 @@ module _ (most : ℕ) (before : List State) (s t : State) (some : 0 < most) (on 
     abbrev kept : List Bool
     kept = kept_levels cmd (shared_of s) (shared_of t) t.levels
 
+    was-own : (o : Option Arena) → arena_at a s.arenas ≡ o → was ≡ known_in place was.request was.active (row a)
+    was-own None is = refl
+    was-own (Some x) is = refl
+
     other : is_just a (subject cmd reply) ≡ false
         → cond (stands_kept kept (level_at a s)) (row a, was)
-        (cond (is_covered_at (shared_of t) was (level_at a s)) (row a, was) (settled_row place t cmd reply (shared_of t) was (row a)))
+        (cond (is_covered_at (shared_of t) was (level_at a s)) (row a, was)
+        (closed_row place t cmd reply was (row a) (row a) (option_map (share_of t (shared_of t) was a) (level_at a s))))
         ≡ due a
     other apart =
         let stands : Stands s t a = apart-stands s t seat a cmd reply answered apart in
@@ -665,7 +697,7 @@ module _ (most : ℕ) (before : List State) (s t : State) (some : 0 < most) (on 
               rw not
               (elim (cases_Bool (is_covered_at (shared_of t) was (level_at a s))) [
                 | inl cover ↦ rw cover (same (spanned-lines stands cover))
-                | inr more ↦ rw more (settled was tells)
+                | inr more ↦ rw more (closed was (row a) tells (was-own (arena_at a s.arenas) refl) (λ y found lines. same lines))
               ])
         ]
 

@@ -30,8 +30,7 @@ covered _ _ _ active = none_covered
 -- all are covered that an arena may be allotted which asks for so many workers of a level that is given so many of what it asks for
 abbrev pub covers : Covered → ℕ → ℕ → ℕ → Bool
 covers c request given asked =
-    if (request == 0) || (given == 0) then (c.from == 0) && nat_lt 0 c.below
-    else if given == asked then nat_le c.from request && nat_lt request c.below
+    if asked == 0 then (c.from == 0) && nat_lt 0 c.below
     else nat_le (c.from * asked) (request * given) && nat_le (request * given + asked) (c.below * asked)
 
 -- what such an arena is allotted, where these numbers alone tell it

@@ -1,5 +1,5 @@
 -- What the code does to the lines of a chart, moment by moment. What it comes to is in Numbers.
-use Rattle.std.specs.Prelude.{ℕ, ◌+◌, ◌*◌, ◌/◌, ◌%◌, ◌==◌, ◌&&◌, ◌||◌, ◌-◌, Bool, true, false, nat_le, nat_lt, if◌then◌else◌, List, [], ◌∷◌, get_or, map, replicate, slice_index, Option, Some, None}
+use Rattle.std.specs.Prelude.{ℕ, ◌+◌, ◌*◌, ◌/◌, ◌%◌, ◌==◌, ◌&&◌, ◌||◌, ◌-◌, Bool, true, false, nat_le, nat_lt, if◌then◌else◌, List, [], ◌∷◌, get_or, map, replicate, slice_index, unwrap_or, Option, Some, None}
 use Rattle.std.specs.Option.{option_map}
 use Rattle.market_types.specs.declared.command.Cmd.{Cmd}
 use Rattle.market_types.specs.declared.command.Cmd.TheVariants.{Open, Close, Priority, Resize, Request, Join, Stay, Leave}
@@ -7,7 +7,7 @@ use Rattle.market_types.specs.declared.reply.ArenaView.{ArenaView}
 use Rattle.market_types.specs.declared.reply.Reply.{Reply}
 use Rattle.market_types.specs.declared.reply.Reply.TheVariants.{Opened, Closed, Moved, Resized, Requested, Placed, Recalled, Left, Idle, Stays, Shown, Listed, Limits, Refused}
 use Rattle.market_types.specs.State.{State}
-use Rattle.market_types.specs.Allotment.{effective_limit_of, is_just, limit_of}
+use Rattle.market_types.specs.Allotment.{allotment_of, effective_limit_of, is_just, limit_of}
 use Rattle.journal_chart.specs.declared.span.Span.{Span}
 use Rattle.journal_chart.specs.declared.row.Row.{Row}
 use Rattle.journal_chart.specs.declared.row.Known.{Known}
@@ -202,13 +202,12 @@ is_covered now k level =
     if is_divided now level then covers k.covered k.request (slice_index now.given (level - 1)) (slice_index now.asked (level - 1))
     else has_few now k.covered
 
--- what an arena is allotted, where it is told by what its level is given, or by that none is given any
-abbrev pub share_told : Shared → Known → Option ℕ → Option ℕ
-share_told now k None = None
-share_told now k (Some level) =
-    if is_divided now level then exactly k.request (slice_index now.given (level - 1)) (slice_index now.asked (level - 1))
-    else if is_idle now then Some 0
-    else None
+-- what an arena of a level is allotted, which what the level is given may tell, or that none is given any; else the market tells it
+abbrev pub share_of : State → Shared → Known → ℕ → ℕ → ℕ
+share_of s now k a level =
+    if is_divided now level then unwrap_or (exactly k.request (slice_index now.given (level - 1)) (slice_index now.asked (level - 1))) (allotment_of s a)
+    else if is_idle now then 0
+    else allotment_of s a
 
 -- in a column what an arena asks for and has
 abbrev pub needing_row : ℕ → Known → Row → Row
@@ -230,13 +229,22 @@ shared_row place k allot r =
 abbrev pub seen_row : ℕ → State → Cmd → Reply → Row → Row × Known
 seen_row place s cmd reply r = (taken_row place s cmd reply r, known_of place (view_at r.arena s) (taken_row place s cmd reply r))
 
--- the same, where what the arena asks for and has is known, and may tell what it is allotted
+-- the same, where what the arena asks for and has is known, and what it is allotted
 abbrev pub told_row : ℕ → State → Cmd → Reply → Known → Row → Option ℕ → Row × Known
 told_row place s cmd reply k r None = seen_row place s cmd reply r
 told_row place s cmd reply k r (Some allot) = (shared_row place k allot r, known_in place k.request k.active (shared_row place k allot r))
 
 abbrev pub settled_row : ℕ → State → Cmd → Reply → Shared → Known → Row → Row × Known
-settled_row place s cmd reply now k r = told_row place s cmd reply k r (share_told now k r.stands)
+settled_row place s cmd reply now k r = told_row place s cmd reply k r (option_map (share_of s now k r.arena) r.stands)
+
+-- nothing is added to the column of an arena of which this is known, if it is allotted so many workers
+abbrev pub has_share : Known → ℕ → Bool
+has_share k allot = nat_le k.covered.from allot && nat_lt allot k.covered.below
+
+-- the same in the column of the last moment: the row becomes another where the column has what the arena is allotted
+abbrev pub closed_row : ℕ → State → Cmd → Reply → Known → Row → Row → Option ℕ → Row × Known
+closed_row place s cmd reply k r other None = seen_row place s cmd reply r
+closed_row place s cmd reply k r other (Some allot) = if has_share k allot then (other, k) else told_row place s cmd reply k r (Some allot)
 
 -- a column has all that an arena may be allotted, if it stands at a level
 abbrev pub is_covered_at : Shared → Known → Option ℕ → Bool
@@ -246,7 +254,9 @@ is_covered_at now k (Some level) = is_covered now k level
 -- the row of the arena that an entry is about, by what is then known of it
 abbrev pub own_row : ℕ → State → Cmd → Reply → Shared → Row → Option Known → Row × Known
 own_row place s cmd reply now r None = seen_row place s cmd reply r
-own_row place s cmd reply now r (Some k) = if is_covered_at now k r.stands then (needing_row place k r, k) else settled_row place s cmd reply now k r
+own_row place s cmd reply now r (Some k) =
+    if is_covered_at now k r.stands then (needing_row place k r, k)
+    else closed_row place s cmd reply k r (needing_row place k r) (option_map (share_of s now k r.arena) r.stands)
 
 -- a row that has the moment before in the same column
 abbrev pub near_row : ℕ → State → Cmd → Reply → Shared → List Bool → Row → Known → Row × Known
@@ -254,7 +264,7 @@ near_row place s cmd reply now kept r k =
     if is_just r.arena (subject cmd reply) then own_row place s cmd reply now r (retold cmd reply k)
     else if stands_kept kept r.stands then (r, k)
     else if is_covered_at now k r.stands then (r, k)
-    else settled_row place s cmd reply now k r
+    else closed_row place s cmd reply k r r (option_map (share_of s now k r.arena) r.stands)
 
 -- such a row after a command of a seat
 abbrev pub seat_row : ℕ → State → Cmd → Reply → Bool → Shared → Row → Known → Row × Known

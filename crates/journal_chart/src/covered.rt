@@ -64,11 +64,9 @@ impl Covered {
         requires small { asked ≤ 1024 * 65535 }
         ensures { result ≡ covers self request given asked }
     {
-        if request == 0 || given == 0 {
+        // A level that asks for nobody has arenas that ask for nobody.
+        if asked == 0 {
             return self.from == 0 && self.below > 0;
-        }
-        if given == asked {
-            return self.from <= request && request < self.below;
         }
         let product = u64::from(request) * given;
         u64::from(self.from) * asked <= product && product + asked <= u64::from(self.below) * asked

@@ -1,9 +1,9 @@
-//! The rows of a chart at a moment that goes into the column of the last.
-ghost use Rattle.std.specs.Prelude.{◌≡◌, length, map};
+//! The rows of a chart at a moment that goes into the column of the last, and at one that begins a column after another.
+ghost use Rattle.std.specs.Prelude.{◌≡◌, length, map, option_map};
 ghost use Rattle.market_types.specs.Allotment.{is_just};
 ghost use Rattle.market_types.specs.Step.{limits_of};
 ghost use Rattle.journal_chart.specs.Shares.{shared_of};
-ghost use Rattle.journal_chart.specs.Steps.{after_seat, each_row, first_row, first_rows, has_few, is_covered, is_covered_at, is_divided, is_idle, is_kept, keeps_order, kept_levels, known_rows, moves_seat, near_row, own_row, pairwise, requested, retold, seat_row, seat_rows, seated, settled_row, share_told, stands_kept, subject, taken_row, told};
+ghost use Rattle.journal_chart.specs.Steps.{after_seat, closed_row, each_row, first_row, first_rows, has_few, has_share, is_covered, is_covered_at, is_divided, is_idle, is_kept, keeps_order, kept_levels, known_rows, moves_seat, near_row, needing_row, own_row, pairwise, requested, retold, seat_row, seat_rows, seated, settled_row, share_of, stands_kept, subject, taken_row, told};
 
 use crate::covered::{Covered, exactly};
 use crate::row::{Known, Row};
@@ -67,6 +67,14 @@ fn is_divided(now: &Shares, level: Level) -> bool
     // That there are 8 levels at most is what this call promises.
     let _ = level.index();
     now.limit() > 0
+}
+
+/// Nothing is added to the column of an arena of which this is known, if it is allotted so many workers.
+#[inline]
+fn has_share(known: &Known, share: u32) -> bool
+    ensures { result ≡ has_share known.now share }
+{
+    known.covered.from <= share && share < known.covered.below
 }
 
 /// No worker may be active, not even one for enqueued work.
@@ -155,23 +163,26 @@ fn stands_kept(kept: &[bool; 8], stands: Option<Level>) -> bool
     }
 }
 
-/// What an arena is allotted, where that is told by what its level is given, or by that none is given any.
-fn share_told(now: &Shares, known: &Known, stands: Option<Level>) -> Option<u32>
-    ensures { result ≡ share_told now.now known.now stands }
+/// What an arena of a level is allotted, of which this is known. The market is asked where it is told neither by what the level is given, nor
+/// by that none is given any.
+fn share_of(market: &Market, now: &Shares, known: &Known, arena: ArenaId, level: Level) -> u32
+    ensures { result ≡ share_of market.now now.now known.now arena level }
 {
-    match stands {
-        Some(level) if is_divided(now, level) => exactly(
-            known.request,
-            now.given(level),
-            now.asked(level),
-        ),
-        Some(_) if is_idle(now) => Some(0),
-        _ => None,
+    if is_divided(now, level) {
+        let told = exactly(known.request, now.given(level), now.asked(level));
+        return match told {
+            Some(share) => share,
+            None => market.allotment(arena),
+        };
     }
+    if is_idle(now) {
+        return 0;
+    }
+    market.allotment(arena)
 }
 
 /// Takes the moment after a command and its reply into the column of a row at a place, where this is known of its arena, and what is then
-/// known. The market is asked only for what is not told by that.
+/// known.
 #[inline(never)]
 fn settle(
     row: &mut Row,
@@ -184,10 +195,61 @@ fn settle(
 )
     ensures { (row.new, known.new) ≡ settled_row place market.now cmd.now reply.now now.now known.old row.old }
 {
-    match share_told(now, known, row.stands) {
-        Some(allot) => {
-            row.add_share(place, known, allot);
-            *known = row.known(place, known.request, known.active);
+    match row.stands {
+        Some(level) => {
+            let share = share_of(market, now, known, row.arena, level);
+            *known = row.tell(place, known, share);
+        }
+        None => *known = row.look(place, market, cmd, reply),
+    }
+}
+
+/// The same in the column of the last moment, where the entry is not about the arena. A row whose column has what the arena is allotted is
+/// left as it is.
+#[inline(never)]
+fn settle_other(
+    row: &mut Row,
+    known: &mut Known,
+    place: usize,
+    market: &Market,
+    cmd: &Cmd,
+    reply: &Reply,
+    now: &Shares,
+)
+    ensures { (row.new, known.new) ≡ closed_row place market.now cmd.now reply.now known.old row.old row.old (option_map (share_of market.now now.now known.old row.old.arena) row.old.stands) }
+{
+    match row.stands {
+        Some(level) => {
+            let share = share_of(market, now, known, row.arena, level);
+            if !has_share(known, share) {
+                *known = row.tell(place, known, share);
+            }
+        }
+        None => *known = row.look(place, market, cmd, reply),
+    }
+}
+
+/// The same where the entry is about the arena: what it asks for and has is put into the column.
+#[inline(never)]
+fn settle_own(
+    row: &mut Row,
+    known: &mut Known,
+    place: usize,
+    market: &Market,
+    cmd: &Cmd,
+    reply: &Reply,
+    now: &Shares,
+)
+    ensures { (row.new, known.new) ≡ closed_row place market.now cmd.now reply.now known.old row.old (needing_row place known.old row.old) (option_map (share_of market.now now.now known.old row.old.arena) row.old.stands) }
+{
+    match row.stands {
+        Some(level) => {
+            let share = share_of(market, now, known, row.arena, level);
+            if has_share(known, share) {
+                row.add_needs(place, known);
+            } else {
+                *known = row.tell(place, known, share);
+            }
         }
         None => *known = row.look(place, market, cmd, reply),
     }
@@ -261,12 +323,13 @@ fn own_row(
         row.add_needs(place, known);
         return;
     }
-    settle(row, known, place, market, cmd, reply, now);
+    settle_own(row, known, place, market, cmd, reply, now);
 }
 
 /// Takes the moment after a command and its reply, which are about one arena, into the column of a row at a place, which has the moment
 /// before, and what is then known of its arena. A row to which the moment adds nothing is left as it is.
-#[inline]
+// Always in its caller: a call for each row would have more words to hand over than most rows take.
+#[inline(always)]
 fn near_row(
     row: &mut Row,
     known: &mut Known,
@@ -292,7 +355,7 @@ fn near_row(
     if is_covered_at(now, known, row.stands) {
         return;
     }
-    settle(row, known, place, market, cmd, reply, now);
+    settle_other(row, known, place, market, cmd, reply, now);
 }
 
 /// Takes the moment into the columns of all rows, and what is then known of their arenas, where the entry is about this arena, the levels

@@ -132,6 +132,15 @@ impl Row {
         self.hire.add(place, allot.saturating_sub(known.active));
     }
 
+    /// Puts into the column at a place what the arena asks for and has, and what it is allotted: what is then known of it.
+    pub(crate) fn tell(&mut self, place: usize, known: &Known, allot: u32) -> Known
+        ensures row { self.new ≡ shared_row place known.now allot self.old }
+        ensures known { result ≡ known_in place known.now.request known.now.active (shared_row place known.now allot self.old) }
+    {
+        self.add_share(place, known, allot);
+        self.known(place, known.request, known.active)
+    }
+
     /// Puts into the column at a place what the arena asks for and has.
     pub(crate) fn add_needs(&mut self, place: usize, known: &Known)
         ensures { self.new ≡ needing_row place known.now self.old }

@@ -209,6 +209,15 @@ impl Market {
         }
     }
 
+    /// How many workers an arena is allotted; none where no living arena has this number. It is what `view` tells of it, in less time, and
+    /// takes no memory.
+    pub fn allotment(&self, arena: ArenaId) -> u32
+        ensures { result ≡ allotment_of self.now arena }
+    {
+        let mut visits = 0;
+        self.allotment_by_number(arena, &mut visits)
+    }
+
     /// How many workers an arena is allotted; none where no living arena has this number.
     pub(super) fn allotment_by_number(&self, arena: ArenaId, visits: &mut u32) -> u32
         requires uncounted { visits.old ≡ 0 }
