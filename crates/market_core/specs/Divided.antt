@@ -1,7 +1,7 @@
--- How the workers of a market are divided at a moment. Private functions alone cite these words.
-use Rattle.std.specs.Prelude.{◌≡◌, ℕ, ◌-◌, ◌*◌, ◌<◌, ◌≤◌, List, slice_index}
+-- How the workers of a market are divided at a moment.
+use Rattle.std.specs.Prelude.{◌≡◌, ℕ, ◌-◌, ◌*◌, ◌<◌, ◌≤◌, List, length, slice_index}
 use Rattle.market_types.specs.State.{State}
-use Rattle.market_types.specs.Allotment.{limit_of, bound_of, assigned, at_level}
+use Rattle.market_types.specs.Allotment.{limit_of, effective_limit_of, bound_of, assigned, assigned_to, at_level}
 use Rattle.allotment.specs.Levels.{AreDemandsOf, IsLeveled, pick_of}
 use Rattle.arena_store.specs.Arenas.{StandOnce}
 use Rattle.recall_hire.specs.declared.rows.Staffing.{Staffing}
@@ -14,20 +14,23 @@ pub record IsDivisionOf (s : State) (d : Division) : Type 0 where
   pub once : StandOnce s.arenas
   pub leveled : IsLeveled s
   pub limit : d.limit ≡ limit_of s
+  pub effective : d.effective ≡ effective_limit_of s
   pub bound : d.bound ≡ bound_of s
   pub demands : AreDemandsOf s d.demands.values
+  pub size : length d.demands.values ≡ 8
   pub small : (index : ℕ) → slice_index d.demands.values index ≤ 1024 * 65535
+  pub given : d.assigned.values ≡ assigned_to d.demands.values d.bound
   pub assigned : (level : ℕ) → 1 ≤ level → level ≤ s.levels → slice_index d.assigned.values (level - 1) ≡ assigned s level
   pub within : (index : ℕ) → slice_index d.assigned.values index ≤ slice_index d.demands.values index
   pub picked : limit_of s ≡ 0 → d.picked ≡ pick_of s
 
--- the level is one of the market's, some worker may be active, and this is how they are divided
+-- private: the level is one of the market's, some worker may be active, and this is how they are divided
 pub record IsSharedAt (level : ℕ) (s : State) (d : Division) : Type 0 where
   pub divided : IsDivisionOf s d
   pub some : 0 < limit_of s
   pub low : 1 ≤ level
   pub high : level ≤ s.levels
 
--- the rows of a level's arenas
+-- private: the rows of a level's arenas
 abbrev pub rows_at : State → ℕ → List Staffing
 rows_at s level = rows_among s (at_level level s.arenas)

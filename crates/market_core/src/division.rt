@@ -7,11 +7,13 @@ use crate::by_level::ByLevel;
 use market_types::{ArenaId, Level};
 use recall_hire::Sharing;
 
-/// What the allotment of each arena follows from.
+/// How the workers of a market are divided at a moment: what the allotment of each arena follows from.
 #[derive(Clone, Copy)]
 pub struct Division {
     /// How many workers may be active.
     pub limit: u32,
+    /// The same, one for enqueued work included.
+    pub effective: u32,
     /// How many may be allotted in all; where some may be active, so many are.
     pub bound: u32,
     /// What each level asks for.
@@ -24,7 +26,7 @@ pub struct Division {
 
 impl Division {
     /// How the workers of a level are shared out among its arenas.
-    pub fn sharing(&self, level: Level) -> Sharing
+    pub(crate) fn sharing(&self, level: Level) -> Sharing
         ensures picked { self.now.limit ≡ 0 → result ≡ Picked self.now.picked self.now.bound }
         ensures carried { 0 < self.now.limit
             → result ≡ Carried (slice_index self.now.assigned.values (level - 1)) (slice_index self.now.demands.values (level - 1)) }
@@ -43,7 +45,7 @@ impl Division {
 
     /// How many workers an arena is allotted where no worker may be active: all that there are, if its enqueued work is
     /// served.
-    pub fn mandatory_workers(&self, arena: ArenaId) -> u32
+    pub(crate) fn mandatory_workers(&self, arena: ArenaId) -> u32
         ensures { result ≡ (if is_just arena self.now.picked then self.now.bound else 0) }
     {
         match self.picked {

@@ -11,6 +11,8 @@ mod law;
 mod market;
 mod opening;
 
+pub use by_level::ByLevel;
 pub use calls::apply_all;
+pub use division::Division;
 pub use law::{a_call_moves_its_own_seat, placed_worker_is_allotted};
 pub use market::Market;

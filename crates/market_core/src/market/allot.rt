@@ -24,6 +24,7 @@ impl Market {
         ensures exact { AreDemandsOf self.now result }
         ensures small { (index : ℕ) → slice_index result index ≤ 1024 * 65535 }
         ensures leveled { IsLeveled self.now }
+        ensures size { length result ≡ 8 }
     {
         self.arenas.demands()
     }
@@ -85,6 +86,7 @@ impl Market {
         };
         Division {
             limit: limits.limit,
+            effective: limits.effective,
             bound,
             demands: ByLevel { values: demands },
             assigned: ByLevel {
@@ -207,6 +209,27 @@ impl Market {
             Some(stored) if stored.level() == level => u64::from(division.bound),
             _ => 0,
         }
+    }
+
+    /// How the workers are divided now, so that the allotments of many arenas can be asked with `allotment_by`. It takes no memory.
+    pub fn division(&self) -> Division
+        ensures { IsDivisionOf self.now result }
+    {
+        let mut visits = 0;
+        self.divide(&mut visits)
+    }
+
+    /// How many workers an arena is allotted, by how the workers are divided now; none where no living arena has this number. It is what
+    /// `allotment` tells, which divides the workers for each arena anew, and takes no memory.
+    pub fn allotment_by(&self, arena: ArenaId, division: &Division) -> u32
+        requires { IsDivisionOf self.now division.now }
+        ensures { result ≡ allotment_of self.now arena }
+    {
+        let Some(stored) = self.arenas.get(arena) else {
+            return 0;
+        };
+        let mut visits = 0;
+        self.allotment_of(stored, division, &mut visits)
     }
 
     /// How many workers an arena is allotted; none where no living arena has this number. It is what `view` tells of it, in less time, and
