@@ -3,11 +3,15 @@ pub mod Thinned
 pub mod Standing
 pub mod Mapped
 pub mod Pairs
+pub mod Passing
+pub mod Vectors
+pub mod Margin
 pub mod Charts
 pub mod Bounds
 pub mod Kept
 pub mod Given
 pub mod Sharing
+pub mod Assigning
 pub mod Told
 pub mod Still
 pub mod Near

@@ -12,7 +12,7 @@ use Rattle.journal_chart.proofs.Bounds.{IsShare, Whole, allotment-share, both}
 use Rattle.journal_chart.proofs.Given.{given-is}
 use Rattle.journal_chart.proofs.Kept.{Fine, found-number, found-within}
 
-all-asked : (s : State) (place : ℕ) → place < 8 → slice_index (all_asked s) place ≡ asked_at s place
+pub all-asked : (s : State) (place : ℕ) → place < 8 → slice_index (all_asked s) place ≡ asked_at s place
 all-asked s zero inside = refl
 all-asked s (suc zero) inside = refl
 all-asked s (suc (suc zero)) inside = refl
@@ -23,7 +23,7 @@ all-asked s (suc (suc (suc (suc (suc (suc zero)))))) inside = refl
 all-asked s (suc (suc (suc (suc (suc (suc (suc zero))))))) inside = refl
 all-asked s (suc (suc (suc (suc (suc (suc (suc (suc n)))))))) inside = absurd (omega (arith, inside))
 
-asked-demand : (s : State) (place : ℕ) → place < s.levels → asked_at s place ≡ demand s (1 + place)
+pub asked-demand : (s : State) (place : ℕ) → place < s.levels → asked_at s place ≡ demand s (1 + place)
 asked-demand s place inside =
     let within : ltb place s.levels ≡ true = grind (arith, nat_tests) in
     let next : place + 1 ≡ 1 + place = omega arith in

@@ -7,3 +7,4 @@ pub mod Picture
 pub mod Highest
 pub mod Shares
 pub mod Steps
+pub mod Watching

@@ -8,8 +8,8 @@ ghost use Rattle.journal_chart.specs.Shares.{shared_of};
 ghost use Rattle.journal_chart.specs.Steps.{begun_chart, first_chart, goes_on, halved_lines, is_still, near_chart, next_chart, now_shared, passed_chart, taken_chart};
 
 use crate::lines::Lines;
-use crate::row::Known;
 use crate::shares::Shares;
+use crate::watch::Watch;
 use market_core::Market;
 use market_types::{ArenaId, Cmd, Reply};
 use std::alloc::{AllocError, Global};
@@ -110,7 +110,7 @@ impl Chart {
     #[inline(never)]
     fn look(
         &mut self,
-        known: &mut [Known],
+        known: &mut Watch,
         shares: &mut Shares,
         market: &Market,
         cmd: &Cmd,
@@ -134,7 +134,7 @@ impl Chart {
     #[inline(never)]
     fn begin(
         &mut self,
-        known: &mut [Known],
+        known: &mut Watch,
         shares: &mut Shares,
         market: &Market,
         cmd: &Cmd,
@@ -158,7 +158,7 @@ impl Chart {
     #[inline(never)]
     fn near(
         &mut self,
-        known: &mut [Known],
+        known: &mut Watch,
         shares: &mut Shares,
         market: &Market,
         cmd: &Cmd,
@@ -182,7 +182,7 @@ impl Chart {
     #[inline]
     pub(crate) fn take_next(
         &mut self,
-        known: &mut [Known],
+        known: &mut Watch,
         shares: &mut Shares,
         market: &Market,
         cmd: &Cmd,

@@ -18,6 +18,7 @@ mod row;
 mod shares;
 mod sheet;
 mod span;
+mod watch;
 
 pub use chart::Chart;
 pub use journal::chart_source;

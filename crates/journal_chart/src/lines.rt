@@ -7,8 +7,9 @@ ghost use Rattle.journal_chart.specs.Steps.{begun_lines, empty_lines, empty_row,
 
 use crate::line::Line;
 use crate::nearby::{first_rows, look_rows, moves_seat, near_rows, seat_rows};
-use crate::row::{Known, Row, halve_rows, pass_rows, take_rows};
+use crate::row::{Row, halve_rows, pass_rows, take_rows};
 use crate::shares::Shares;
+use crate::watch::Watch;
 use market_core::Market;
 use market_types::{ArenaId, Cmd, LimitView, Reply};
 use std::alloc::{AllocError, Global};
@@ -107,7 +108,7 @@ impl Lines {
     /// Takes the moment, as `take` does, what is then known of the arenas, and what the levels are given.
     pub(crate) fn look(
         &mut self,
-        known: &mut [Known],
+        known: &mut Watch,
         shares: &mut Shares,
         place: usize,
         market: &Market,
@@ -129,7 +130,7 @@ impl Lines {
     /// then known of them, and what the levels are given.
     pub(crate) fn begin(
         &mut self,
-        known: &mut [Known],
+        known: &mut Watch,
         shares: &mut Shares,
         place: usize,
         market: &Market,
@@ -150,7 +151,7 @@ impl Lines {
     /// Takes the moment after one that was taken into the same column, what is then known of the arenas, and what the levels are given.
     pub(crate) fn near(
         &mut self,
-        known: &mut [Known],
+        known: &mut Watch,
         shares: &mut Shares,
         place: usize,
         market: &Market,

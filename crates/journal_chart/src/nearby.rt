@@ -1,14 +1,17 @@
 //! The rows of a chart at a moment that goes into the column of the last, and at one that begins a column after another.
-ghost use Rattle.std.specs.Prelude.{◌≡◌, length, map, option_map};
-ghost use Rattle.market_types.specs.Allotment.{is_just};
+ghost use Rattle.std.specs.Prelude.{◌≡◌, ℕ, ◌<◌, ◌≤◌, IfSome, Some, false, get_or, length, map, option_map, true};
+ghost use Rattle.std.specs.Int.{bit_at};
+ghost use Rattle.market_types.specs.Allotment.{allotment_of, is_just};
 ghost use Rattle.market_types.specs.Step.{limits_of};
+ghost use Rattle.market_core.specs.Divided.{IsDivisionOf};
 ghost use Rattle.journal_chart.specs.Shares.{shared_of};
-ghost use Rattle.journal_chart.specs.Steps.{after_seat, closed_row, each_row, first_row, first_rows, has_few, has_share, is_covered, is_covered_at, is_divided, is_idle, is_kept, keeps_order, kept_levels, known_rows, moves_seat, near_row, needing_row, own_row, pairwise, requested, retold, seat_row, seat_rows, seated, settled_row, share_of, stands_kept, subject, taken_row, told};
+ghost use Rattle.journal_chart.specs.Steps.{after_seat, closed_row, each_row, first_row, first_rows, has_few, has_share, is_covered, is_covered_at, is_divided, is_idle, is_kept, is_passed_over, keeps_order, kept_levels, known_rows, moves_seat, near_row, needing_row, nothing_known, own_row, pairwise, requested, retold, seat_row, seat_rows, seated, settled_row, share_of, stands_kept, subject, taken_row, told};
 
 use crate::covered::{Covered, exactly};
 use crate::row::{Known, Row};
 use crate::shares::Shares;
-use market_core::Market;
+use crate::watch::Watch;
+use market_core::{Division, Market};
 use market_types::{ArenaId, Cmd, Level, LimitView, Reply};
 
 /// A command after which at most a seat has moved.
@@ -92,7 +95,7 @@ fn is_kept(cmd: &Cmd, was: &Shares, now: &Shares, levels: u32, level: Level) -> 
     ensures { result ≡ is_kept cmd.now was.now now.now levels level }
 {
     if level.get() > levels {
-        return false;
+        return true;
     }
     if is_idle(was) && is_idle(now) {
         return true;
@@ -102,22 +105,6 @@ fn is_kept(cmd: &Cmd, was: &Shares, now: &Shares, levels: u32, level: Level) -> 
         && is_divided(now, level)
         && was.given(level) == now.given(level)
         && was.asked(level) == now.asked(level)
-}
-
-/// Which levels' arenas are allotted what they were, in a market of so many.
-fn kept_levels(cmd: &Cmd, was: &Shares, now: &Shares, levels: u32) -> [bool; 8]
-    ensures { result ≡ kept_levels cmd.now was.now now.now levels }
-{
-    [
-        is_kept(cmd, was, now, levels, Level::from_index(0)),
-        is_kept(cmd, was, now, levels, Level::from_index(1)),
-        is_kept(cmd, was, now, levels, Level::from_index(2)),
-        is_kept(cmd, was, now, levels, Level::from_index(3)),
-        is_kept(cmd, was, now, levels, Level::from_index(4)),
-        is_kept(cmd, was, now, levels, Level::from_index(5)),
-        is_kept(cmd, was, now, levels, Level::from_index(6)),
-        is_kept(cmd, was, now, levels, Level::from_index(7)),
-    ]
 }
 
 /// A column has all that an arena may be allotted of which this is covered, where the limit is 0.
@@ -154,31 +141,61 @@ fn is_covered_at(now: &Shares, known: &Known, stands: Option<Level>) -> bool
 
 /// An arena that stands at such a level, or at none, is allotted what it was.
 #[inline]
-fn stands_kept(kept: &[bool; 8], stands: Option<Level>) -> bool
-    ensures { result ≡ stands_kept kept.now stands }
+fn stands_kept(cmd: &Cmd, was: &Shares, now: &Shares, levels: u32, stands: Option<Level>) -> bool
+    ensures { result ≡ stands_kept (kept_levels cmd.now was.now now.now levels) stands }
 {
     match stands {
-        Some(level) => kept[level.index()],
+        Some(level) => {
+            // That there are 8 levels at most is what this call promises.
+            let _ = level.get();
+            is_kept(cmd, was, now, levels, level)
+        }
         None => true,
+    }
+}
+
+/// What the market allots an arena. The workers are divided once for all arenas that are asked about at a moment.
+fn allotted(market: &Market, division: &mut Option<Division>, arena: ArenaId) -> u32
+    requires { IfSome division.old (IsDivisionOf market.now) }
+    ensures exact { result ≡ allotment_of market.now arena }
+    ensures divided { IfSome division.new (IsDivisionOf market.now) }
+{
+    match division {
+        Some(division) => market.allotment_by(arena, division),
+        None => {
+            let divided = market.division();
+            let share = market.allotment_by(arena, &divided);
+            *division = Some(divided);
+            share
+        }
     }
 }
 
 /// What an arena of a level is allotted, of which this is known. The market is asked where it is told neither by what the level is given, nor
 /// by that none is given any.
-fn share_of(market: &Market, now: &Shares, known: &Known, arena: ArenaId, level: Level) -> u32
-    ensures { result ≡ share_of market.now now.now known.now arena level }
+fn share_of(
+    market: &Market,
+    division: &mut Option<Division>,
+    now: &Shares,
+    known: &Known,
+    arena: ArenaId,
+    level: Level,
+) -> u32
+    requires divided { IfSome division.old (IsDivisionOf market.now) }
+    ensures exact { result ≡ share_of market.now now.now known.now arena level }
+    ensures divided { IfSome division.new (IsDivisionOf market.now) }
 {
     if is_divided(now, level) {
         let told = exactly(known.request, now.given(level), now.asked(level));
         return match told {
             Some(share) => share,
-            None => market.allotment(arena),
+            None => allotted(market, division, arena),
         };
     }
     if is_idle(now) {
         return 0;
     }
-    market.allotment(arena)
+    allotted(market, division, arena)
 }
 
 /// Takes the moment after a command and its reply into the column of a row at a place, where this is known of its arena, and what is then
@@ -189,44 +206,53 @@ fn settle(
     known: &mut Known,
     place: usize,
     market: &Market,
+    division: &mut Option<Division>,
     cmd: &Cmd,
     reply: &Reply,
     now: &Shares,
 )
-    ensures { (row.new, known.new) ≡ settled_row place market.now cmd.now reply.now now.now known.old row.old }
+    requires divided { IfSome division.old (IsDivisionOf market.now) }
+    ensures exact { (row.new, known.new) ≡ settled_row place market.now cmd.now reply.now now.now known.old row.old }
+    ensures divided { IfSome division.new (IsDivisionOf market.now) }
 {
     match row.stands {
         Some(level) => {
-            let share = share_of(market, now, known, row.arena, level);
+            let share = share_of(market, division, now, known, row.arena, level);
             *known = row.tell(place, known, share);
         }
         None => *known = row.look(place, market, cmd, reply),
     }
 }
 
-/// The same in the column of the last moment, where the entry is not about the arena. A row whose column has what the arena is allotted is
-/// left as it is.
+/// The same in the column of the last moment, where the entry is not about the arena, and whether something else is known of it then. A row
+/// whose column has what the arena is allotted is left as it is.
 #[inline(never)]
 fn settle_other(
     row: &mut Row,
     known: &mut Known,
     place: usize,
     market: &Market,
+    division: &mut Option<Division>,
     cmd: &Cmd,
     reply: &Reply,
     now: &Shares,
-)
-    ensures { (row.new, known.new) ≡ closed_row place market.now cmd.now reply.now known.old row.old row.old (option_map (share_of market.now now.now known.old row.old.arena) row.old.stands) }
+) -> bool
+    requires divided { IfSome division.old (IsDivisionOf market.now) }
+    ensures exact { (row.new, known.new) ≡ closed_row place market.now cmd.now reply.now known.old row.old row.old (option_map (share_of market.now now.now known.old row.old.arena) row.old.stands) }
+    ensures divided { IfSome division.new (IsDivisionOf market.now) }
+    ensures same { result ≡ false → known.new ≡ known.old }
 {
     match row.stands {
         Some(level) => {
-            let share = share_of(market, now, known, row.arena, level);
-            if !has_share(known, share) {
-                *known = row.tell(place, known, share);
+            let share = share_of(market, division, now, known, row.arena, level);
+            if has_share(known, share) {
+                return false;
             }
+            *known = row.tell(place, known, share);
         }
         None => *known = row.look(place, market, cmd, reply),
     }
+    true
 }
 
 /// The same where the entry is about the arena: what it asks for and has is put into the column.
@@ -236,20 +262,23 @@ fn settle_own(
     known: &mut Known,
     place: usize,
     market: &Market,
+    division: &mut Option<Division>,
     cmd: &Cmd,
     reply: &Reply,
     now: &Shares,
 )
-    ensures { (row.new, known.new) ≡ closed_row place market.now cmd.now reply.now known.old row.old (needing_row place known.old row.old) (option_map (share_of market.now now.now known.old row.old.arena) row.old.stands) }
+    requires divided { IfSome division.old (IsDivisionOf market.now) }
+    ensures exact { (row.new, known.new) ≡ closed_row place market.now cmd.now reply.now known.old row.old (needing_row place known.old row.old) (option_map (share_of market.now now.now known.old row.old.arena) row.old.stands) }
+    ensures divided { IfSome division.new (IsDivisionOf market.now) }
 {
     match row.stands {
         Some(level) => {
-            let share = share_of(market, now, known, row.arena, level);
-            if has_share(known, share) {
-                row.add_needs(place, known);
-            } else {
+            let share = share_of(market, division, now, known, row.arena, level);
+            if !has_share(known, share) {
                 *known = row.tell(place, known, share);
+                return;
             }
+            row.add_needs(place, known);
         }
         None => *known = row.look(place, market, cmd, reply),
     }
@@ -262,8 +291,7 @@ fn requested(reply: &Reply, known: &Known) -> Option<Known>
     match reply {
         Reply::Requested(request) | Reply::Resized(request) => Some(Known {
             request: *request,
-            active: known.active,
-            covered: known.covered,
+            ..*known
         }),
         _ => None,
     }
@@ -299,10 +327,11 @@ fn seated(place: usize, more: bool, reply: &Reply, known: &Known, row: &Row) -> 
     }
 }
 
-/// Takes the moment after an entry into the column of the row of the arena that it is about, which has the moment before, where this is
-/// told of it, and what is then known of the arena.
+/// Takes the moment after an entry into the column of the row of the arena that it is about, which has the moment before, and what is then
+/// known of the arena, where this is told of it and its column has all that it may be allotted, or nothing is told. Else only what is told is
+/// put down, and what it is allotted has yet to be settled.
 #[inline(always)]
-fn own_row(
+fn is_unsettled(
     row: &mut Row,
     known: &mut Known,
     place: usize,
@@ -311,23 +340,24 @@ fn own_row(
     reply: &Reply,
     now: &Shares,
     told: Option<Known>,
-)
-    ensures { (row.new, known.new) ≡ own_row place market.now cmd.now reply.now now.now row.old told }
+) -> bool
+    ensures done { result ≡ false → (row.new, known.new) ≡ own_row place market.now cmd.now reply.now now.now row.old told }
+    ensures rest { result ≡ true → closed_row place market.now cmd.now reply.now known.new row.new (needing_row place known.new row.new) (option_map (share_of market.now now.now known.new row.new.arena) row.new.stands) ≡ own_row place market.now cmd.now reply.now now.now row.old told }
 {
     let Some(told) = told else {
         *known = row.look(place, market, cmd, reply);
-        return;
+        return false;
     };
     *known = told;
     if is_covered_at(now, known, row.stands) {
         row.add_needs(place, known);
-        return;
+        return false;
     }
-    settle_own(row, known, place, market, cmd, reply, now);
+    true
 }
 
 /// Takes the moment after a command and its reply, which are about one arena, into the column of a row at a place, which has the moment
-/// before, and what is then known of its arena. A row to which the moment adds nothing is left as it is.
+/// before, what is then known of its arena, and whether that is something else. A row to which the moment adds nothing is left as it is.
 // Always in its caller: a call for each row would have more words to hand over than most rows take.
 #[inline(always)]
 fn near_row(
@@ -335,60 +365,139 @@ fn near_row(
     known: &mut Known,
     place: usize,
     market: &Market,
+    division: &mut Option<Division>,
     cmd: &Cmd,
     reply: &Reply,
+    was: &Shares,
     now: &Shares,
     about: &Option<ArenaId>,
-    kept: &[bool; 8],
-)
+) -> bool
+    requires divided { IfSome division.old (IsDivisionOf market.now) }
     requires about { about.now ≡ subject cmd.now reply.now }
-    ensures { (row.new, known.new) ≡ near_row place market.now cmd.now reply.now now.now kept.now row.old known.old }
+    ensures exact { (row.new, known.new) ≡ near_row place market.now cmd.now reply.now now.now (kept_levels cmd.now was.now now.now market.now.levels) row.old known.old }
+    ensures divided { IfSome division.new (IsDivisionOf market.now) }
+    ensures same { result ≡ false → known.new ≡ known.old }
 {
-    if is_just(row.arena, about) {
+    if is_just(known.arena, about) {
         let told = retold(cmd, reply, known);
-        own_row(row, known, place, market, cmd, reply, now, told);
-        return;
+        if is_unsettled(row, known, place, market, cmd, reply, now, told) {
+            settle_own(row, known, place, market, division, cmd, reply, now);
+        }
+        return true;
     }
-    if stands_kept(kept, row.stands) {
-        return;
+    if stands_kept(cmd, was, now, market.levels(), known.stands) {
+        return false;
     }
-    if is_covered_at(now, known, row.stands) {
-        return;
+    if is_covered_at(now, known, known.stands) {
+        return false;
     }
-    settle_other(row, known, place, market, cmd, reply, now);
+    settle_other(row, known, place, market, division, cmd, reply, now)
 }
 
-/// Takes the moment into the columns of all rows, and what is then known of their arenas, where the entry is about this arena, the levels
-/// are given this now, and the arenas of these are allotted what they were.
+/// A bit for each of the first 16 rows whose arena may be this one.
+#[inline]
+fn named_in(known: &Watch, about: &Option<ArenaId>) -> u64
+    ensures { (place : ℕ) → place < 16 → place < length known.now → bit_at result place ≡ 0 → is_just (get_or known.now place nothing_known).arena about.now ≡ false }
+{
+    match about {
+        Some(arena) => known.named(*arena),
+        None => 0,
+    }
+}
+
+/// A bit for each of the first 16 rows whose arena stands at this level and may not be allotted what it was, nor what its column has.
+#[inline]
+fn unsure_at(known: &Watch, now: &Shares, is_kept: bool, level: Level) -> u64
+    ensures { (place : ℕ) → place < 16 → place < length known.now → bit_at result place ≡ 0 → (get_or known.now place nothing_known).stands ≡ Some level
+        → is_kept ≡ false → is_covered now.now (get_or known.now place nothing_known) level ≡ true }
+{
+    if is_kept {
+        return 0;
+    }
+    if !is_divided(now, level) {
+        return 0xffff;
+    }
+    known.unsure(level, now.given(level), now.asked(level))
+}
+
+/// A bit for each of the first 16 rows that a moment may change, where the entry is about this arena, and the levels of a market of so many
+/// were given this, and are given that: a row without one is left as it is.
+fn unsettled_rows(
+    known: &Watch,
+    cmd: &Cmd,
+    was: &Shares,
+    now: &Shares,
+    levels: u32,
+    about: &Option<ArenaId>,
+) -> u64
+    requires { levels ≤ 8 }
+    ensures { (place : ℕ) → place < 16 → place < length known.now → bit_at result place ≡ 0
+        → is_passed_over now.now about.now (kept_levels cmd.now was.now now.now levels) (get_or known.now place nothing_known) ≡ true }
+{
+    known.stand_at_levels();
+    let mut bits = named_in(known, about);
+    for index in 0..levels {
+        let level = Level::from_index(index as usize);
+        bits |= unsure_at(known, now, is_kept(cmd, was, now, levels, level), level);
+    }
+    bits
+}
+
+/// The first place from one on that is beyond the first 16 or has a bit.
+#[inline]
+fn next_of(bits: u64, from: usize) -> usize
+    ensures later { from ≤ result }
+    ensures clear { (place : ℕ) → from ≤ place → place < result → (place < 16) × (bit_at bits place ≡ 0) }
+{
+    if from >= 16 {
+        return from;
+    }
+    let rest = bits >> from;
+    if rest == 0 {
+        return 16;
+    }
+    (from + rest.trailing_zeros() as usize).min(16)
+}
+
+/// Takes the moment into the columns of all rows, and what is then known of their arenas, where the entry is about this arena, and the
+/// levels were given this, and are given that.
 #[inline(always)]
 fn rows_about(
     rows: &mut [Row],
-    known: &mut [Known],
+    known: &mut Watch,
     place: usize,
     market: &Market,
     cmd: &Cmd,
     reply: &Reply,
+    was: &Shares,
     now: &Shares,
     about: &Option<ArenaId>,
-    kept: &[bool; 8],
 )
     requires each { length known.old ≡ length rows.old }
     requires about { about.now ≡ subject cmd.now reply.now }
-    ensures rows { rows.new ≡ (pairwise (near_row place market.now cmd.now reply.now now.now kept.now) rows.old known.old).0 }
-    ensures known { known.new ≡ (pairwise (near_row place market.now cmd.now reply.now now.now kept.now) rows.old known.old).1 }
+    ensures rows { rows.new ≡ (pairwise (near_row place market.now cmd.now reply.now now.now (kept_levels cmd.now was.now now.now market.now.levels)) rows.old known.old).0 }
+    ensures known { known.new ≡ (pairwise (near_row place market.now cmd.now reply.now now.now (kept_levels cmd.now was.now now.now market.now.levels)) rows.old known.old).1 }
 {
-    for index in 0..rows.len() {
-        near_row(
+    let bits = unsettled_rows(known, cmd, was, now, market.levels(), about);
+    let mut division = None;
+    let mut index = next_of(bits, 0);
+    while index < rows.len() {
+        let mut one = known.at(index);
+        if near_row(
             &mut rows[index],
-            &mut known[index],
+            &mut one,
             place,
             market,
+            &mut division,
             cmd,
             reply,
+            was,
             now,
             about,
-            kept,
-        );
+        ) {
+            known.set(index, one);
+        }
+        index = next_of(bits, index + 1);
     }
 }
 
@@ -396,17 +505,17 @@ fn rows_about(
 // By cases, so that no row has to ask whether the entry is about any arena.
 fn each_row(
     rows: &mut [Row],
-    known: &mut [Known],
+    known: &mut Watch,
     place: usize,
     market: &Market,
     cmd: &Cmd,
     reply: &Reply,
+    was: &Shares,
     now: &Shares,
-    kept: &[bool; 8],
 )
     requires each { length known.old ≡ length rows.old }
-    ensures rows { rows.new ≡ (pairwise (near_row place market.now cmd.now reply.now now.now kept.now) rows.old known.old).0 }
-    ensures known { known.new ≡ (pairwise (near_row place market.now cmd.now reply.now now.now kept.now) rows.old known.old).1 }
+    ensures rows { rows.new ≡ (pairwise (near_row place market.now cmd.now reply.now now.now (kept_levels cmd.now was.now now.now market.now.levels)) rows.old known.old).0 }
+    ensures known { known.new ≡ (pairwise (near_row place market.now cmd.now reply.now now.now (kept_levels cmd.now was.now now.now market.now.levels)) rows.old known.old).1 }
 {
     let about = subject(cmd, reply);
     match about {
@@ -417,11 +526,11 @@ fn each_row(
             market,
             cmd,
             reply,
+            was,
             now,
             &Some(arena),
-            kept,
         ),
-        None => rows_about(rows, known, place, market, cmd, reply, now, &None, kept),
+        None => rows_about(rows, known, place, market, cmd, reply, was, now, &None),
     }
 }
 
@@ -429,7 +538,7 @@ fn each_row(
 /// of their arenas, and what the levels are given.
 pub(crate) fn near_rows(
     rows: &mut [Row],
-    known: &mut [Known],
+    known: &mut Watch,
     shares: &mut Shares,
     place: usize,
     market: &Market,
@@ -444,9 +553,8 @@ pub(crate) fn near_rows(
     ensures shares { shares.new ≡ shared_of market.now }
 {
     let now = Shares::of(market, limits);
-    let kept = kept_levels(cmd, shares, &now, market.levels());
+    each_row(rows, known, place, market, cmd, reply, shares, &now);
     *shares = now;
-    each_row(rows, known, place, market, cmd, reply, shares, &kept);
 }
 
 /// Takes the moment after a command of a seat and its reply, which are about one arena, into the column of a row at a place, which has the
@@ -466,9 +574,11 @@ fn seat_row(
     requires moved { moved.now ≡ subject cmd.now reply.now }
     ensures { (row.new, known.new) ≡ seat_row place market.now cmd.now reply.now more now.now row.old known.old }
 {
-    if is_just(row.arena, moved) {
+    if is_just(known.arena, moved) {
         let told = seated(place, more, reply, known, row);
-        own_row(row, known, place, market, cmd, reply, now, told);
+        if is_unsettled(row, known, place, market, cmd, reply, now, told) {
+            settle_own(row, known, place, market, &mut None, cmd, reply, now);
+        }
     }
 }
 
@@ -476,7 +586,7 @@ fn seat_row(
 /// not.
 fn each_seat_row(
     rows: &mut [Row],
-    known: &mut [Known],
+    known: &mut Watch,
     place: usize,
     market: &Market,
     cmd: &Cmd,
@@ -489,10 +599,13 @@ fn each_seat_row(
     ensures known { known.new ≡ (pairwise (seat_row place market.now cmd.now reply.now more now.now) rows.old known.old).1 }
 {
     let moved = subject(cmd, reply);
-    for index in 0..rows.len() {
+    let bits = named_in(known, &moved);
+    let mut index = next_of(bits, 0);
+    while index < rows.len() {
+        let mut one = known.at(index);
         seat_row(
             &mut rows[index],
-            &mut known[index],
+            &mut one,
             place,
             market,
             cmd,
@@ -501,6 +614,8 @@ fn each_seat_row(
             now,
             &moved,
         );
+        known.set(index, one);
+        index = next_of(bits, index + 1);
     }
 }
 
@@ -508,7 +623,7 @@ fn each_seat_row(
 /// then known of their arenas, and how many seats are placed.
 pub(crate) fn seat_rows(
     rows: &mut [Row],
-    known: &mut [Known],
+    known: &mut Watch,
     shares: &mut Shares,
     place: usize,
     market: &Market,
@@ -532,25 +647,28 @@ fn first_row(
     known: &mut Known,
     place: usize,
     market: &Market,
+    division: &mut Option<Division>,
     cmd: &Cmd,
     reply: &Reply,
     now: &Shares,
     own: &Option<ArenaId>,
 )
+    requires divided { IfSome division.old (IsDivisionOf market.now) }
     requires own { own.now ≡ subject cmd.now reply.now }
-    ensures { (row.new, known.new) ≡ first_row place market.now cmd.now reply.now now.now row.old known.old }
+    ensures exact { (row.new, known.new) ≡ first_row place market.now cmd.now reply.now now.now row.old known.old }
+    ensures divided { IfSome division.new (IsDivisionOf market.now) }
 {
     if is_just(row.arena, own) {
         *known = row.look(place, market, cmd, reply);
         return;
     }
-    settle(row, known, place, market, cmd, reply, now);
+    settle(row, known, place, market, division, cmd, reply, now);
 }
 
 /// Takes the first moment of a column into all rows, where this is known of their arenas at the moment before, and what is then known.
 pub(crate) fn first_rows(
     rows: &mut [Row],
-    known: &mut [Known],
+    known: &mut Watch,
     place: usize,
     market: &Market,
     cmd: &Cmd,
@@ -563,24 +681,28 @@ pub(crate) fn first_rows(
     ensures known { known.new ≡ (first_rows place market.now cmd.now reply.now rows.old known.old).1 }
 {
     let own = subject(cmd, reply);
+    let mut division = None;
     for index in 0..rows.len() {
+        let mut one = known.at(index);
         first_row(
             &mut rows[index],
-            &mut known[index],
+            &mut one,
             place,
             market,
+            &mut division,
             cmd,
             reply,
             now,
             &own,
         );
+        known.set(index, one);
     }
 }
 
 /// Takes the first moment of all into all rows, and what is then known of their arenas.
 pub(crate) fn look_rows(
     rows: &mut [Row],
-    known: &mut [Known],
+    known: &mut Watch,
     place: usize,
     market: &Market,
     cmd: &Cmd,
@@ -591,6 +713,7 @@ pub(crate) fn look_rows(
     ensures known { known.new ≡ known_rows place market.now cmd.now reply.now rows.old }
 {
     for index in 0..rows.len() {
-        known[index] = rows[index].look(place, market, cmd, reply);
+        let one = rows[index].look(place, market, cmd, reply);
+        known.set(index, one);
     }
 }

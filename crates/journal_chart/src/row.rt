@@ -11,6 +11,9 @@ use std::alloc::{AllocError, Global};
 /// What is known of an arena between two moments at which it is looked at.
 #[derive(Clone, Copy)]
 pub(crate) struct Known {
+    pub(crate) arena: ArenaId,
+    /// The level at which it stands, if it lives.
+    pub(crate) stands: Option<Level>,
     /// How many workers it asks for.
     pub(crate) request: u32,
     /// How many seats are placed at it.
@@ -25,6 +28,8 @@ impl Known {
         ensures { result ≡ nothing_known }
     {
         Known {
+            arena: ArenaId::new(0),
+            stands: None,
             request: 0,
             active: 0,
             covered: Covered { from: 0, below: 0 },
@@ -115,6 +120,8 @@ impl Row {
             active,
         );
         Known {
+            arena: self.arena,
+            stands: self.stands,
             request,
             active,
             covered,

@@ -1,10 +1,9 @@
 //! What the levels of a market are given of what they ask for.
-ghost use Rattle.std.specs.Prelude.{◌≡◌, ℕ, ◌-◌, ◌*◌, ◌<◌, ◌≤◌, slice_index};
+ghost use Rattle.std.specs.Prelude.{◌≡◌, ◌-◌, ◌*◌, ◌≤◌, slice_index};
 ghost use Rattle.market_types.specs.Step.{limits_of};
-ghost use Rattle.journal_chart.specs.Shares.{asked_at, no_shares, shared_of};
+ghost use Rattle.journal_chart.specs.Shares.{no_shares, shared_of};
 ghost use Rattle.journal_chart.specs.Steps.{after_seat, is_joined};
 
-use allotment::assign;
 use market_core::Market;
 use market_types::{Level, LimitView};
 use std::marker::Model;
@@ -30,19 +29,6 @@ impl Model for Shares {
     ghost invariant = { λ s. AreFew s.given s.asked };
 }
 
-/// What the level at a place asks for, and 0 above the levels of the market.
-fn asked_at(market: &Market, place: usize) -> u64
-    requires { place < 8 }
-    ensures exact { result ≡ asked_at market.now place }
-    ensures small { result ≤ 1024 * 65535 }
-{
-    if place < market.levels() as usize {
-        market.demand(Level::from_index(place))
-    } else {
-        0
-    }
-}
-
 impl Shares {
     /// Those of no market.
     pub(crate) fn none() -> Shares
@@ -63,21 +49,22 @@ impl Shares {
         requires { limits.now ≡ limits_of market.now }
         ensures { result ≡ shared_of market.now }
     {
-        let asked = [
-            asked_at(market, 0),
-            asked_at(market, 1),
-            asked_at(market, 2),
-            asked_at(market, 3),
-            asked_at(market, 4),
-            asked_at(market, 5),
-            asked_at(market, 6),
-            asked_at(market, 7),
-        ];
+        let mut given = [0; 8];
+        let mut asked = [0; 8];
+        let mut left = u64::from(limits.effective);
+        // No level above those of the market, whose number most often is small, takes any time.
+        for place in 0..market.levels() as usize {
+            let demand = market.demand(Level::from_index(place));
+            let share = demand.min(left);
+            asked[place] = demand;
+            given[place] = share;
+            left -= share;
+        }
         Shares {
             limit: limits.limit,
             effective: limits.effective,
             placed: market.placed(),
-            given: assign(&asked, u64::from(limits.effective)),
+            given,
             asked,
         }
     }

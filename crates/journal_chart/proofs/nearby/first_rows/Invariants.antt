@@ -1,6 +1,11 @@
+use Rattle.std.specs.Prelude.{IfSome}
+use Rattle.market_core.specs.Divided.{IsDivisionOf}
 use Rattle.journal_chart.specs.Steps.{first_row}
 use Rattle.journal_chart.proofs.Pairs.{Paired}
 use Rattle.journal_chart.proofs.nearby.first_rows.Given as goal
 
 abbrev pub invariant-loop-index : goal.invariant-loop-index
-invariant-loop-index l = Paired (first_row l.place l.market l.cmd l.reply l.now) l.initial.rows l.initial.known l.rows l.known l.index
+invariant-loop-index l = record {
+  paired : Paired (first_row l.place l.market l.cmd l.reply l.now) l.initial.rows l.initial.known l.rows l.known l.index;
+  divided : IfSome l.division (IsDivisionOf l.market);
+}

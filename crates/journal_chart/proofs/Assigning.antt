@@ -1,0 +1,131 @@
+-- Levels that are given workers one after another, in arrays with a place for each of eight.
+use Rattle.std.specs.Prelude.{slice_index}
+use Rattle.std.proofs.Common.{◌≡◌, ℕ, zero, suc, ◌+◌, ◌-◌, ◌*◌, ◌<◌, ◌≤◌, false, cond, ltb, min, List, [], ◌∷◌, ◌++◌, length, get_or, set, take, drop, replicate, refl, sym, ap, ◌∙◌, arith, inl, inr, add-one, append_assoc, drop-cons}
+use Rattle.std.proofs.lemmas.Bool.{cases_eq, cases_lt, le-ltb}
+use Rattle.std.proofs.lemmas.List.{get_or-set_same, get_or-set_other}
+use Rattle.std.proofs.Math.ListN.{length-set}
+use Rattle.std.proofs.Math.Seq.{take-suc-set}
+use Rattle.market_types.specs.State.{State}
+use Rattle.market_types.specs.Allotment.{assigned_to, demand}
+use Rattle.journal_chart.specs.Shares.{all_asked, asked_at}
+use Rattle.journal_chart.proofs.Sharing.{all-asked, asked-demand}
+
+-- of levels whose demands stand in one list, those before a place are given in the other what they are due, and the rest nothing yet
+pub record Assigning (s : State) (workers : ℕ) (given asked : List ℕ) (left place : ℕ) : Type 0 where
+  pub size_given : length given ≡ 8
+  pub size_asked : length asked ≡ 8
+  pub done : (j : ℕ) → j < place → slice_index asked j ≡ asked_at s j
+  pub unasked : (j : ℕ) → place ≤ j → slice_index asked j ≡ 0
+  pub ungiven : (j : ℕ) → place ≤ j → slice_index given j ≡ 0
+  pub within : (j : ℕ) → slice_index given j ≤ slice_index asked j
+  pub small : (j : ℕ) → slice_index asked j ≤ 1024 * 65535
+  pub due : take place given ++ assigned_to (drop place (all_asked s)) left ≡ assigned_to (all_asked s) workers
+
+none-at : (n j : ℕ) → slice_index (replicate n 0) j ≡ 0
+none-at zero j = refl
+none-at (suc n) zero = refl
+none-at (suc n) (suc j) = none-at n j
+
+pub assigning-none : (s : State) (workers : ℕ) → Assigning s workers (replicate 8 0) (replicate 8 0) workers 0
+assigning-none s workers =
+    record {
+      size_given = refl;
+      size_asked = refl;
+      done = λ j less. absurd (omega (arith, less));
+      unasked = λ j _. none-at 8 j;
+      ungiven = λ j _. none-at 8 j;
+      within = λ j. omega (arith, none-at 8 j);
+      small = λ j. omega (arith, none-at 8 j);
+      due = refl;
+    }
+
+-- ---- one level more
+
+due-more : (given ds : List ℕ) (i left k : ℕ) → i < length given → i < length ds → k ≡ min (get_or ds i 0) left
+    → take (i + 1) (set given i k) ++ assigned_to (drop (i + 1) ds) (left - k) ≡ take i given ++ assigned_to (drop i ds) left
+due-more given ds i left k p q e = rw (add-one, take-suc-set given i k p, drop-cons ds i 0 q, append_assoc, e) refl
+
+pub assigning-more : (s : State) (workers : ℕ) (given asked : List ℕ) (left place wanted share : ℕ) → Assigning s workers given asked left place → place < 8 → place < s.levels
+    → wanted ≡ demand s (1 + place) → wanted ≤ 1024 * 65535 → share ≡ min wanted left
+    → Assigning s workers (set given place share) (set asked place wanted) (left - share) (place + 1)
+assigning-more s workers given asked left place wanted share h few inside wanted_is small share_is =
+    let given_in : place < length given = omega (arith, few, h.size_given) in
+    let asked_in : place < length asked = omega (arith, few, h.size_asked) in
+    let here : slice_index (set asked place wanted) place ≡ wanted = get_or-set_same asked place wanted 0 asked_in in
+    let given_here : slice_index (set given place share) place ≡ share = get_or-set_same given place share 0 given_in in
+    let at : wanted ≡ asked_at s place = wanted_is ∙ sym (asked-demand s place inside) in
+    record {
+      size_given = length-set given place share ∙ h.size_given;
+      size_asked = length-set asked place wanted ∙ h.size_asked;
+      done = λ j less. elim (cases_eq j place) [
+        | inl same ↦ ap (slice_index (set asked place wanted)) same ∙ here ∙ at ∙ ap (asked_at s) (sym same)
+        | inr other ↦ get_or-set_other asked place j wanted 0 other ∙ h.done j (omega (arith, less, other))
+      ];
+      unasked = λ j past. get_or-set_other asked place j wanted 0 (λ e. omega (arith, e, past)) ∙ h.unasked j (omega (arith, past));
+      ungiven = λ j past. get_or-set_other given place j share 0 (λ e. omega (arith, e, past)) ∙ h.ungiven j (omega (arith, past));
+      within = λ j. elim (cases_eq j place) [
+        | inl same ↦
+            let g : slice_index (set given place share) j ≡ share = ap (slice_index (set given place share)) same ∙ given_here in
+            let a : slice_index (set asked place wanted) j ≡ wanted = ap (slice_index (set asked place wanted)) same ∙ here in
+            omega (arith, g, a, share_is)
+        | inr other ↦ omega (arith, get_or-set_other asked place j wanted 0 other, get_or-set_other given place j share 0 other, h.within j)
+      ];
+      small = λ j. elim (cases_eq j place) [
+        | inl same ↦
+            let a : slice_index (set asked place wanted) j ≡ wanted = ap (slice_index (set asked place wanted)) same ∙ here in
+            omega (arith, a, small)
+        | inr other ↦ omega (arith, get_or-set_other asked place j wanted 0 other, h.small j)
+      ];
+      due = due-more given (all_asked s) place left share given_in few (share_is ∙ ap (λ n. min n left) (at ∙ sym (all-asked s place few))) ∙ h.due;
+    }
+
+-- ---- all levels
+
+listed-same : (xs ys : List ℕ) → length xs ≡ length ys → ((j : ℕ) → j < length ys → slice_index xs j ≡ slice_index ys j) → xs ≡ ys
+listed-same [] [] size same = refl
+listed-same [] (y ∷ ys) size same = absurd (omega (arith, size))
+listed-same (x ∷ xs) [] size same = absurd (omega (arith, size))
+listed-same (x ∷ xs) (y ∷ ys) size same =
+    let first : x ≡ y = same 0 (omega arith) in
+    let rest = listed-same xs ys (omega (arith, size)) (λ j less. same (suc j) (omega (arith, less))) in
+    λ i. first i ∷ rest i
+
+none-given : (gs ds : List ℕ) (left : ℕ) → length gs ≡ length ds → ((j : ℕ) → slice_index gs j ≡ 0) → ((j : ℕ) → slice_index ds j ≡ 0) → gs ≡ assigned_to ds left
+none-given [] [] left size g d = refl
+none-given [] (x ∷ ds) left size g d = absurd (omega (arith, size))
+none-given (x ∷ gs) [] left size g d = absurd (omega (arith, size))
+none-given (x ∷ gs) (y ∷ ds) left size g d =
+    let nobody : x ≡ 0 = g 0 in
+    let none : y ≡ 0 = d 0 in
+    let first : x ≡ min y left = omega (arith, nobody, none) in
+    let rest = none-given gs ds (left - min y left) (omega (arith, size)) (λ j. g (suc j)) (λ j. d (suc j)) in
+    λ i. first i ∷ rest i
+
+-- where no more is asked for none is given
+given-past : (gs ds : List ℕ) (i left : ℕ) → length gs ≡ length ds → ((j : ℕ) → i ≤ j → slice_index gs j ≡ 0) → ((j : ℕ) → i ≤ j → slice_index ds j ≡ 0)
+    → gs ≡ take i gs ++ assigned_to (drop i ds) left
+given-past gs ds zero left size g d = none-given gs ds left size (λ j. g j (omega arith)) (λ j. d j (omega arith))
+given-past [] [] (suc i) left size g d = refl
+given-past [] (x ∷ ds) (suc i) left size g d = absurd (omega (arith, size))
+given-past (x ∷ gs) [] (suc i) left size g d = absurd (omega (arith, size))
+given-past (x ∷ gs) (y ∷ ds) (suc i) left size g d =
+    ap (λ xs. x ∷ xs) (given-past gs ds i left (omega (arith, size)) (λ j past. g (suc j) (omega (arith, past))) (λ j past. d (suc j) (omega (arith, past))))
+
+above-none : (s : State) (place : ℕ) → s.levels ≤ place → asked_at s place ≡ 0
+above-none s place past =
+    let above : ltb place s.levels ≡ false = le-ltb place s.levels past in
+    ap (λ b. cond b (demand s (place + 1)) 0) above
+
+pub asked-all : (s : State) (workers : ℕ) (given asked : List ℕ) (left : ℕ) → Assigning s workers given asked left s.levels → asked ≡ all_asked s
+asked-all s workers given asked left h =
+    listed-same asked (all_asked s) h.size_asked
+    (λ j less. elim (cases_lt j s.levels) [
+      | inl inside ↦ h.done j inside ∙ sym (all-asked s j less)
+      | inr past ↦ h.unasked j past ∙ sym (above-none s j past) ∙ sym (all-asked s j less)
+    ])
+
+pub given-all : (s : State) (workers : ℕ) (given asked : List ℕ) (left : ℕ) → Assigning s workers given asked left s.levels → given ≡ assigned_to (all_asked s) workers
+given-all s workers given asked left h =
+    let same = asked-all s workers given asked left h in
+    given-past given (all_asked s) s.levels left h.size_given h.ungiven (λ j past. ap (λ ds. slice_index ds j) (sym same) ∙ h.unasked j past)
+    ∙ h.due
