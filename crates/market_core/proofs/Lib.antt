@@ -14,3 +14,4 @@ mod Seats
 mod Examples
 pub mod Crossing
 mod Meters
+mod Shares

@@ -12,8 +12,6 @@ use recall_hire::Sharing;
 pub struct Division {
     /// How many workers may be active.
     pub limit: u32,
-    /// The same, one for enqueued work included.
-    pub effective: u32,
     /// How many may be allotted in all; where some may be active, so many are.
     pub bound: u32,
     /// What each level asks for.
@@ -24,7 +22,27 @@ pub struct Division {
     pub picked: Option<ArenaId>,
 }
 
+/// What a level is assigned of what it asks for.
+#[derive(Clone, Copy)]
+pub struct LevelShare {
+    /// What it is assigned.
+    pub assigned: u64,
+    /// What it asks for.
+    pub demand: u64,
+}
+
 impl Division {
+    /// What a level is assigned of what it asks for.
+    pub(crate) fn share_at(&self, level: Level) -> LevelShare
+        ensures assigned { result.assigned ≡ slice_index self.now.assigned.values (level - 1) }
+        ensures demand { result.demand ≡ slice_index self.now.demands.values (level - 1) }
+    {
+        LevelShare {
+            assigned: self.assigned.at(level),
+            demand: self.demands.at(level),
+        }
+    }
+
     /// How the workers of a level are shared out among its arenas.
     pub(crate) fn sharing(&self, level: Level) -> Sharing
         ensures picked { self.now.limit ≡ 0 → result ≡ Picked self.now.picked self.now.bound }

@@ -4,16 +4,16 @@ ghost use Rattle.market_types.specs.Allotment.{allotment_of, active, assigned, a
 ghost use Rattle.market_types.specs.Step.{arena_at, view_of};
 ghost use Rattle.allotment.specs.Levels.{AreDemandsOf, ArePicksOf, IsLeveled, pick_of};
 ghost use Rattle.arena_store.specs.Bits.{bits};
-ghost use Rattle.market_core.specs.Divided.{IsDivisionOf};
+ghost use Rattle.market_core.specs.Divided.{IsDivisionOf, IsSharedAt, asked_before, left_after};
 ghost use Rattle.market_core.specs.Visits.{HasSmallLevels, extra_visits, least_extra, least_picked, least_seen, least_share};
-ghost use Rattle.market_types.specs.State.{State};
+ghost use Rattle.market_types.specs.State.{Arena, State};
 ghost use Rattle.market_types.specs.Claims.{request_of};
 ghost use Rattle.market_core.specs.Allotted.{IsWithin, level_allotment};
 
 use super::Market;
 use crate::by_level::ByLevel;
-use crate::division::{Division, sum_of};
-use allotment::{assign, bound_is_given_out, mandatory_pick, no_carry_to_keep, share, top_level};
+use crate::division::{Division, LevelShare, sum_of};
+use allotment::{assign, bound_is_given_out, mandatory_pick, no_carry_to_keep, share};
 use arena_store::StoredArena;
 use market_types::{ArenaId, ArenaView, Level};
 use recall_hire::{hire, recall};
@@ -24,7 +24,6 @@ impl Market {
         ensures exact { AreDemandsOf self.now result }
         ensures small { (index : ℕ) → slice_index result index ≤ 1024 * 65535 }
         ensures leveled { IsLeveled self.now }
-        ensures size { length result ≡ 8 }
     {
         self.arenas.demands()
     }
@@ -86,7 +85,6 @@ impl Market {
         };
         Division {
             limit: limits.limit,
-            effective: limits.effective,
             bound,
             demands: ByLevel { values: demands },
             assigned: ByLevel {
@@ -96,36 +94,115 @@ impl Market {
         }
     }
 
-    /// How many workers a living arena is allotted.
-    pub(super) fn allotment_of(
-        &self,
-        stored: StoredArena,
-        division: &Division,
-        visits: &mut u32,
-    ) -> u32
+    /// Each living arena is at a level of the market. This does nothing: what it ensures holds wherever it is called.
+    #[inline(always)]
+    fn arenas_are_leveled(&self)
+        ensures { (a : Arena) → arena_at a.number self.now.arenas ≡ Some a → (1 ≤ a.level) × (a.level ≤ self.now.levels) }
+    {
+        // The fact is the market's invariant, which a look at a field opens.
+        let _ = &self.arenas;
+    }
+
+    /// What the levels before one ask for together.
+    // All levels are gone through and none branched on: which level an arena is at is guessed wrongly as often as not.
+    #[inline(always)]
+    fn asked_before(&self, level: Level) -> u64
+        requires high { level ≤ self.now.levels }
+        ensures { result ≡ asked_before self.now (level - 1) }
+    {
+        let mut asked = 0;
+        for place in 0..self.opening.levels as usize {
+            let demand = self.demand(Level::from_index(place));
+            asked += if place < level.index() { demand } else { 0 };
+        }
+        asked
+    }
+
+    /// What a level is assigned of what it asks for, where some worker may be active and so many are left for it. No level behind it is
+    /// looked at, as a division looks at all.
+    #[inline(always)]
+    pub(super) fn part_of(&self, level: Level, left: u64) -> LevelShare
+        requires some { 0 < limit_of self.now }
+        requires high { level ≤ self.now.levels }
+        requires left { left ≡ left_after self.now (level - 1) }
+        ensures { IsSharedAt level self.now result }
+    {
+        bound_is_given_out();
+        self.arenas.stand_once();
+        let demand = self.demand(level);
+        LevelShare {
+            assigned: demand.min(left),
+            demand,
+        }
+    }
+
+    /// How many workers a living arena is allotted whose level is assigned this.
+    #[inline(always)]
+    fn carried_to(&self, stored: StoredArena, part: LevelShare, visits: &mut u32) -> u32
         requires there { arena_at stored.number self.now.arenas ≡ Some stored }
-        requires divided { IsDivisionOf self.now division.now }
+        requires shared { IsSharedAt stored.level self.now part }
         requires room { visits.old ≤ 176 }
         ensures exact { result ≡ allotment_of self.now stored.number }
         ensures least { visits.old + least_share self.now stored ≤ visits.new }
         ensures alone { HasSmallLevels self.now → visits.new ≡ visits.old + least_share self.now stored }
         ensures visits { visits.new ≤ visits.old + 2 * bits (length self.now.arenas) }
-        ensures few { visits.new ≤ visits.old + 22 }
     {
-        if division.limit == 0 {
-            return division.mandatory_workers(stored.arena());
-        }
         no_carry_to_keep();
         let request = u64::from(stored.claim().request());
         if request == 0 {
             return 0;
         }
         let level = stored.level();
-        let given = division.assigned.at(level);
-        let asked = division.demands.at(level);
         let before = self.arenas.before(level, stored.stamp(), visits);
-        let workers = share(given, asked, before, request);
+        let workers = share(part.assigned, part.demand, before, request);
         workers as u32
+    }
+
+    /// How many workers an arena is allotted where no worker may be active.
+    // Apart, as what finds the arena whose enqueued work is served.
+    #[cold]
+    #[inline(never)]
+    fn served_to(&self, arena: ArenaId, visits: &mut u32) -> u32
+        requires none { limit_of self.now ≡ 0 }
+        requires uncounted { visits.old ≡ 0 }
+        ensures exact { result ≡ allotment_of self.now arena }
+        ensures least { least_extra self.now ≤ visits.new }
+        ensures alone { HasSmallLevels self.now → visits.new ≡ least_extra self.now }
+        ensures visits { visits.new ≤ extra_visits self.now }
+    {
+        self.divide(visits).mandatory_workers(arena)
+    }
+
+    /// How many workers a living arena is allotted, where the levels before its own ask for so many.
+    fn allotment_of(&self, stored: StoredArena, asked: u64, visits: &mut u32) -> u32
+        requires there { arena_at stored.number self.now.arenas ≡ Some stored }
+        requires asked { asked ≡ asked_before self.now (stored.level - 1) }
+        requires uncounted { visits.old ≡ 0 }
+        ensures exact { result ≡ allotment_of self.now stored.number }
+        ensures least { least_seen self.now (Some stored) ≤ visits.new }
+        ensures alone { HasSmallLevels self.now → visits.new ≡ least_seen self.now (Some stored) }
+        ensures visits { visits.new ≤ 2 * bits (length self.now.arenas) + extra_visits self.now }
+    {
+        let limit = self.limit();
+        if limit == 0 {
+            return self.served_to(stored.arena(), visits);
+        }
+        self.arenas_are_leveled();
+        let left = u64::from(limit).saturating_sub(asked);
+        let part = self.part_of(stored.level(), left);
+        self.carried_to(stored, part, visits)
+    }
+
+    /// A living arena is top priority, where the levels before its own ask for so many.
+    #[inline(always)]
+    fn is_top(&self, stored: StoredArena, asked: u64) -> bool
+        requires there { arena_at stored.number self.now.arenas ≡ Some stored }
+        requires asked { asked ≡ asked_before self.now (stored.level - 1) }
+        ensures { result ≡ is_top self.now stored }
+    {
+        self.arenas_are_leveled();
+        self.arenas.stand_once();
+        asked == 0 && stored.claim().request() > 0
     }
 
     /// What is seen of a living arena.
@@ -138,14 +215,15 @@ impl Market {
         ensures alone { HasSmallLevels self.now → visits.new ≡ least_seen self.now (Some stored) }
         ensures visits { visits.new ≤ 2 * bits (length self.now.arenas) + extra_visits self.now }
     {
-        let division = &self.divide(visits);
-        let allot = self.allotment_of(stored, division, visits);
+        self.arenas_are_leveled();
+        let asked = self.asked_before(stored.level());
+        let allot = self.allotment_of(stored, asked, visits);
         let active = self.roster.active(stored.arena());
         ArenaView {
             arena: stored.arena(),
             request: stored.claim().request(),
             allot,
-            top: is_top(stored, &division.demands.values),
+            top: self.is_top(stored, asked),
             active,
             recall: recall(active, allot),
             hire: hire(active, allot),
@@ -228,8 +306,11 @@ impl Market {
         let Some(stored) = self.arenas.get(arena) else {
             return 0;
         };
+        if division.limit == 0 {
+            return division.mandatory_workers(arena);
+        }
         let mut visits = 0;
-        self.allotment_of(stored, division, &mut visits)
+        self.carried_to(stored, division.share_at(stored.level()), &mut visits)
     }
 
     /// How many workers an arena is allotted; none where no living arena has this number. It is what `view` tells of it, in less time, and
@@ -253,20 +334,8 @@ impl Market {
         let Some(stored) = self.arenas.get(arena) else {
             return 0;
         };
-        let division = &self.divide(visits);
-        self.allotment_of(stored, division, visits)
-    }
-}
-
-/// The arena is top priority.
-fn is_top(stored: StoredArena, demands: &[u64; 8]) -> bool
-    ensures { (s : State) → AreDemandsOf s demands.now → result ≡ is_top s stored }
-{
-    if stored.claim().request() == 0 {
-        return false;
-    }
-    match top_level(demands) {
-        Some(level) => level == stored.level(),
-        None => false,
+        self.arenas_are_leveled();
+        let asked = self.asked_before(stored.level());
+        self.allotment_of(stored, asked, visits)
     }
 }

@@ -5,23 +5,28 @@ ghost use Rattle.market_types.specs.Step.{counts_of};
 ghost use Rattle.recall_hire.specs.Staffed.{actives, imbalances, looks, need_among, need_of, searches};
 ghost use Rattle.recall_hire.specs.Shared.{IsListed};
 ghost use Rattle.arena_store.specs.Bits.{bits};
-ghost use Rattle.market_core.specs.Divided.{IsDivisionOf, IsSharedAt, rows_at};
-ghost use Rattle.market_core.specs.Visits.{least_extra, least_listed, most_joined, most_listed, searched};
+ghost use Rattle.market_core.specs.Divided.{IsDivisionOf, IsSharedAt, left_after, rows_at};
+ghost use Rattle.market_core.specs.Visits.{extra_visits, least_extra, least_listed, most_joined, most_listed, searched};
 
 use super::Market;
-use crate::division::Division;
+use crate::division::{Division, LevelShare};
 use allotment::no_carry_to_keep;
 use market_types::{ArenaId, Level, Lists};
 use recall_hire::{first_in_need, hire, list};
 use std::alloc::{AllocError, Global};
 
 impl Market {
-    /// The arena whose enqueued work is served, where it is allotted more workers than it has.
-    fn mandatory_in_need(&self, division: &Division) -> Option<ArenaId>
-        requires divided { IsDivisionOf self.now division.now }
+    /// The arena whose enqueued work is served, where no worker may be active and it is allotted more workers than it has.
+    #[cold]
+    #[inline(never)]
+    fn mandatory_in_need(&self, visits: &mut u32) -> Option<ArenaId>
         requires none { limit_of self.now ≡ 0 }
-        ensures { result ≡ need_of self.now }
+        requires uncounted { visits.old ≡ 0 }
+        ensures exact { result ≡ need_of self.now }
+        ensures least { least_extra self.now ≤ visits.new }
+        ensures most { visits.new ≤ extra_visits self.now }
     {
+        let division = &self.divide(visits);
         let picked = division.picked?;
         if hire(self.roster.active(picked), division.bound) > 0 {
             Some(picked)
@@ -31,6 +36,7 @@ impl Market {
     }
 
     /// The first arena in order that is allotted more workers than it has.
+    // Each level is looked at before what the next is assigned is reckoned: most often the first one has an arena in need.
     pub(super) fn first_in_need(&self, visits: &mut u32) -> Option<ArenaId>
         requires uncounted { visits.old ≡ 0 }
         ensures exact { result ≡ need_of self.now }
@@ -39,22 +45,26 @@ impl Market {
         ensures most { visits.new ≤ most_joined self.now }
     {
         let levels = self.opening.levels;
-        let division = &self.divide(visits);
-        if division.limit == 0 {
-            return self.mandatory_in_need(division);
+        let limit = self.limit();
+        if limit == 0 {
+            return self.mandatory_in_need(visits);
         }
-        for level in 0..levels {
-            let found = self.in_need_at(division, Level::from_index(level as usize), visits);
+        let mut left = u64::from(limit);
+        for index in 0..levels {
+            let level = Level::from_index(index as usize);
+            let part = self.part_of(level, left);
+            let found = self.in_need_at(part, level, visits);
             if found.is_some() {
                 return found;
             }
+            left = left.saturating_sub(part.demand);
         }
         None
     }
 
     /// The first arena of a level that is allotted more workers than it has, where some worker may be active.
-    fn in_need_at(&self, division: &Division, level: Level, visits: &mut u32) -> Option<ArenaId>
-        requires shared { IsSharedAt level self.now division.now }
+    fn in_need_at(&self, part: LevelShare, level: Level, visits: &mut u32) -> Option<ArenaId>
+        requires shared { IsSharedAt level self.now part }
         requires room { visits.old ≤ length self.now.arenas }
         ensures exact { result ≡ need_among self.now (at_level level self.now.arenas) }
         ensures looked { visits.old + searches (rows_at self.now level) ≤ visits.new }
@@ -63,13 +73,11 @@ impl Market {
         ensures few { length self.now.arenas ≤ 1024 }
     {
         no_carry_to_keep();
-        let given = division.assigned.at(level);
-        let asked = division.demands.at(level);
         first_in_need(
             &self.roster,
             &self.arenas.whole(level),
-            given,
-            asked,
+            part.assigned,
+            part.demand,
             visits,
         )
     }

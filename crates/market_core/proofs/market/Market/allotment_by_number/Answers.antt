@@ -1,9 +1,9 @@
-use Rattle.std.proofs.Common.{ap, arith, sym, ◌∙◌, ◌≡◌, Some, None}
+use Rattle.std.proofs.Common.{ap, arith, sym, ◌∙◌, ◌≡◌, None}
 use Rattle.market_types.specs.State.{State}
 use Rattle.market_types.specs.Allotment.{allotment_of}
 use Rattle.market_types.specs.Step.{arena_at}
 use Rattle.market_core.proofs.Allotted.{allotment_of-missing}
-use Rattle.market_core.proofs.Meters.{seen-none, seen-some}
+use Rattle.market_core.proofs.Meters.{seen-none}
 use Rattle.market_core.proofs.market.Market.allotment_by_number.Goals as goal
 
 pub returns-in_default-clause-exact : goal.returns-in_default-clause-exact
@@ -28,15 +28,3 @@ allotment_of-requires-clause-there c =
 
 pub returns-clause-exact : goal.returns-clause-exact
 returns-clause-exact c = c.allotment_of.ensures.exact ∙ ap (allotment_of c.args.self.now) c.in-Some.ensures.number
-
-pub returns-clause-least : goal.returns-clause-least
-returns-clause-least c =
-    let there : arena_at c.args.arena c.args.self.now.arenas ≡ Some c.in-Some.stored = ap (λ (t : State). arena_at c.args.arena t.arenas) (sym c.self.view_is) ∙ sym c.get.ensures.exact ∙ c.in-Some.is in
-    let seen = seen-some c.args.self.now (arena_at c.args.arena c.args.self.now.arenas) c.in-Some.stored there in
-    omega (arith, seen, c.allotment_of.ensures.least, c.divide.ensures.least)
-
-pub returns-clause-alone : goal.returns-clause-alone
-returns-clause-alone c few =
-    let there : arena_at c.args.arena c.args.self.now.arenas ≡ Some c.in-Some.stored = ap (λ (t : State). arena_at c.args.arena t.arenas) (sym c.self.view_is) ∙ sym c.get.ensures.exact ∙ c.in-Some.is in
-    let seen = seen-some c.args.self.now (arena_at c.args.arena c.args.self.now.arenas) c.in-Some.stored there in
-    omega (arith, seen, c.allotment_of.ensures.alone few, c.divide.ensures.alone few)

@@ -1,9 +1,8 @@
-use Rattle.std.proofs.Common.{arith, sym, ap, subst, ◌∙◌, ◌≡◌, ℕ, ◌+◌, ◌≤◌, ◌*◌, ◌-◌, List, length}
+use Rattle.std.proofs.Common.{arith, sym, ap, subst, ◌∙◌, ◌≡◌, ℕ, ◌+◌, ◌≤◌, ◌*◌, List, length}
 use Rattle.std.proofs.lemmas.List.{length-map}
-use Rattle.std.proofs.lemmas.Option.{get_or_from_slice_get}
 use Rattle.std.proofs.Math.Nat.{mul-le-mul_left}
 use Rattle.market_types.specs.State.{State}
-use Rattle.market_types.specs.Allotment.{assigned, at_level, demand, total_request}
+use Rattle.market_types.specs.Allotment.{assigned, at_level, total_request}
 use Rattle.arena_store.specs.Arenas.{level_row, level_rows}
 use Rattle.arena_store.specs.Bits.{bits}
 use Rattle.recall_hire.specs.declared.rows.Staffing.{Staffing}
@@ -17,23 +16,13 @@ use Rattle.market_core.proofs.market.Market.in_need_at.Goals as goal
 use Rattle.market_core.proofs.market.Market.in_need_at.Goals.{After-first_in_need}
 
 module _ (c : After-first_in_need) where
-  asked : c.at-asked.result ≡ demand c.args.self.now c.args.level
-  asked =
-      sym (get_or_from_slice_get c.args.division.now.demands.values (c.args.level - 1) c.at-asked.result 0 c.at-asked.ensures.exact)
-      ∙ c.requires.shared.divided.demands.levels c.args.level c.requires.shared.low c.requires.shared.high
-
-  given : c.at-given.result ≡ assigned c.args.self.now c.args.level
-  given =
-      sym (get_or_from_slice_get c.args.division.now.assigned.values (c.args.level - 1) c.at-given.result 0 c.at-given.ensures.exact)
-      ∙ c.requires.shared.divided.assigned c.args.level c.requires.shared.low c.requires.shared.high
-
   shared : Shared c.args.self.now
-  shared = record { stand = c.requires.shared.divided.once; leveled = c.requires.shared.divided.leveled; some = c.requires.shared.some; whole = c.no_carry_to_keep.ensures.after_a_level c.args.self.now (assigned c.args.self.now) }
+  shared = record { stand = c.requires.shared.once; leveled = c.requires.shared.leveled; some = c.requires.shared.some; whole = c.no_carry_to_keep.ensures.after_a_level c.args.self.now (assigned c.args.self.now) }
 
-  walk : staffed (Carried c.at-given.result c.at-asked.result) c.self.inside.roster 0 c.whole.result.0 ≡ rows_at c.args.self.now c.args.level
+  walk : staffed (Carried c.args.part.assigned c.args.part.demand) c.self.inside.roster 0 c.whole.result.0 ≡ rows_at c.args.self.now c.args.level
   walk =
-      walk-of c.args.self.now c.args.level c.at-given.result c.at-asked.result c.self.inside.roster c.whole.result.0
-      shared given asked (ap (λ (t : State). t.seats) c.self.view_is) (c.whole.ensures.rows ∙ ap (λ (t : State). level_rows c.args.level t.arenas) c.self.view_is)
+      walk-of c.args.self.now c.args.level c.args.part.assigned c.args.part.demand c.self.inside.roster c.whole.result.0
+      shared c.requires.shared.assigned c.requires.shared.demand (ap (λ (t : State). t.seats) c.self.view_is) (c.whole.ensures.rows ∙ ap (λ (t : State). level_rows c.args.level t.arenas) c.self.view_is)
 
 pub first_in_need-requires-clause-few : goal.first_in_need-requires-clause-few
 first_in_need-requires-clause-few c = c.whole.ensures.short
@@ -47,23 +36,16 @@ same-le : (n m : ℕ) → n ≡ m → n ≤ m
 same-le n m e = omega arith
 
 pub first_in_need-requires-clause-within : goal.first_in_need-requires-clause-within
-first_in_need-requires-clause-within c =
-    let given = get_or_from_slice_get c.args.division.now.assigned.values (c.args.level - 1) c.at-given.result 0 c.at-given.ensures.exact in
-    let asked = get_or_from_slice_get c.args.division.now.demands.values (c.args.level - 1) c.at-asked.result 0 c.at-asked.ensures.exact in
-    subst (λ (n : ℕ × ℕ). n.0 ≤ n.1) (λ i. (given i, asked i)) (c.requires.shared.divided.within (c.args.level - 1))
+first_in_need-requires-clause-within c = c.requires.shared.within
 
 pub first_in_need-requires-clause-small : goal.first_in_need-requires-clause-small
-first_in_need-requires-clause-small c =
-    let asked = get_or_from_slice_get c.args.division.now.demands.values (c.args.level - 1) c.at-asked.result 0 c.at-asked.ensures.exact in
-    subst (λ (n : ℕ). n ≤ 1024 * 65535) asked (c.requires.shared.divided.small (c.args.level - 1))
+first_in_need-requires-clause-small c = c.requires.shared.small
 
 pub first_in_need-requires-clause-part : goal.first_in_need-requires-clause-part
 first_in_need-requires-clause-part c =
-    let asked = get_or_from_slice_get c.args.division.now.demands.values (c.args.level - 1) c.at-asked.result 0 c.at-asked.ensures.exact in
     same-le _ _ (c.whole.ensures.asked
     ∙ ap (λ (t : State). total_request (at_level c.args.level t.arenas)) c.self.view_is
-    ∙ sym (c.requires.shared.divided.demands.levels c.args.level c.requires.shared.low c.requires.shared.high)
-    ∙ asked)
+    ∙ sym c.requires.shared.demand)
 
 pub returns-clause-exact : goal.returns-clause-exact
 returns-clause-exact c =
