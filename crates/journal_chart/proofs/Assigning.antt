@@ -1,13 +1,13 @@
 -- Levels that are given workers one after another, in arrays with a place for each of eight.
 use Rattle.std.specs.Prelude.{slice_index}
-use Rattle.std.proofs.Common.{◌≡◌, ℕ, zero, suc, ◌+◌, ◌-◌, ◌*◌, ◌<◌, ◌≤◌, false, cond, ltb, min, List, [], ◌∷◌, ◌++◌, length, get_or, set, take, drop, replicate, refl, sym, ap, ◌∙◌, arith, inl, inr, add-one, append_assoc, drop-cons}
+use Rattle.std.proofs.Common.{◌≡◌, ℕ, zero, suc, ◌+◌, ◌-◌, ◌*◌, ◌<◌, ◌≤◌, false, cond, ltb, min, List, [], ◌∷◌, ◌++◌, length, get_or, set, take, drop, refl, sym, ap, ◌∙◌, arith, inl, inr, add-one, append_assoc, drop-cons}
 use Rattle.std.proofs.lemmas.Bool.{cases_eq, cases_lt, le-ltb}
 use Rattle.std.proofs.lemmas.List.{get_or-set_same, get_or-set_other}
 use Rattle.std.proofs.Math.ListN.{length-set}
 use Rattle.std.proofs.Math.Seq.{take-suc-set}
 use Rattle.market_types.specs.State.{State}
 use Rattle.market_types.specs.Allotment.{assigned_to, demand}
-use Rattle.journal_chart.specs.Shares.{all_asked, asked_at}
+use Rattle.journal_chart.specs.Shares.{AreFew, AreNoneAbove, all_asked, asked_at}
 use Rattle.journal_chart.proofs.Sharing.{all-asked, asked-demand}
 
 -- of levels whose demands stand in one list, those before a place are given in the other what they are due, and the rest nothing yet
@@ -21,21 +21,27 @@ pub record Assigning (s : State) (workers : ℕ) (given asked : List ℕ) (left 
   pub small : (j : ℕ) → slice_index asked j ≤ 1024 * 65535
   pub due : take place given ++ assigned_to (drop place (all_asked s)) left ≡ assigned_to (all_asked s) workers
 
-none-at : (n j : ℕ) → slice_index (replicate n 0) j ≡ 0
-none-at zero j = refl
-none-at (suc n) zero = refl
-none-at (suc n) (suc j) = none-at n j
+-- of levels whose demands stand in one list, those before a place are given in the other what they are due, and the rest is as it was
+pub record Renewing (s : State) (workers : ℕ) (was_given was_asked given asked : List ℕ) (left place : ℕ) : Type 0 where
+  pub size_given : length given ≡ 8
+  pub size_asked : length asked ≡ 8
+  pub done : (j : ℕ) → j < place → slice_index asked j ≡ asked_at s j
+  pub rest_given : (j : ℕ) → place ≤ j → slice_index given j ≡ slice_index was_given j
+  pub rest_asked : (j : ℕ) → place ≤ j → slice_index asked j ≡ slice_index was_asked j
+  pub within : (j : ℕ) → slice_index given j ≤ slice_index asked j
+  pub small : (j : ℕ) → slice_index asked j ≤ 1024 * 65535
+  pub due : take place given ++ assigned_to (drop place (all_asked s)) left ≡ assigned_to (all_asked s) workers
 
-pub assigning-none : (s : State) (workers : ℕ) → Assigning s workers (replicate 8 0) (replicate 8 0) workers 0
-assigning-none s workers =
+pub renewing-none : (s : State) (workers : ℕ) (given asked : List ℕ) → length given ≡ 8 → length asked ≡ 8 → AreFew given asked → Renewing s workers given asked given asked workers 0
+renewing-none s workers given asked size_given size_asked few =
     record {
-      size_given = refl;
-      size_asked = refl;
+      size_given = size_given;
+      size_asked = size_asked;
       done = λ j less. absurd (omega (arith, less));
-      unasked = λ j _. none-at 8 j;
-      ungiven = λ j _. none-at 8 j;
-      within = λ j. omega (arith, none-at 8 j);
-      small = λ j. omega (arith, none-at 8 j);
+      rest_given = λ j _. refl;
+      rest_asked = λ j _. refl;
+      within = few.within;
+      small = few.small;
       due = refl;
     }
 
@@ -45,10 +51,10 @@ due-more : (given ds : List ℕ) (i left k : ℕ) → i < length given → i < l
     → take (i + 1) (set given i k) ++ assigned_to (drop (i + 1) ds) (left - k) ≡ take i given ++ assigned_to (drop i ds) left
 due-more given ds i left k p q e = rw (add-one, take-suc-set given i k p, drop-cons ds i 0 q, append_assoc, e) refl
 
-pub assigning-more : (s : State) (workers : ℕ) (given asked : List ℕ) (left place wanted share : ℕ) → Assigning s workers given asked left place → place < 8 → place < s.levels
+pub renewing-more : (s : State) (workers : ℕ) (was_given was_asked given asked : List ℕ) (left place wanted share : ℕ) → Renewing s workers was_given was_asked given asked left place → place < 8 → place < s.levels
     → wanted ≡ demand s (1 + place) → wanted ≤ 1024 * 65535 → share ≡ min wanted left
-    → Assigning s workers (set given place share) (set asked place wanted) (left - share) (place + 1)
-assigning-more s workers given asked left place wanted share h few inside wanted_is small share_is =
+    → Renewing s workers was_given was_asked (set given place share) (set asked place wanted) (left - share) (place + 1)
+renewing-more s workers was_given was_asked given asked left place wanted share h few inside wanted_is small share_is =
     let given_in : place < length given = omega (arith, few, h.size_given) in
     let asked_in : place < length asked = omega (arith, few, h.size_asked) in
     let here : slice_index (set asked place wanted) place ≡ wanted = get_or-set_same asked place wanted 0 asked_in in
@@ -61,8 +67,8 @@ assigning-more s workers given asked left place wanted share h few inside wanted
         | inl same ↦ ap (slice_index (set asked place wanted)) same ∙ here ∙ at ∙ ap (asked_at s) (sym same)
         | inr other ↦ get_or-set_other asked place j wanted 0 other ∙ h.done j (omega (arith, less, other))
       ];
-      unasked = λ j past. get_or-set_other asked place j wanted 0 (λ e. omega (arith, e, past)) ∙ h.unasked j (omega (arith, past));
-      ungiven = λ j past. get_or-set_other given place j share 0 (λ e. omega (arith, e, past)) ∙ h.ungiven j (omega (arith, past));
+      rest_given = λ j past. get_or-set_other given place j share 0 (λ e. omega (arith, e, past)) ∙ h.rest_given j (omega (arith, past));
+      rest_asked = λ j past. get_or-set_other asked place j wanted 0 (λ e. omega (arith, e, past)) ∙ h.rest_asked j (omega (arith, past));
       within = λ j. elim (cases_eq j place) [
         | inl same ↦
             let g : slice_index (set given place share) j ≡ share = ap (slice_index (set given place share)) same ∙ given_here in
@@ -77,6 +83,71 @@ assigning-more s workers given asked left place wanted share h few inside wanted
         | inr other ↦ omega (arith, get_or-set_other asked place j wanted 0 other, h.small j)
       ];
       due = due-more given (all_asked s) place left share given_in few (share_is ∙ ap (λ n. min n left) (at ∙ sym (all-asked s place few))) ∙ h.due;
+    }
+
+-- ---- what stood above the levels
+
+-- from the levels on up to a place a list has nothing, and else what it had
+pub record Cleared (levels : ℕ) (xs ys : List ℕ) (place : ℕ) : Type 0 where
+  pub size : length ys ≡ length xs
+  pub low : (j : ℕ) → j < levels → slice_index ys j ≡ slice_index xs j
+  pub none : (j : ℕ) → levels ≤ j → j < place → slice_index ys j ≡ 0
+  pub rest : (j : ℕ) → place ≤ j → slice_index ys j ≡ slice_index xs j
+
+pub cleared-none : (levels : ℕ) (xs : List ℕ) → Cleared levels xs xs levels
+cleared-none levels xs = record { size = refl; low = λ j _. refl; none = λ j past less. absurd (omega (arith, past, less)); rest = λ j _. refl }
+
+pub cleared-more : (levels : ℕ) (xs ys : List ℕ) (place : ℕ) → Cleared levels xs ys place → levels ≤ place → place < length ys → Cleared levels xs (set ys place 0) (place + 1)
+cleared-more levels xs ys place h past inside =
+    record {
+      size = length-set ys place 0 ∙ h.size;
+      low = λ j less. get_or-set_other ys place j 0 0 (λ e. omega (arith, e, less, past)) ∙ h.low j less;
+      none = λ j above less. elim (cases_eq j place) [
+        | inl same ↦ ap (slice_index (set ys place 0)) same ∙ get_or-set_same ys place 0 0 inside
+        | inr other ↦ get_or-set_other ys place j 0 0 other ∙ h.none j above (omega (arith, less, other))
+      ];
+      rest = λ j above. get_or-set_other ys place j 0 0 (λ e. omega (arith, e, above)) ∙ h.rest j (omega (arith, above));
+    }
+
+take-same : (xs ys : List ℕ) (i : ℕ) → length ys ≡ length xs → ((j : ℕ) → j < i → slice_index ys j ≡ slice_index xs j) → take i ys ≡ take i xs
+take-same xs ys zero size same = refl
+take-same [] [] (suc i) size same = refl
+take-same [] (y ∷ ys) (suc i) size same = absurd (omega (arith, size))
+take-same (x ∷ xs) [] (suc i) size same = absurd (omega (arith, size))
+take-same (x ∷ xs) (y ∷ ys) (suc i) size same =
+    let first : y ≡ x = same 0 (omega arith) in
+    let rest = take-same xs ys i (omega (arith, size)) (λ j less. same (suc j) (omega (arith, less))) in
+    λ k. first k ∷ rest k
+
+-- once all levels are renewed, and nothing is left of others
+pub assigning-all : (s : State) (workers old : ℕ) (was_given was_asked given asked given' asked' : List ℕ) (left place : ℕ) → Renewing s workers was_given was_asked given asked left s.levels
+    → AreNoneAbove old was_given was_asked → Cleared s.levels given given' place → Cleared s.levels asked asked' place → old ≤ place → Assigning s workers given' asked' left s.levels
+assigning-all s workers old was_given was_asked given asked given' asked' left place h above cleared_given cleared_asked past =
+    let unasked : (j : ℕ) → s.levels ≤ j → slice_index asked' j ≡ 0 =
+    λ j high. elim (cases_lt j place) [
+      | inl less ↦ cleared_asked.none j high less
+      | inr rest ↦ cleared_asked.rest j rest ∙ h.rest_asked j high ∙ above.none_asked j (omega (arith, past, rest))
+    ] in
+    let ungiven : (j : ℕ) → s.levels ≤ j → slice_index given' j ≡ 0 =
+    λ j high. elim (cases_lt j place) [
+      | inl less ↦ cleared_given.none j high less
+      | inr rest ↦ cleared_given.rest j rest ∙ h.rest_given j high ∙ above.none_given j (omega (arith, past, rest))
+    ] in
+    record {
+      size_given = cleared_given.size ∙ h.size_given;
+      size_asked = cleared_asked.size ∙ h.size_asked;
+      done = λ j less. cleared_asked.low j less ∙ h.done j less;
+      unasked = unasked;
+      ungiven = ungiven;
+      within = λ j. elim (cases_lt j s.levels) [
+        | inl less ↦ omega (arith, cleared_given.low j less, cleared_asked.low j less, h.within j)
+        | inr high ↦ omega (arith, ungiven j high)
+      ];
+      small = λ j. elim (cases_lt j s.levels) [
+        | inl less ↦ omega (arith, cleared_asked.low j less, h.small j)
+        | inr high ↦ omega (arith, unasked j high)
+      ];
+      due = ap (λ xs. xs ++ assigned_to (drop s.levels (all_asked s)) left) (take-same given given' s.levels cleared_given.size cleared_given.low) ∙ h.due;
     }
 
 -- ---- all levels

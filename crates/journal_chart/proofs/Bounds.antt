@@ -6,7 +6,8 @@ use Rattle.std.proofs.lemmas.Bool.{cases_Bool}
 use Rattle.std.proofs.lemmas.Bool.Decides.{nat_tests}
 use Rattle.std.proofs.lemmas.List.Elements.{All-cons, All-head, All-nil, All-tail}
 use Rattle.std.proofs.lemmas.List.Sums.{sum_by-cons}
-use Rattle.std.proofs.lemmas.Nat.{div-add-mod', div-mul-add, mod_below, div_below, le-div}
+use Rattle.std.proofs.lemmas.Nat.{div-mul-add, mod_below, div_below, le-div}
+use Rattle.std.proofs.Math.Nat.{mul_comm}
 use Rattle.market_types.specs.State.{Arena, State}
 use Rattle.market_types.specs.Claims.{request_of}
 use Rattle.market_types.specs.Allotment.{all_to, allotment_of, assigned, at_level, bound_of, carried, carry_after, carry_past, count_at, demand, in_order, levels_of, limit_of, mandatory_pick, share_of, total_request}
@@ -85,26 +86,27 @@ covered-share-if from below r g d c n false false e some less is h = covered-par
 pub covered-share : (k : Covered) (r g d n : ℕ) → IsShare r g d n → covers k r g d ≡ true → (k.from ≤ n) × (n < k.below)
 covered-share k r g d n share h = covered-share-if k.from k.below r g d share.carry n (eqb d 0) (eqb r 0) refl refl share.less share.is h
 
--- a product that is a multiple leaves nothing but the carry
-whole-given : (p d c : ℕ) → eqb (p % d) 0 ≡ true → c < d → (p + c) / d ≡ p / d
-whole-given p d c whole less =
-    let rest : p % d ≡ 0 = grind (arith, nat_tests) in
-    let parts : p / d * d + p % d ≡ p = div-add-mod' p d in
-    let sum : p + c ≡ p / d * d + c = omega (arith, rest, parts) in
-    ap (λ n. n / d) sum ∙ div-mul-add (p / d) d c less
+-- an arena that alone asks at its level is given all that the level is
+alone-given : (r g d c : ℕ) → eqb r d ≡ true → c < d → (r * g + c) / d ≡ g
+alone-given r g d c alone less =
+    let same : r ≡ d = grind (arith, nat_tests) in
+    let product : r * g ≡ d * g = ap (λ k. k * g) same in
+    let turned : d * g ≡ g * d = mul_comm d g in
+    let sum : r * g + c ≡ g * d + c = omega (arith, product, turned) in
+    ap (λ n. n / d) sum ∙ div-mul-add g d c less
 
 -- where the numbers alone tell the share
-exact-share-if : (r g d c n v : ℕ) (asks given all whole : Bool) → eqb r 0 ≡ asks → eqb g 0 ≡ given → eqb g d ≡ all → eqb (r * g % d) 0 ≡ whole → (0 < r → c < d)
-    → n ≡ cond asks 0 ((r * g + c) / d) → cond (asks || given) (Some 0) (cond all (Some r) (cond whole (Some (r * g / d)) None)) ≡ Some v → n ≡ v
-exact-share-if r g d c n v true given all whole none e same even less is h = let zero_ : 0 ≡ v = cc in is ∙ zero_
-exact-share-if r g d c n v false true all whole some e same even less is h = let zero_ : 0 ≡ v = cc in is ∙ nothing-given r g d c e (less (asks-some r some)) ∙ zero_
-exact-share-if r g d c n v false false true whole some e same even less is h = let all_ : r ≡ v = cc in is ∙ all-given r g d c same (less (asks-some r some)) ∙ all_
-exact-share-if r g d c n v false false false true some e same even less is h = let share : r * g / d ≡ v = cc in is ∙ whole-given (r * g) d c even (less (asks-some r some)) ∙ share
-exact-share-if r g d c n v false false false false some e same even less is h = absurd (cc)
+exact-share-if : (r g d c n v : ℕ) (asks given all alone : Bool) → eqb r 0 ≡ asks → eqb g 0 ≡ given → eqb g d ≡ all → eqb r d ≡ alone → (0 < r → c < d)
+    → n ≡ cond asks 0 ((r * g + c) / d) → cond (asks || given) (Some 0) (cond all (Some r) (cond alone (Some g) None)) ≡ Some v → n ≡ v
+exact-share-if r g d c n v true given all alone none e same only less is h = let zero_ : 0 ≡ v = cc in is ∙ zero_
+exact-share-if r g d c n v false true all alone some e same only less is h = let zero_ : 0 ≡ v = cc in is ∙ nothing-given r g d c e (less (asks-some r some)) ∙ zero_
+exact-share-if r g d c n v false false true alone some e same only less is h = let all_ : r ≡ v = cc in is ∙ all-given r g d c same (less (asks-some r some)) ∙ all_
+exact-share-if r g d c n v false false false true some e same only less is h = let share : g ≡ v = cc in is ∙ alone-given r g d c only (less (asks-some r some)) ∙ share
+exact-share-if r g d c n v false false false false some e same only less is h = absurd (cc)
 
 pub exact-share : (r g d n v : ℕ) → IsShare r g d n → exactly r g d ≡ Some v → n ≡ v
 exact-share r g d n v share h =
-    exact-share-if r g d share.carry n v (eqb r 0) (eqb g 0) (eqb g d) (eqb (r * g % d) 0) refl refl refl refl share.less share.is h
+    exact-share-if r g d share.carry n v (eqb r 0) (eqb g 0) (eqb g d) (eqb r d) refl refl refl refl share.less share.is h
 
 -- ---- arenas in order
 

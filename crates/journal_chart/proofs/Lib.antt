@@ -3,9 +3,6 @@ pub mod Thinned
 pub mod Standing
 pub mod Mapped
 pub mod Pairs
-pub mod Passing
-pub mod Vectors
-pub mod Margin
 pub mod Charts
 pub mod Bounds
 pub mod Kept

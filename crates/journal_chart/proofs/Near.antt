@@ -199,19 +199,15 @@ kept-place cmd was now levels (suc (suc (suc (suc (suc (suc zero)))))) h = h
 kept-place cmd was now levels (suc (suc (suc (suc (suc (suc (suc zero))))))) h = h
 kept-place cmd was now levels (suc (suc (suc (suc (suc (suc (suc (suc n)))))))) h = absurd (true≢false (sym h))
 
-kept-level : (cmd : Cmd) (was now : Shared) (levels level : ℕ) → level ≤ levels → stands_kept (kept_levels cmd was now levels) (Some level) ≡ true
+kept-level : (cmd : Cmd) (was now : Shared) (levels level : ℕ) → stands_kept (kept_levels cmd was now levels) (Some level) ≡ true
     → ((is_idle was && is_idle now) ≡ true) ⊎ ((keeps_order cmd && is_same_share was now level) ≡ true)
-kept-level cmd was now levels level high h =
+kept-level cmd was now levels level h =
     let g = both (nat_le 1 level) (get_or (kept_levels cmd was now levels) (level - 1) false) h in
     let low : 1 ≤ level = let e = g.0 in grind (arith, nat_tests) in
     let next : suc (level - 1) ≡ level = omega (arith, low) in
     let kept : is_kept cmd was now levels level ≡ true = ap (is_kept cmd was now levels) (sym next) ∙ kept-place cmd was now levels (level - 1) g.1 in
-    elim (either (nat_lt levels level) ((is_idle was && is_idle now) || (keeps_order cmd && is_same_share was now level)) kept) [
-      | inl past ↦
-          let beyond : levels < level = let e = past in grind (arith, nat_tests) in
-          absurd (omega (arith, beyond, high))
-      | inr rest ↦ either (is_idle was && is_idle now) (keeps_order cmd && is_same_share was now level) rest
-    ]
+    either (is_idle was && is_idle now) (keeps_order cmd && is_same_share was now level)
+    (both (nat_le level levels) ((is_idle was && is_idle now) || (keeps_order cmd && is_same_share was now level)) kept).1
 
 -- ---- where the limit is 0
 
@@ -504,7 +500,7 @@ module _ (most : ℕ) (before : List State) (s t : State) (some : 0 < most) (on 
             → stands_kept (kept_levels cmd (shared_of s) (shared_of t) t.levels) (option_map (λ (b : Arena). b.level) o) ≡ true → SameLines a
         go None is h = absent-lines a stands is
         go (Some x) is h =
-            elim (kept-level cmd (shared_of s) (shared_of t) t.levels x.level (leveled t a x fine' (stands.arena ∙ is)) h) [
+            elim (kept-level cmd (shared_of s) (shared_of t) t.levels x.level h) [
               | inl idle ↦
                   let g = both (is_idle (shared_of s)) (is_idle (shared_of t)) idle in
                   even-lines a stands (λ y found. idle-allotted t y.number g.1 ∙ sym (idle-allotted s y.number g.0))
@@ -598,8 +594,6 @@ module _ (most : ℕ) (before : List State) (s t : State) (some : 0 < most) (on 
         let cover : k ≡ known_of place (Some (view_of t y)) (row' a) =
         known
         ∙ (λ i. record {
-          arena = a;
-          stands = sym h.level i;
           request = sym n.0 i;
           active = sym n.1 i;
           covered = covered (at (sym lines.allot i) place) (at (sym lines.recall i) place) (at (sym lines.hire i) place) (sym n.1 i);

@@ -310,18 +310,6 @@ pair-rows f [] ys = refl
 pair-rows f (x ∷ xs) [] = refl
 pair-rows f (x ∷ xs) (y ∷ ys) = ap (λ n. suc n) (pair-rows f xs ys)
 
-pair-known : {X Y : Type 0} (f : X → Y → X × Y) (xs : List X) (ys : List Y) → length (pairwise f xs ys).1 ≡ length ys
-pair-known f [] ys = refl
-pair-known f (x ∷ xs) [] = refl
-pair-known f (x ∷ xs) (y ∷ ys) = ap (λ n. suc n) (pair-known f xs ys)
-
-near-known : (place : ℕ) (s : State) (cmd : Cmd) (reply : Reply) (was : Shared) (rows : List Row) (ks : List Known) → length (near_rows place s cmd reply was rows ks).1 ≡ length ks
-near-known place s cmd reply was rows ks = go (moves_seat cmd)
-  where
-    go : (b : Bool) → length (cond b (seat_rows place s cmd reply was rows ks) (each_row place s cmd reply was rows ks)).1 ≡ length ks
-    go true = pair-known (seat_row place s cmd reply (is_joined was (after_seat s was)) (after_seat s was)) rows ks
-    go false = pair-known (near_row place s cmd reply (shared_of s) (kept_levels cmd was (shared_of s) s.levels)) rows ks
-
 near-length : (place : ℕ) (s : State) (cmd : Cmd) (reply : Reply) (was : Shared) (rows : List Row) (ks : List Known) → length (near_rows place s cmd reply was rows ks).0 ≡ length rows
 near-length place s cmd reply was rows ks = go (moves_seat cmd)
   where
@@ -329,15 +317,14 @@ near-length place s cmd reply was rows ks = go (moves_seat cmd)
     go true = pair-rows (seat_row place s cmd reply (is_joined was (after_seat s was)) (after_seat s was)) rows ks
     go false = pair-rows (near_row place s cmd reply (shared_of s) (kept_levels cmd was (shared_of s) s.levels)) rows ks
 
--- a chart that takes a moment has as many rows as before, of whose arenas something is known, and a moment more
+-- a chart that takes a moment has as many rows as before, and a moment more
 pub record IsMore (s : State) (cmd : Cmd) (reply : Reply) (f : Followed) : Type 0 where
   pub rows : length (next_chart s cmd reply f).chart.lines.rows ≡ length f.chart.lines.rows
-  pub known : length f.known ≡ length f.chart.lines.rows → length (next_chart s cmd reply f).known ≡ length f.chart.lines.rows
   pub moments : (next_chart s cmd reply f).chart.moments ≡ f.chart.moments + 1
 
 pub next-more : (s : State) (cmd : Cmd) (reply : Reply) (f : Followed) → IsMore s cmd reply f
 next-more s cmd reply f =
-    record { rows = rows (goes_on f.chart) (is_still reply) (f.chart.moments == 0); known = known (goes_on f.chart) (is_still reply) (f.chart.moments == 0); moments = moments (goes_on f.chart) (is_still reply) (f.chart.moments == 0) }
+    record { rows = rows (goes_on f.chart) (is_still reply) (f.chart.moments == 0); moments = moments (goes_on f.chart) (is_still reply) (f.chart.moments == 0) }
   where
     next : Bool → Bool → Bool → Followed
     next on still none = cond on (cond still (record f { chart = counted_chart f.chart }) (near_chart s cmd reply f)) (cond none (first_chart s cmd reply f.chart) (begun_chart s cmd reply f))
@@ -350,14 +337,6 @@ next-more s cmd reply f =
     rows true true none = refl
     rows true false none =
         near-length (f.chart.moments / width_of f.chart.most (f.chart.moments + 1)) s cmd reply f.shares f.chart.lines.rows f.known
-
-    known : (on still none : Bool) → length f.known ≡ length f.chart.lines.rows → length (next on still none).known ≡ length f.chart.lines.rows
-    known false still true each = length-map (roomed_lines f.chart).rows _ ∙ roomed-if (nat_le (f.chart.most * width_of f.chart.most f.chart.moments) f.chart.moments) f.chart.lines
-    known false still false each =
-        pair-known (first_row (f.chart.moments / width_of f.chart.most (f.chart.moments + 1)) s cmd reply (shared_of s)) (roomed_lines f.chart).rows f.known ∙ each
-    known true true none each = each
-    known true false none each =
-        near-known (f.chart.moments / width_of f.chart.most (f.chart.moments + 1)) s cmd reply f.shares f.chart.lines.rows f.known ∙ each
 
     moments : (on still none : Bool) → (next on still none).chart.moments ≡ f.chart.moments + 1
     moments false still true = refl

@@ -1,6 +1,5 @@
 -- Two lists whose elements are changed together, one after the other.
-use Rattle.std.proofs.Common.{◌≡◌, ℕ, zero, suc, ◌+◌, ◌<◌, ◌≤◌, List, [], ◌∷◌, ◌++◌, length, map, take, drop, set, get_or, refl, sym, ap, ◌∙◌, subst, arith, append-nil, ◌-◌, inl, inr}
-use Rattle.std.proofs.lemmas.Bool.{cases_lt}
+use Rattle.std.proofs.Common.{◌≡◌, ℕ, zero, suc, ◌+◌, ◌<◌, ◌≤◌, List, [], ◌∷◌, ◌++◌, length, map, take, drop, set, get_or, refl, sym, ap, ◌∙◌, subst, arith, append-nil}
 use Rattle.std.proofs.lemmas.List.{take_all, drop_all}
 use Rattle.journal_chart.specs.Steps.{pairwise}
 
@@ -9,7 +8,7 @@ length-set [] i x = refl
 length-set (z ∷ zs) zero x = refl
 length-set (z ∷ zs) (suc i) x = ap (λ n. suc n) (length-set zs i x)
 
-pub set-self : {X : Type 0} (xs : List X) (i : ℕ) (x : X) → x ≡ get_or xs i x → set xs i x ≡ xs
+set-self : {X : Type 0} (xs : List X) (i : ℕ) (x : X) → x ≡ get_or xs i x → set xs i x ≡ xs
 set-self [] i x is = refl
 set-self (z ∷ zs) zero x is = ap (λ y. y ∷ zs) is
 set-self (z ∷ zs) (suc i) x is = ap (λ ys. z ∷ ys) (set-self zs i x is)
@@ -19,13 +18,6 @@ pub get-any : {X : Type 0} (xs : List X) (i : ℕ) (d e : X) → i < length xs �
 get-any [] i d e inside = absurd (omega (arith, inside))
 get-any (x ∷ xs) zero d e inside = refl
 get-any (x ∷ xs) (suc i) d e inside = get-any xs i d e (omega (arith, inside))
-
--- what stands behind a place that is written
-get-set-later : {X : Type 0} (xs : List X) (i k : ℕ) (x d : X) → i < k → get_or (set xs i x) k d ≡ get_or xs k d
-get-set-later [] i k x d later = refl
-get-set-later (z ∷ zs) i zero x d later = absurd (omega (arith, later))
-get-set-later (z ∷ zs) zero (suc k) x d later = refl
-get-set-later (z ∷ zs) (suc i) (suc k) x d later = get-set-later zs i k x d (omega (arith, later))
 
 module _ {X Y : Type 0} (f : X → Y → X × Y) where
   -- those up to a place are changed, and those behind it are as they were
@@ -78,74 +70,6 @@ module _ {X Y : Type 0} (f : X → Y → X × Y) where
   paired-still xs0 ys0 xs ys i x y h inside x_is y_is made =
       subst (λ (zs : List X). Paired xs0 ys0 zs ys (i + 1)) (set-self xs i x x_is)
       (subst (λ (ws : List Y). Paired xs0 ys0 (set xs i x) ws (i + 1)) (set-self ys i y y_is) (paired-more xs0 ys0 xs ys i x x y y h inside x_is y_is made))
-
-  -- beyond the last none is left to change
-  paired-past : (xs0 : List X) (ys0 : List Y) (xs : List X) (ys : List Y) (i : ℕ) → Paired xs0 ys0 xs ys i → length xs ≤ i → Paired xs0 ys0 xs ys (i + 1)
-  paired-past xs0 ys0 xs ys i h all =
-      let all' : length ys ≤ i = omega (arith, all, h.same) in
-      let more : length xs ≤ i + 1 = omega (arith, all) in
-      let more' : length ys ≤ i + 1 = omega (arith, all') in
-      let whole : take (i + 1) xs ≡ take i xs = take_all (i + 1) xs more ∙ sym (take_all i xs all) in
-      let whole' : take (i + 1) ys ≡ take i ys = take_all (i + 1) ys more' ∙ sym (take_all i ys all') in
-      let none : drop (i + 1) xs ≡ drop i xs = drop_all (i + 1) xs more ∙ sym (drop_all i xs all) in
-      let none' : drop (i + 1) ys ≡ drop i ys = drop_all (i + 1) ys more' ∙ sym (drop_all i ys all') in
-      record {
-        same = h.same;
-        count = h.count;
-        first = (λ j. whole j ++ (pairwise f (none j) (none' j)).0) ∙ h.first;
-        second = (λ j. whole' j ++ (pairwise f (none j) (none' j)).1) ∙ h.second;
-      }
-
-  -- those up to another place stay as they are
-  paired-skip : (xs0 : List X) (ys0 : List Y) (xs : List X) (ys : List Y) (i n : ℕ) (dx : X) (dy : Y) → Paired xs0 ys0 xs ys i
-      → ((k : ℕ) → i ≤ k → k < i + n → k < length xs → (get_or xs k dx, get_or ys k dy) ≡ f (get_or xs k dx) (get_or ys k dy)) → Paired xs0 ys0 xs ys (i + n)
-  paired-skip xs0 ys0 xs ys i zero dx dy h still =
-      let here : i ≡ i + 0 = omega arith in
-      subst (λ m. Paired xs0 ys0 xs ys m) here h
-  paired-skip xs0 ys0 xs ys i (suc n) dx dy h still =
-      let next : i + 1 + n ≡ i + suc n = omega arith in
-      let more : Paired xs0 ys0 xs ys (i + 1) =
-      elim (cases_lt i (length xs)) [
-        | inl inside ↦
-            paired-still xs0 ys0 xs ys i (get_or xs i dx) (get_or ys i dy) h inside (get-any xs i dx (get_or xs i dx) inside)
-            (get-any ys i dy (get_or ys i dy) (omega (arith, inside, h.same))) (still i (omega arith) (omega arith) inside)
-        | inr past ↦ paired-past xs0 ys0 xs ys i h past
-      ] in
-      subst (λ m. Paired xs0 ys0 xs ys m) next
-      (paired-skip xs0 ys0 xs ys (i + 1) n dx dy more (λ k low high inside. still k (omega (arith, low)) (omega (arith, high)) inside))
-
-  -- so are those of the second list from a place on
-  pub record Going (xs0 : List X) (ys0 : List Y) (xs : List X) (ys : List Y) (i : ℕ) (dy : Y) : Type 0 where
-    pub paired : Paired xs0 ys0 xs ys i
-    pub left : (k : ℕ) → i ≤ k → get_or ys k dy ≡ get_or ys0 k dy
-
-  -- the next that is changed is at another place: between them all stay as they are
-  pub going-to : (xs0 : List X) (ys0 : List Y) (xs : List X) (ys : List Y) (i j : ℕ) (dx : X) (dy : Y) → Going xs0 ys0 xs ys i dy → i ≤ j
-      → ((k : ℕ) → i ≤ k → k < j → k < length ys0 → (x : X) → f x (get_or ys0 k dy) ≡ (x, get_or ys0 k dy)) → length ys0 ≡ length xs0 → Going xs0 ys0 xs ys j dy
-  going-to xs0 ys0 xs ys i j dx dy h later idle same =
-      let far : i + (j - i) ≡ j = omega (arith, later) in
-      record {
-        paired = subst (λ m. Paired xs0 ys0 xs ys m) far
-            (paired-skip xs0 ys0 xs ys i (j - i) dx dy h.paired
-            (λ k low high inside.
-            let eq : get_or ys k dy ≡ get_or ys0 k dy = h.left k low in
-            let before_ : k < j = omega (arith, high, later) in
-            let there : k < length ys0 = omega (arith, inside, h.paired.count, same) in
-            sym (ap (f (get_or xs k dx)) eq ∙ idle k low before_ there (get_or xs k dx) ∙ ap (λ (y : Y). (get_or xs k dx, y)) (sym eq))));
-        left = λ k low. h.left k (omega (arith, low, later));
-      }
-
-  pub going-none : (xs : List X) (ys : List Y) (dy : Y) → length ys ≡ length xs → Going xs ys xs ys 0 dy
-  going-none xs ys dy same = record { paired = paired-none xs ys same; left = λ k low. refl }
-
-  -- the next two are changed
-  pub going-more : (xs0 : List X) (ys0 : List Y) (xs : List X) (ys : List Y) (i : ℕ) (x x' : X) (y y' dy : Y) → Going xs0 ys0 xs ys i dy → i < length xs
-      → x ≡ get_or xs i x → y ≡ get_or ys i y → (x', y') ≡ f x y → Going xs0 ys0 (set xs i x') (set ys i y') (i + 1) dy
-  going-more xs0 ys0 xs ys i x x' y y' dy h inside x_is y_is made =
-      record {
-        paired = paired-more xs0 ys0 xs ys i x x' y y' h.paired inside x_is y_is made;
-        left = λ k low. get-set-later ys i k y' dy (omega (arith, low)) ∙ h.left k (omega (arith, low));
-      }
 
   pub paired-all : (xs0 : List X) (ys0 : List Y) (xs : List X) (ys : List Y) (i : ℕ) → Paired xs0 ys0 xs ys i → length xs ≤ i
       → (xs ≡ (pairwise f xs0 ys0).0) × (ys ≡ (pairwise f xs0 ys0).1)

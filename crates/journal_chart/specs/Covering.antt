@@ -1,5 +1,5 @@
 -- Which allotments add nothing to a column, and which an arena may have. Private functions alone cite these words.
-use Rattle.std.specs.Prelude.{ℕ, ◌+◌, ◌-◌, ◌*◌, ◌/◌, ◌%◌, ◌^◌, ◌==◌, ◌&&◌, ◌||◌, Bool, nat_le, nat_lt, min, max, if◌then◌else◌, Option, None, Some}
+use Rattle.std.specs.Prelude.{ℕ, ◌+◌, ◌-◌, ◌*◌, ◌^◌, ◌==◌, ◌&&◌, ◌||◌, Bool, nat_le, nat_lt, min, max, if◌then◌else◌, Option, None, Some}
 use Rattle.journal_chart.specs.declared.span.Span.{Span}
 use Rattle.journal_chart.specs.declared.covered.Covered.{Covered}
 
@@ -38,5 +38,5 @@ abbrev pub exactly : ℕ → ℕ → ℕ → Option ℕ
 exactly request given asked =
     if (request == 0) || (given == 0) then Some 0
     else if given == asked then Some request
-    else if request * given % asked == 0 then Some (request * given / asked)
+    else if request == asked then Some given
     else None

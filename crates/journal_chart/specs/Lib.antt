@@ -7,4 +7,3 @@ pub mod Picture
 pub mod Highest
 pub mod Shares
 pub mod Steps
-pub mod Watching

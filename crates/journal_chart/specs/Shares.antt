@@ -1,5 +1,5 @@
 -- What the levels of a market are given of what they ask for. Private functions alone cite these words.
-use Rattle.std.specs.Prelude.{ℕ, ◌+◌, ◌*◌, ◌≤◌, nat_lt, if◌then◌else◌, List, [], ◌∷◌, is_some, replicate, slice_index}
+use Rattle.std.specs.Prelude.{◌≡◌, ℕ, ◌+◌, ◌*◌, ◌≤◌, nat_lt, if◌then◌else◌, List, [], ◌∷◌, is_some, replicate, slice_index}
 use Rattle.std.specs.List.{count_by}
 use Rattle.market_types.specs.State.{State}
 use Rattle.market_types.specs.Allotment.{assigned_to, demand, effective_limit_of, limit_of}
@@ -17,6 +17,12 @@ pub record Shared : Type 0 where
 pub record AreFew (given asked : List ℕ) : Type 0 where
   pub within : (place : ℕ) → slice_index given place ≤ slice_index asked place
   pub small : (place : ℕ) → slice_index asked place ≤ 1024 * 65535
+
+-- levels above so many, at most eight, are given nothing, and ask for nothing
+pub record AreNoneAbove (levels : ℕ) (given asked : List ℕ) : Type 0 where
+  pub few : levels ≤ 8
+  pub none_given : (place : ℕ) → levels ≤ place → slice_index given place ≡ 0
+  pub none_asked : (place : ℕ) → levels ≤ place → slice_index asked place ≡ 0
 
 -- those of no market
 abbrev pub no_shares : Shared

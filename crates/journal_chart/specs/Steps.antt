@@ -1,5 +1,5 @@
 -- What the code does to the lines of a chart, moment by moment. What it comes to is in Numbers.
-use Rattle.std.specs.Prelude.{ℕ, ◌+◌, ◌*◌, ◌/◌, ◌%◌, ◌==◌, ◌&&◌, ◌||◌, ◌-◌, Bool, not, true, false, nat_le, nat_lt, if◌then◌else◌, List, [], ◌∷◌, get_or, map, replicate, slice_index, unwrap_or, Option, Some, None}
+use Rattle.std.specs.Prelude.{ℕ, ◌+◌, ◌*◌, ◌/◌, ◌%◌, ◌==◌, ◌&&◌, ◌||◌, ◌-◌, Bool, true, false, nat_le, nat_lt, if◌then◌else◌, List, [], ◌∷◌, get_or, map, replicate, slice_index, unwrap_or, Option, Some, None}
 use Rattle.std.specs.Option.{option_map}
 use Rattle.market_types.specs.declared.command.Cmd.{Cmd}
 use Rattle.market_types.specs.declared.command.Cmd.TheVariants.{Open, Close, Priority, Resize, Request, Join, Stay, Leave}
@@ -120,8 +120,6 @@ passed_row cmd reply r = record r { stands = stands_after r.arena r.stands cmd r
 abbrev pub known_in : ℕ → ℕ → ℕ → Row → Known
 known_in place request active r =
     record {
-      arena = r.arena;
-      stands = r.stands;
       request = request;
       active = active;
       covered = covered (at r.allot place) (at r.recall place) (at r.hire place) active;
@@ -137,7 +135,7 @@ known_of place view r = known_in place (seen_number (λ (v : ArenaView). v.reque
 
 -- before it is looked at
 abbrev pub nothing_known : Known
-nothing_known = record { arena = 0; stands = None; request = 0; active = 0; covered = none_covered }
+nothing_known = record { request = 0; active = 0; covered = none_covered }
 
 -- what is known after an entry that is about the arena, where its reply tells that
 abbrev pub requested : Reply → Known → Option Known
@@ -179,9 +177,9 @@ is_same_share was now level =
 abbrev pub is_idle : Shared → Bool
 is_idle now = now.effective == 0
 
--- or no arena was allotted any worker, and none is; or the market has not so many levels, so that no arena stands there
+-- of a market of so many levels; or no arena was allotted any worker, and none is
 abbrev pub is_kept : Cmd → Shared → Shared → ℕ → ℕ → Bool
-is_kept cmd was now levels level = nat_lt levels level || ((is_idle was && is_idle now) || (keeps_order cmd && is_same_share was now level))
+is_kept cmd was now levels level = nat_le level levels && ((is_idle was && is_idle now) || (keeps_order cmd && is_same_share was now level))
 
 -- so for each of eight levels
 abbrev pub kept_levels : Cmd → Shared → Shared → ℕ → List Bool
@@ -263,19 +261,15 @@ own_row place s cmd reply now r (Some k) =
 -- a row that has the moment before in the same column
 abbrev pub near_row : ℕ → State → Cmd → Reply → Shared → List Bool → Row → Known → Row × Known
 near_row place s cmd reply now kept r k =
-    if is_just k.arena (subject cmd reply) then own_row place s cmd reply now r (retold cmd reply k)
-    else if stands_kept kept k.stands then (r, k)
-    else if is_covered_at now k k.stands then (r, k)
+    if is_just r.arena (subject cmd reply) then own_row place s cmd reply now r (retold cmd reply k)
+    else if stands_kept kept r.stands then (r, k)
+    else if is_covered_at now k r.stands then (r, k)
     else closed_row place s cmd reply k r r (option_map (share_of s now k r.arena) r.stands)
-
--- of the arena of a row this is known, by which such a row is left as it is, where the entry is about this arena
-abbrev pub is_passed_over : Shared → Option ℕ → List Bool → Known → Bool
-is_passed_over now about kept k = not (is_just k.arena about) && (stands_kept kept k.stands || is_covered_at now k k.stands)
 
 -- such a row after a command of a seat
 abbrev pub seat_row : ℕ → State → Cmd → Reply → Bool → Shared → Row → Known → Row × Known
 seat_row place s cmd reply more now r k =
-    if is_just k.arena (subject cmd reply) then own_row place s cmd reply now r (seated place more reply k r) else (r, k)
+    if is_just r.arena (subject cmd reply) then own_row place s cmd reply now r (seated place more reply k r) else (r, k)
 
 -- a row at the first moment of a column, by what is known of its arena at the moment before
 abbrev pub first_row : ℕ → State → Cmd → Reply → Shared → Row → Known → Row × Known

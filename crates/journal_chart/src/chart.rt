@@ -1,5 +1,5 @@
 //! A chart of a history, one moment after another.
-ghost use Rattle.std.specs.Prelude.{◌≡◌, ◌+◌, ◌*◌, ◌<◌, ◌^◌, ℕ, nat_le, if◌then◌else◌, List, [], ◌∷◌, ◌++◌, IfOk, length, true};
+ghost use Rattle.std.specs.Prelude.{◌≡◌, ◌+◌, ◌*◌, ◌/◌, ◌<◌, ◌^◌, ℕ, nat_le, if◌then◌else◌, List, [], ◌∷◌, ◌++◌, IfOk, length, true};
 ghost use Rattle.market_types.specs.State.{State};
 ghost use Rattle.market_types.specs.Step.{step};
 ghost use Rattle.journal_chart.specs.Columns.{width_of};
@@ -8,8 +8,8 @@ ghost use Rattle.journal_chart.specs.Shares.{shared_of};
 ghost use Rattle.journal_chart.specs.Steps.{begun_chart, first_chart, goes_on, halved_lines, is_still, near_chart, next_chart, now_shared, passed_chart, taken_chart};
 
 use crate::lines::Lines;
+use crate::row::Known;
 use crate::shares::Shares;
-use crate::watch::Watch;
 use market_core::Market;
 use market_types::{ArenaId, Cmd, Reply};
 use std::alloc::{AllocError, Global};
@@ -102,7 +102,7 @@ impl Chart {
     fn goes_on(&self) -> bool
         ensures { result ≡ goes_on self.now }
     {
-        self.moments % self.width > 0
+        place_of(self.moments, self.width) * self.width < self.moments
     }
 
     /// Takes the first moment, as `take` does, what is then known of the arenas, and what the levels are given.
@@ -110,7 +110,7 @@ impl Chart {
     #[inline(never)]
     fn look(
         &mut self,
-        known: &mut Watch,
+        known: &mut [Known],
         shares: &mut Shares,
         market: &Market,
         cmd: &Cmd,
@@ -134,7 +134,7 @@ impl Chart {
     #[inline(never)]
     fn begin(
         &mut self,
-        known: &mut Watch,
+        known: &mut [Known],
         shares: &mut Shares,
         market: &Market,
         cmd: &Cmd,
@@ -158,7 +158,7 @@ impl Chart {
     #[inline(never)]
     fn near(
         &mut self,
-        known: &mut Watch,
+        known: &mut [Known],
         shares: &mut Shares,
         market: &Market,
         cmd: &Cmd,
@@ -171,7 +171,7 @@ impl Chart {
         ensures known { known.new ≡ (near_chart market.now cmd.now reply.now (record { chart = self.old; known = known.old; shares = shares.old })).known }
         ensures shares { shares.new ≡ now_shared cmd.now market.now shares.old }
     {
-        let place = (self.moments / self.width) as usize;
+        let place = place_of(self.moments, self.width) as usize;
         self.lines.near(known, shares, place, market, cmd, reply);
         self.moments += 1;
     }
@@ -182,7 +182,7 @@ impl Chart {
     #[inline]
     pub(crate) fn take_next(
         &mut self,
-        known: &mut Watch,
+        known: &mut [Known],
         shares: &mut Shares,
         market: &Market,
         cmd: &Cmd,
@@ -217,6 +217,20 @@ impl Chart {
     {
         self.lines.pass(cmd, reply);
     }
+}
+
+/// In which column of this width a moment is, that so many come before.
+// By a shift, since a column's width is a power of 2: a division takes as long as most moments do in all.
+#[inline]
+fn place_of(moments: u64, width: u64) -> u64
+    requires { 0 < width }
+    ensures { result ≡ moments / width }
+{
+    let shift = width.trailing_zeros();
+    if width == 1 << shift {
+        return moments >> shift;
+    }
+    moments / width
 }
 
 /// The market is as it was before an entry with this reply.

@@ -6,8 +6,8 @@ ghost use Rattle.journal_chart.specs.Journals.{Charts};
 ghost use Rattle.journal_chart.specs.Numbers.{chart_of};
 
 use crate::chart::Chart;
+use crate::row::Known;
 use crate::shares::Shares;
-use crate::watch::Watch;
 use allotment::no_carry_to_keep;
 use byte_devices::Source;
 use journal_replay::{Verdict, Watcher, watch_source};
@@ -28,7 +28,7 @@ struct Making {
     seen: u32,
     chart: Chart,
     /// What is known of each arena since the last moment that was taken.
-    known: Watch,
+    known: Vec<Known>,
     /// What each level was given of what it asked for at that moment.
     shares: Shares,
 }
@@ -39,9 +39,9 @@ impl Model for Making {
 
     ghost Value = { Making };
 
-    ghost view = { λ m. record { before = m.before; to = m.to; seen = m.seen; followed = record { chart = m.chart; known = m.known; shares = m.shares } } };
+    ghost view = { λ m. record { before = m.before; to = m.to; seen = m.seen; followed = record { chart = m.chart; known = m.known.items; shares = m.shares } } };
 
-    ghost invariant = { λ m. (m.chart.moments ≤ m.seen) × (length m.known ≡ length m.chart.lines.rows) };
+    ghost invariant = { λ m. (m.chart.moments ≤ m.seen) × (length m.known.items ≡ length m.chart.lines.rows) };
 }
 
 impl Watcher for Making {
@@ -62,8 +62,13 @@ impl Watcher for Making {
             self.seen += 1;
             return;
         }
-        self.chart
-            .take_next(&mut self.known, &mut self.shares, market, cmd, reply);
+        self.chart.take_next(
+            self.known.as_mut_slice(),
+            &mut self.shares,
+            market,
+            cmd,
+            reply,
+        );
         self.seen += 1;
     }
 }
@@ -96,7 +101,7 @@ pub fn chart_source<R: Source>(
         to,
         seen: 0,
         chart: Chart::new(alloc, columns, arenas)?,
-        known: Watch::new(alloc, arenas.len())?,
+        known: vec![in alloc; Known::nothing(); arenas.len()]?,
         shares: Shares::none(),
     };
     let (found, making) = watch_source(alloc, making, source)?;

@@ -18,7 +18,6 @@ mod row;
 mod shares;
 mod sheet;
 mod span;
-mod watch;
 
 pub use chart::Chart;
 pub use journal::chart_source;

@@ -7,9 +7,8 @@ ghost use Rattle.journal_chart.specs.Steps.{begun_lines, empty_lines, empty_row,
 
 use crate::line::Line;
 use crate::nearby::{first_rows, look_rows, moves_seat, near_rows, seat_rows};
-use crate::row::{Row, halve_rows, pass_rows, take_rows};
+use crate::row::{Known, Row, halve_rows, pass_rows, take_rows};
 use crate::shares::Shares;
-use crate::watch::Watch;
 use market_core::Market;
 use market_types::{ArenaId, Cmd, LimitView, Reply};
 use std::alloc::{AllocError, Global};
@@ -108,7 +107,7 @@ impl Lines {
     /// Takes the moment, as `take` does, what is then known of the arenas, and what the levels are given.
     pub(crate) fn look(
         &mut self,
-        known: &mut Watch,
+        known: &mut [Known],
         shares: &mut Shares,
         place: usize,
         market: &Market,
@@ -122,7 +121,7 @@ impl Lines {
     {
         let limits = market.limits();
         self.add_limits(place, &limits);
-        *shares = Shares::of(market, &limits);
+        shares.renew(market, &limits, cmd);
         look_rows(&mut self.rows, known, place, market, cmd, reply);
     }
 
@@ -130,7 +129,7 @@ impl Lines {
     /// then known of them, and what the levels are given.
     pub(crate) fn begin(
         &mut self,
-        known: &mut Watch,
+        known: &mut [Known],
         shares: &mut Shares,
         place: usize,
         market: &Market,
@@ -144,14 +143,14 @@ impl Lines {
     {
         let limits = market.limits();
         self.add_limits(place, &limits);
-        *shares = Shares::of(market, &limits);
+        shares.renew(market, &limits, cmd);
         first_rows(&mut self.rows, known, place, market, cmd, reply, shares);
     }
 
     /// Takes the moment after one that was taken into the same column, what is then known of the arenas, and what the levels are given.
     pub(crate) fn near(
         &mut self,
-        known: &mut Watch,
+        known: &mut [Known],
         shares: &mut Shares,
         place: usize,
         market: &Market,

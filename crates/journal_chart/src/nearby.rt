@@ -1,16 +1,14 @@
 //! The rows of a chart at a moment that goes into the column of the last, and at one that begins a column after another.
-ghost use Rattle.std.specs.Prelude.{◌≡◌, ℕ, ◌<◌, ◌≤◌, IfSome, Some, false, get_or, length, map, option_map, true};
-ghost use Rattle.std.specs.Int.{bit_at};
+ghost use Rattle.std.specs.Prelude.{◌≡◌, ◌≤◌, IfSome, length, map, option_map};
 ghost use Rattle.market_types.specs.Allotment.{allotment_of, is_just};
 ghost use Rattle.market_types.specs.Step.{limits_of};
 ghost use Rattle.market_core.specs.Divided.{IsDivisionOf};
 ghost use Rattle.journal_chart.specs.Shares.{shared_of};
-ghost use Rattle.journal_chart.specs.Steps.{after_seat, closed_row, each_row, first_row, first_rows, has_few, has_share, is_covered, is_covered_at, is_divided, is_idle, is_kept, is_passed_over, keeps_order, kept_levels, known_rows, moves_seat, near_row, needing_row, nothing_known, own_row, pairwise, requested, retold, seat_row, seat_rows, seated, settled_row, share_of, stands_kept, subject, taken_row, told};
+ghost use Rattle.journal_chart.specs.Steps.{after_seat, closed_row, each_row, first_row, first_rows, has_few, has_share, is_covered, is_covered_at, is_divided, is_idle, keeps_order, kept_levels, known_rows, moves_seat, near_row, needing_row, own_row, pairwise, requested, retold, seat_row, seat_rows, seated, settled_row, share_of, stands_kept, subject, taken_row, told};
 
 use crate::covered::{Covered, exactly};
 use crate::row::{Known, Row};
 use crate::shares::Shares;
-use crate::watch::Watch;
 use market_core::{Division, Market};
 use market_types::{ArenaId, Cmd, Level, LimitView, Reply};
 
@@ -22,7 +20,7 @@ pub(crate) fn moves_seat(cmd: &Cmd) -> bool
 }
 
 /// A command after which the arenas stand in the order in which they stood.
-fn keeps_order(cmd: &Cmd) -> bool
+pub(crate) fn keeps_order(cmd: &Cmd) -> bool
     ensures { result ≡ keeps_order cmd.now }
 {
     !matches!(cmd, Cmd::Priority(_, _))
@@ -88,25 +86,6 @@ fn is_idle(now: &Shares) -> bool
     now.effective() == 0
 }
 
-/// The arenas of a level, of so many, are allotted what they were, but for the one that the entry is about: the level is given what it was
-/// of what it asked for, or no arena was allotted any worker, and none is.
-#[inline]
-fn is_kept(cmd: &Cmd, was: &Shares, now: &Shares, levels: u32, level: Level) -> bool
-    ensures { result ≡ is_kept cmd.now was.now now.now levels level }
-{
-    if level.get() > levels {
-        return true;
-    }
-    if is_idle(was) && is_idle(now) {
-        return true;
-    }
-    keeps_order(cmd)
-        && is_divided(was, level)
-        && is_divided(now, level)
-        && was.given(level) == now.given(level)
-        && was.asked(level) == now.asked(level)
-}
-
 /// A column has all that an arena may be allotted of which this is covered, where the limit is 0.
 #[inline]
 fn has_few(now: &Shares, covered: Covered) -> bool
@@ -141,20 +120,17 @@ fn is_covered_at(now: &Shares, known: &Known, stands: Option<Level>) -> bool
 
 /// An arena that stands at such a level, or at none, is allotted what it was.
 #[inline]
-fn stands_kept(cmd: &Cmd, was: &Shares, now: &Shares, levels: u32, stands: Option<Level>) -> bool
-    ensures { result ≡ stands_kept (kept_levels cmd.now was.now now.now levels) stands }
+fn stands_kept(kept: &[bool; 8], stands: Option<Level>) -> bool
+    ensures { result ≡ stands_kept kept.now stands }
 {
     match stands {
-        Some(level) => {
-            // That there are 8 levels at most is what this call promises.
-            let _ = level.get();
-            is_kept(cmd, was, now, levels, level)
-        }
+        Some(level) => kept[level.index()],
         None => true,
     }
 }
 
-/// What the market allots an arena. The workers are divided once for all arenas that are asked about at a moment.
+/// What the market allots an arena where no worker may be active. The workers are divided once for all arenas that are asked about at a moment,
+/// since each division looks for the arena whose enqueued work is served.
 fn allotted(market: &Market, division: &mut Option<Division>, arena: ArenaId) -> u32
     requires { IfSome division.old (IsDivisionOf market.now) }
     ensures exact { result ≡ allotment_of market.now arena }
@@ -181,7 +157,7 @@ fn share_of(
     arena: ArenaId,
     level: Level,
 ) -> u32
-    requires divided { IfSome division.old (IsDivisionOf market.now) }
+    requires { IfSome division.old (IsDivisionOf market.now) }
     ensures exact { result ≡ share_of market.now now.now known.now arena level }
     ensures divided { IfSome division.new (IsDivisionOf market.now) }
 {
@@ -189,7 +165,7 @@ fn share_of(
         let told = exactly(known.request, now.given(level), now.asked(level));
         return match told {
             Some(share) => share,
-            None => allotted(market, division, arena),
+            None => market.allotment(arena),
         };
     }
     if is_idle(now) {
@@ -224,8 +200,8 @@ fn settle(
     }
 }
 
-/// The same in the column of the last moment, where the entry is not about the arena, and whether something else is known of it then. A row
-/// whose column has what the arena is allotted is left as it is.
+/// The same in the column of the last moment, where the entry is not about the arena. A row whose column has what the arena is allotted is
+/// left as it is.
 #[inline(never)]
 fn settle_other(
     row: &mut Row,
@@ -236,23 +212,20 @@ fn settle_other(
     cmd: &Cmd,
     reply: &Reply,
     now: &Shares,
-) -> bool
+)
     requires divided { IfSome division.old (IsDivisionOf market.now) }
     ensures exact { (row.new, known.new) ≡ closed_row place market.now cmd.now reply.now known.old row.old row.old (option_map (share_of market.now now.now known.old row.old.arena) row.old.stands) }
     ensures divided { IfSome division.new (IsDivisionOf market.now) }
-    ensures same { result ≡ false → known.new ≡ known.old }
 {
     match row.stands {
         Some(level) => {
             let share = share_of(market, division, now, known, row.arena, level);
-            if has_share(known, share) {
-                return false;
+            if !has_share(known, share) {
+                *known = row.tell(place, known, share);
             }
-            *known = row.tell(place, known, share);
         }
         None => *known = row.look(place, market, cmd, reply),
     }
-    true
 }
 
 /// The same where the entry is about the arena: what it asks for and has is put into the column.
@@ -274,11 +247,11 @@ fn settle_own(
     match row.stands {
         Some(level) => {
             let share = share_of(market, division, now, known, row.arena, level);
-            if !has_share(known, share) {
+            if has_share(known, share) {
+                row.add_needs(place, known);
+            } else {
                 *known = row.tell(place, known, share);
-                return;
             }
-            row.add_needs(place, known);
         }
         None => *known = row.look(place, market, cmd, reply),
     }
@@ -291,7 +264,8 @@ fn requested(reply: &Reply, known: &Known) -> Option<Known>
     match reply {
         Reply::Requested(request) | Reply::Resized(request) => Some(Known {
             request: *request,
-            ..*known
+            active: known.active,
+            covered: known.covered,
         }),
         _ => None,
     }
@@ -327,37 +301,38 @@ fn seated(place: usize, more: bool, reply: &Reply, known: &Known, row: &Row) -> 
     }
 }
 
-/// Takes the moment after an entry into the column of the row of the arena that it is about, which has the moment before, and what is then
-/// known of the arena, where this is told of it and its column has all that it may be allotted, or nothing is told. Else only what is told is
-/// put down, and what it is allotted has yet to be settled.
+/// Takes the moment after an entry into the column of the row of the arena that it is about, which has the moment before, where this is
+/// told of it, and what is then known of the arena.
 #[inline(always)]
-fn is_unsettled(
+fn own_row(
     row: &mut Row,
     known: &mut Known,
     place: usize,
     market: &Market,
+    division: &mut Option<Division>,
     cmd: &Cmd,
     reply: &Reply,
     now: &Shares,
     told: Option<Known>,
-) -> bool
-    ensures done { result ≡ false → (row.new, known.new) ≡ own_row place market.now cmd.now reply.now now.now row.old told }
-    ensures rest { result ≡ true → closed_row place market.now cmd.now reply.now known.new row.new (needing_row place known.new row.new) (option_map (share_of market.now now.now known.new row.new.arena) row.new.stands) ≡ own_row place market.now cmd.now reply.now now.now row.old told }
+)
+    requires divided { IfSome division.old (IsDivisionOf market.now) }
+    ensures exact { (row.new, known.new) ≡ own_row place market.now cmd.now reply.now now.now row.old told }
+    ensures divided { IfSome division.new (IsDivisionOf market.now) }
 {
     let Some(told) = told else {
         *known = row.look(place, market, cmd, reply);
-        return false;
+        return;
     };
     *known = told;
     if is_covered_at(now, known, row.stands) {
         row.add_needs(place, known);
-        return false;
+        return;
     }
-    true
+    settle_own(row, known, place, market, division, cmd, reply, now);
 }
 
 /// Takes the moment after a command and its reply, which are about one arena, into the column of a row at a place, which has the moment
-/// before, what is then known of its arena, and whether that is something else. A row to which the moment adds nothing is left as it is.
+/// before, and what is then known of its arena. A row to which the moment adds nothing is left as it is.
 // Always in its caller: a call for each row would have more words to hand over than most rows take.
 #[inline(always)]
 fn near_row(
@@ -368,136 +343,62 @@ fn near_row(
     division: &mut Option<Division>,
     cmd: &Cmd,
     reply: &Reply,
-    was: &Shares,
     now: &Shares,
     about: &Option<ArenaId>,
-) -> bool
+    kept: &[bool; 8],
+)
     requires divided { IfSome division.old (IsDivisionOf market.now) }
     requires about { about.now ≡ subject cmd.now reply.now }
-    ensures exact { (row.new, known.new) ≡ near_row place market.now cmd.now reply.now now.now (kept_levels cmd.now was.now now.now market.now.levels) row.old known.old }
+    ensures exact { (row.new, known.new) ≡ near_row place market.now cmd.now reply.now now.now kept.now row.old known.old }
     ensures divided { IfSome division.new (IsDivisionOf market.now) }
-    ensures same { result ≡ false → known.new ≡ known.old }
 {
-    if is_just(known.arena, about) {
+    if is_just(row.arena, about) {
         let told = retold(cmd, reply, known);
-        if is_unsettled(row, known, place, market, cmd, reply, now, told) {
-            settle_own(row, known, place, market, division, cmd, reply, now);
-        }
-        return true;
+        own_row(row, known, place, market, division, cmd, reply, now, told);
+        return;
     }
-    if stands_kept(cmd, was, now, market.levels(), known.stands) {
-        return false;
+    if stands_kept(kept, row.stands) {
+        return;
     }
-    if is_covered_at(now, known, known.stands) {
-        return false;
+    if is_covered_at(now, known, row.stands) {
+        return;
     }
-    settle_other(row, known, place, market, division, cmd, reply, now)
+    settle_other(row, known, place, market, division, cmd, reply, now);
 }
 
-/// A bit for each of the first 16 rows whose arena may be this one.
-#[inline]
-fn named_in(known: &Watch, about: &Option<ArenaId>) -> u64
-    ensures { (place : ℕ) → place < 16 → place < length known.now → bit_at result place ≡ 0 → is_just (get_or known.now place nothing_known).arena about.now ≡ false }
-{
-    match about {
-        Some(arena) => known.named(*arena),
-        None => 0,
-    }
-}
-
-/// A bit for each of the first 16 rows whose arena stands at this level and may not be allotted what it was, nor what its column has.
-#[inline]
-fn unsure_at(known: &Watch, now: &Shares, is_kept: bool, level: Level) -> u64
-    ensures { (place : ℕ) → place < 16 → place < length known.now → bit_at result place ≡ 0 → (get_or known.now place nothing_known).stands ≡ Some level
-        → is_kept ≡ false → is_covered now.now (get_or known.now place nothing_known) level ≡ true }
-{
-    if is_kept {
-        return 0;
-    }
-    if !is_divided(now, level) {
-        return 0xffff;
-    }
-    known.unsure(level, now.given(level), now.asked(level))
-}
-
-/// A bit for each of the first 16 rows that a moment may change, where the entry is about this arena, and the levels of a market of so many
-/// were given this, and are given that: a row without one is left as it is.
-fn unsettled_rows(
-    known: &Watch,
-    cmd: &Cmd,
-    was: &Shares,
-    now: &Shares,
-    levels: u32,
-    about: &Option<ArenaId>,
-) -> u64
-    requires { levels ≤ 8 }
-    ensures { (place : ℕ) → place < 16 → place < length known.now → bit_at result place ≡ 0
-        → is_passed_over now.now about.now (kept_levels cmd.now was.now now.now levels) (get_or known.now place nothing_known) ≡ true }
-{
-    known.stand_at_levels();
-    let mut bits = named_in(known, about);
-    for index in 0..levels {
-        let level = Level::from_index(index as usize);
-        bits |= unsure_at(known, now, is_kept(cmd, was, now, levels, level), level);
-    }
-    bits
-}
-
-/// The first place from one on that is beyond the first 16 or has a bit.
-#[inline]
-fn next_of(bits: u64, from: usize) -> usize
-    ensures later { from ≤ result }
-    ensures clear { (place : ℕ) → from ≤ place → place < result → (place < 16) × (bit_at bits place ≡ 0) }
-{
-    if from >= 16 {
-        return from;
-    }
-    let rest = bits >> from;
-    if rest == 0 {
-        return 16;
-    }
-    (from + rest.trailing_zeros() as usize).min(16)
-}
-
-/// Takes the moment into the columns of all rows, and what is then known of their arenas, where the entry is about this arena, and the
-/// levels were given this, and are given that.
+/// Takes the moment into the columns of all rows, and what is then known of their arenas, where the entry is about this arena, the levels
+/// are given this now, and the arenas of these are allotted what they were.
 #[inline(always)]
 fn rows_about(
     rows: &mut [Row],
-    known: &mut Watch,
+    known: &mut [Known],
     place: usize,
     market: &Market,
     cmd: &Cmd,
     reply: &Reply,
-    was: &Shares,
     now: &Shares,
     about: &Option<ArenaId>,
+    kept: &[bool; 8],
 )
     requires each { length known.old ≡ length rows.old }
     requires about { about.now ≡ subject cmd.now reply.now }
-    ensures rows { rows.new ≡ (pairwise (near_row place market.now cmd.now reply.now now.now (kept_levels cmd.now was.now now.now market.now.levels)) rows.old known.old).0 }
-    ensures known { known.new ≡ (pairwise (near_row place market.now cmd.now reply.now now.now (kept_levels cmd.now was.now now.now market.now.levels)) rows.old known.old).1 }
+    ensures rows { rows.new ≡ (pairwise (near_row place market.now cmd.now reply.now now.now kept.now) rows.old known.old).0 }
+    ensures known { known.new ≡ (pairwise (near_row place market.now cmd.now reply.now now.now kept.now) rows.old known.old).1 }
 {
-    let bits = unsettled_rows(known, cmd, was, now, market.levels(), about);
     let mut division = None;
-    let mut index = next_of(bits, 0);
-    while index < rows.len() {
-        let mut one = known.at(index);
-        if near_row(
+    for index in 0..rows.len() {
+        near_row(
             &mut rows[index],
-            &mut one,
+            &mut known[index],
             place,
             market,
             &mut division,
             cmd,
             reply,
-            was,
             now,
             about,
-        ) {
-            known.set(index, one);
-        }
-        index = next_of(bits, index + 1);
+            kept,
+        );
     }
 }
 
@@ -505,17 +406,17 @@ fn rows_about(
 // By cases, so that no row has to ask whether the entry is about any arena.
 fn each_row(
     rows: &mut [Row],
-    known: &mut Watch,
+    known: &mut [Known],
     place: usize,
     market: &Market,
     cmd: &Cmd,
     reply: &Reply,
-    was: &Shares,
     now: &Shares,
+    kept: &[bool; 8],
 )
     requires each { length known.old ≡ length rows.old }
-    ensures rows { rows.new ≡ (pairwise (near_row place market.now cmd.now reply.now now.now (kept_levels cmd.now was.now now.now market.now.levels)) rows.old known.old).0 }
-    ensures known { known.new ≡ (pairwise (near_row place market.now cmd.now reply.now now.now (kept_levels cmd.now was.now now.now market.now.levels)) rows.old known.old).1 }
+    ensures rows { rows.new ≡ (pairwise (near_row place market.now cmd.now reply.now now.now kept.now) rows.old known.old).0 }
+    ensures known { known.new ≡ (pairwise (near_row place market.now cmd.now reply.now now.now kept.now) rows.old known.old).1 }
 {
     let about = subject(cmd, reply);
     match about {
@@ -526,11 +427,11 @@ fn each_row(
             market,
             cmd,
             reply,
-            was,
             now,
             &Some(arena),
+            kept,
         ),
-        None => rows_about(rows, known, place, market, cmd, reply, was, now, &None),
+        None => rows_about(rows, known, place, market, cmd, reply, now, &None, kept),
     }
 }
 
@@ -538,7 +439,7 @@ fn each_row(
 /// of their arenas, and what the levels are given.
 pub(crate) fn near_rows(
     rows: &mut [Row],
-    known: &mut Watch,
+    known: &mut [Known],
     shares: &mut Shares,
     place: usize,
     market: &Market,
@@ -552,9 +453,8 @@ pub(crate) fn near_rows(
     ensures known { known.new ≡ (each_row place market.now cmd.now reply.now shares.old rows.old known.old).1 }
     ensures shares { shares.new ≡ shared_of market.now }
 {
-    let now = Shares::of(market, limits);
-    each_row(rows, known, place, market, cmd, reply, shares, &now);
-    *shares = now;
+    let kept = shares.renew(market, limits, cmd);
+    each_row(rows, known, place, market, cmd, reply, shares, &kept);
 }
 
 /// Takes the moment after a command of a seat and its reply, which are about one arena, into the column of a row at a place, which has the
@@ -574,11 +474,9 @@ fn seat_row(
     requires moved { moved.now ≡ subject cmd.now reply.now }
     ensures { (row.new, known.new) ≡ seat_row place market.now cmd.now reply.now more now.now row.old known.old }
 {
-    if is_just(known.arena, moved) {
+    if is_just(row.arena, moved) {
         let told = seated(place, more, reply, known, row);
-        if is_unsettled(row, known, place, market, cmd, reply, now, told) {
-            settle_own(row, known, place, market, &mut None, cmd, reply, now);
-        }
+        own_row(row, known, place, market, &mut None, cmd, reply, now, told);
     }
 }
 
@@ -586,7 +484,7 @@ fn seat_row(
 /// not.
 fn each_seat_row(
     rows: &mut [Row],
-    known: &mut Watch,
+    known: &mut [Known],
     place: usize,
     market: &Market,
     cmd: &Cmd,
@@ -599,13 +497,10 @@ fn each_seat_row(
     ensures known { known.new ≡ (pairwise (seat_row place market.now cmd.now reply.now more now.now) rows.old known.old).1 }
 {
     let moved = subject(cmd, reply);
-    let bits = named_in(known, &moved);
-    let mut index = next_of(bits, 0);
-    while index < rows.len() {
-        let mut one = known.at(index);
+    for index in 0..rows.len() {
         seat_row(
             &mut rows[index],
-            &mut one,
+            &mut known[index],
             place,
             market,
             cmd,
@@ -614,8 +509,6 @@ fn each_seat_row(
             now,
             &moved,
         );
-        known.set(index, one);
-        index = next_of(bits, index + 1);
     }
 }
 
@@ -623,7 +516,7 @@ fn each_seat_row(
 /// then known of their arenas, and how many seats are placed.
 pub(crate) fn seat_rows(
     rows: &mut [Row],
-    known: &mut Watch,
+    known: &mut [Known],
     shares: &mut Shares,
     place: usize,
     market: &Market,
@@ -668,7 +561,7 @@ fn first_row(
 /// Takes the first moment of a column into all rows, where this is known of their arenas at the moment before, and what is then known.
 pub(crate) fn first_rows(
     rows: &mut [Row],
-    known: &mut Watch,
+    known: &mut [Known],
     place: usize,
     market: &Market,
     cmd: &Cmd,
@@ -683,10 +576,9 @@ pub(crate) fn first_rows(
     let own = subject(cmd, reply);
     let mut division = None;
     for index in 0..rows.len() {
-        let mut one = known.at(index);
         first_row(
             &mut rows[index],
-            &mut one,
+            &mut known[index],
             place,
             market,
             &mut division,
@@ -695,14 +587,13 @@ pub(crate) fn first_rows(
             now,
             &own,
         );
-        known.set(index, one);
     }
 }
 
 /// Takes the first moment of all into all rows, and what is then known of their arenas.
 pub(crate) fn look_rows(
     rows: &mut [Row],
-    known: &mut Watch,
+    known: &mut [Known],
     place: usize,
     market: &Market,
     cmd: &Cmd,
@@ -713,7 +604,6 @@ pub(crate) fn look_rows(
     ensures known { known.new ≡ known_rows place market.now cmd.now reply.now rows.old }
 {
     for index in 0..rows.len() {
-        let one = rows[index].look(place, market, cmd, reply);
-        known.set(index, one);
+        known[index] = rows[index].look(place, market, cmd, reply);
     }
 }

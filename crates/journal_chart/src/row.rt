@@ -11,9 +11,6 @@ use std::alloc::{AllocError, Global};
 /// What is known of an arena between two moments at which it is looked at.
 #[derive(Clone, Copy)]
 pub(crate) struct Known {
-    pub(crate) arena: ArenaId,
-    /// The level at which it stands, if it lives.
-    pub(crate) stands: Option<Level>,
     /// How many workers it asks for.
     pub(crate) request: u32,
     /// How many seats are placed at it.
@@ -28,8 +25,6 @@ impl Known {
         ensures { result ≡ nothing_known }
     {
         Known {
-            arena: ArenaId::new(0),
-            stands: None,
             request: 0,
             active: 0,
             covered: Covered { from: 0, below: 0 },
@@ -120,8 +115,6 @@ impl Row {
             active,
         );
         Known {
-            arena: self.arena,
-            stands: self.stands,
             request,
             active,
             covered,

@@ -1,11 +1,12 @@
 //! What the levels of a market are given of what they ask for.
-ghost use Rattle.std.specs.Prelude.{◌≡◌, ◌-◌, ◌*◌, ◌≤◌, slice_index};
+ghost use Rattle.std.specs.Prelude.{◌≡◌, ◌-◌, ◌*◌, ◌≤◌, ◌==◌, ◌&&◌, ◌||◌, nat_lt, slice_index};
 ghost use Rattle.market_types.specs.Step.{limits_of};
 ghost use Rattle.journal_chart.specs.Shares.{no_shares, shared_of};
-ghost use Rattle.journal_chart.specs.Steps.{after_seat, is_joined};
+ghost use Rattle.journal_chart.specs.Steps.{after_seat, is_joined, keeps_order, kept_levels};
 
+use crate::nearby::keeps_order;
 use market_core::Market;
-use market_types::{Level, LimitView};
+use market_types::{Cmd, Level, LimitView};
 use std::marker::Model;
 
 /// What each level of a market is given of what it asks for, how many workers may be active, and how many seats are placed: contracts
@@ -15,18 +16,52 @@ pub(crate) struct Shares {
     limit: u32,
     effective: u32,
     placed: u32,
+    /// Levels above so many are given nothing, and ask for nothing.
+    levels: usize,
     given: [u64; 8],
     asked: [u64; 8],
 }
 
 impl Model for Shares {
-    ghost use Rattle.journal_chart.specs.Shares.{AreFew, Shared};
+    ghost use Rattle.journal_chart.specs.Shares.{AreFew, AreNoneAbove, Shared};
 
     ghost Value = { Shared };
 
     ghost view = { λ s. record { limit = s.limit; effective = s.effective; placed = s.placed; given = s.given; asked = s.asked } };
 
-    ghost invariant = { λ s. AreFew s.given s.asked };
+    ghost invariant = { λ s. AreFew s.given s.asked × AreNoneAbove s.levels s.given s.asked };
+}
+
+/// Before a command and after it no worker may be active, not even one for enqueued work.
+#[inline(always)]
+fn is_idle(was: u32, now: u32) -> bool
+    ensures { result ≡ ((was == 0) && (now == 0)) }
+{
+    was == 0 && now == 0
+}
+
+/// Before a command and after it some worker may be active, and the arenas stand in the order in which they stood.
+#[inline(always)]
+fn is_divided(cmd: &Cmd, was: u32, now: u32) -> bool
+    ensures { result ≡ (keeps_order cmd.now && (nat_lt 0 was && nat_lt 0 now)) }
+{
+    keeps_order(cmd) && (was > 0 && now > 0)
+}
+
+/// A level is given what it was, and asks for what it did.
+#[inline(always)]
+fn is_same(was_given: u64, given: u64, was_asked: u64, asked: u64) -> bool
+    ensures { result ≡ ((was_given == given) && (was_asked == asked)) }
+{
+    was_given == given && was_asked == asked
+}
+
+/// A level's arenas are allotted what they were, but for the one that a command is about.
+#[inline(always)]
+fn is_kept(idle: bool, divided: bool, same: bool) -> bool
+    ensures { result ≡ (idle || (divided && same)) }
+{
+    idle || (divided && same)
 }
 
 impl Shares {
@@ -38,35 +73,44 @@ impl Shares {
             limit: 0,
             effective: 0,
             placed: 0,
+            levels: 0,
             given: [0; 8],
             asked: [0; 8],
         }
     }
 
-    /// Those of a market with these limits.
+    /// Those of a market with these limits, after a command, in place of those before it; and which levels' arenas are allotted what they were.
+    // In place: to make them anew and put them where those before were takes three copies, of words that were just written apart.
     #[inline]
-    pub(crate) fn of(market: &Market, limits: &LimitView) -> Shares
+    pub(crate) fn renew(&mut self, market: &Market, limits: &LimitView, cmd: &Cmd) -> [bool; 8]
         requires { limits.now ≡ limits_of market.now }
-        ensures { result ≡ shared_of market.now }
+        ensures shares { self.new ≡ shared_of market.now }
+        ensures kept { result ≡ kept_levels cmd.now self.old (shared_of market.now) market.now.levels }
     {
-        let mut given = [0; 8];
-        let mut asked = [0; 8];
+        let levels = market.levels() as usize;
+        let idle = is_idle(self.effective, limits.effective);
+        let divided = is_divided(cmd, self.limit, limits.limit);
+        let mut kept = [false; 8];
         let mut left = u64::from(limits.effective);
         // No level above those of the market, whose number most often is small, takes any time.
-        for place in 0..market.levels() as usize {
+        for place in 0..levels {
             let demand = market.demand(Level::from_index(place));
             let share = demand.min(left);
-            asked[place] = demand;
-            given[place] = share;
             left -= share;
+            let same = is_same(self.given[place], share, self.asked[place], demand);
+            kept[place] = is_kept(idle, divided, same);
+            self.given[place] = share;
+            self.asked[place] = demand;
         }
-        Shares {
-            limit: limits.limit,
-            effective: limits.effective,
-            placed: market.placed(),
-            given,
-            asked,
+        for place in levels..self.levels {
+            self.given[place] = 0;
+            self.asked[place] = 0;
         }
+        self.limit = limits.limit;
+        self.effective = limits.effective;
+        self.placed = market.placed();
+        self.levels = levels;
+        kept
     }
 
     /// Those after a command of a seat, and whether one more seat is placed than before.

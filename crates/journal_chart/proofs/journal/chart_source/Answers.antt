@@ -1,9 +1,8 @@
 use Rattle.std.proofs.Common.{length, refl, sym, ap, ◌∙◌, subst, arith}
 use Rattle.std.proofs.lemmas.List.{length-map}
-use Rattle.std.proofs.lemmas.Simd.{length-replicate}
 use Rattle.market_types.specs.State.{opening_to}
 use Rattle.journal_chart.specs.Numbers.{Charted}
-use Rattle.journal_chart.specs.Steps.{Making, nothing_known}
+use Rattle.journal_chart.specs.Steps.{Making}
 use Rattle.journal_chart.specs.Journals.{Charts}
 use Rattle.journal_chart.proofs.Making.{charts}
 use Rattle.journal_chart.proofs.journal.chart_source.Goals as goal
@@ -12,7 +11,7 @@ pub invariant_of-making : goal.invariant_of-making
 invariant_of-making g c =
     let new = c.in_ok-new.ensures.opened (opening_to 1 1 1 1 1) refl in (
       omega (arith, ap (λ (d : Charted). d.moments) new),
-      omega (arith, ap length c.in_ok-new-2.ensures, length-replicate (length c.args.arenas.now) nothing_known, ap (λ (d : Charted). length d.lines.rows) new ∙ length-map c.args.arenas.now _),
+      omega (arith, c.in_ok-vec.ensures.len, c.in_ok-vec.field-0.ok.0, ap (λ (d : Charted). length d.lines.rows) new ∙ length-map c.args.arenas.now _),
     )
 
 pub returns-clause-charts : goal.returns-clause-charts

@@ -2,5 +2,5 @@ use Rattle.std.proofs.Common.{arith}
 use Rattle.journal_chart.proofs.Charts.{wide}
 use Rattle.journal_chart.proofs.chart.Chart.goes_on.Goals as goal
 
-pub nonzero_rem-result : goal.nonzero_rem-result
-nonzero_rem-result c = omega (arith, c.self.invariant.1, wide c.self.inside.columns c.self.inside.moments c.self.invariant.0)
+pub place_of-requires : goal.place_of-requires
+place_of-requires c = omega (arith, c.self.invariant.1, wide c.self.inside.columns c.self.inside.moments c.self.invariant.0)

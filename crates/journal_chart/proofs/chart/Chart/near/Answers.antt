@@ -6,8 +6,8 @@ use Rattle.journal_chart.proofs.Charts.{charted, wide}
 use Rattle.journal_chart.proofs.Still.{width-still}
 use Rattle.journal_chart.proofs.chart.Chart.near.Goals as goal
 
-pub nonzero_div-place : goal.nonzero_div-place
-nonzero_div-place c = omega (arith, c.self.invariant.1, wide c.self.inside.columns c.self.inside.moments c.self.invariant.0)
+pub place_of-place-requires : goal.place_of-place-requires
+place_of-place-requires c = omega (arith, c.self.invariant.1, wide c.self.inside.columns c.self.inside.moments c.self.invariant.0)
 
 pub invariant_of-self : goal.invariant_of-self
 invariant_of-self c = (c.self.invariant.0, c.self.invariant.1 ∙ width-still c.self.inside.columns c.self.inside.moments c.self.invariant.0 (ap goes_on c.self.view_is ∙ c.requires.on))
@@ -19,6 +19,7 @@ returns-clause-chart c =
     let width : c.self.inside.width ≡ width_of c.self.inside.columns (n + 1) =
     c.self.invariant.1 ∙ width-still c.self.inside.columns n c.self.invariant.0 (ap goes_on c.self.view_is ∙ c.requires.on) in
     (λ i. charted c.self.inside.columns (n + 1) (c.near.ensures.lines i))
+    ∙ (λ i. charted c.self.inside.columns (n + 1) (near_lines (c.place_of-place.ensures i) s c.args.cmd.now c.args.reply.now c.args.shares.now c.args.known.now c.self.inside.lines))
     ∙ (λ i. charted c.self.inside.columns (n + 1) (near_lines (n / width i) s c.args.cmd.now c.args.reply.now c.args.shares.now c.args.known.now c.self.inside.lines))
     ∙ ap (λ (d : Charted). (near_chart s c.args.cmd.now c.args.reply.now (record { chart = d; known = c.args.known.now; shares = c.args.shares.now })).chart) c.self.view_is
 
@@ -29,5 +30,6 @@ returns-clause-known c =
     let width : c.self.inside.width ≡ width_of c.self.inside.columns (n + 1) =
     c.self.invariant.1 ∙ width-still c.self.inside.columns n c.self.invariant.0 (ap goes_on c.self.view_is ∙ c.requires.on) in
     c.near.ensures.known
+    ∙ (λ i. (near_rows (c.place_of-place.ensures i) s c.args.cmd.now c.args.reply.now c.args.shares.now c.self.inside.lines.rows c.args.known.now).1)
     ∙ (λ i. (near_rows (n / width i) s c.args.cmd.now c.args.reply.now c.args.shares.now c.self.inside.lines.rows c.args.known.now).1)
     ∙ ap (λ (d : Charted). (near_chart s c.args.cmd.now c.args.reply.now (record { chart = d; known = c.args.known.now; shares = c.args.shares.now })).known) c.self.view_is

@@ -1,17 +1,24 @@
-use Rattle.std.proofs.Common.{◌≡◌, length, ◌+◌, false, nat_le, nat_lt, refl, ap, ◌∙◌, arith}
+use Rattle.std.proofs.Common.{◌≡◌, List, length, drop, ◌+◌, ◌++◌, false, nat_le, nat_lt, refl, ap, ◌∙◌, arith}
 use Rattle.std.proofs.lemmas.Bool.Decides.{nat_tests}
+use Rattle.std.proofs.lemmas.List.{length-append, length-drop, length-take}
+use Rattle.std.specs.Vec.{with_items}
+use Rattle.journal_chart.specs.declared.row.Known.{Known}
 use Rattle.journal_chart.specs.Numbers.{Charted}
 use Rattle.journal_chart.specs.Steps.{Making, made_more, next_chart}
+use Rattle.journal_chart.proofs.Mapped.{written-over}
 use Rattle.journal_chart.proofs.Next.{next-more}
 use Rattle.journal_chart.proofs.journal.MakingWatcher.see.Goals as goal
 
 pub invariant_of-self-2 : goal.invariant_of-self-2
 invariant_of-self-2 c =
-    let more = next-more c.args.market.now c.args.cmd.now c.args.reply.now (record { chart = c.self.inside.chart; known = c.self.inside.known; shares = c.self.inside.shares }) in
+    let more = next-more c.args.market.now c.args.cmd.now c.args.reply.now (record { chart = c.self.inside.chart; known = c.as_mut_slice.result.now; shares = c.self.inside.shares }) in
     let moments = ap (λ (d : Charted). d.moments) c.take_next.ensures.chart ∙ more.moments in
     let rows = ap (λ (d : Charted). length d.lines.rows) c.take_next.ensures.chart ∙ more.rows in
-    let known = ap length c.take_next.ensures.known ∙ more.known c.self.invariant.1 in
-    (omega (arith, moments, c.self.invariant.0), omega (arith, rows, known))
+    let fresh : List Known = c.take_next.new.known in
+    let rest : List Known = drop (length fresh) c.self.inside.known.items in (
+      omega (arith, moments, c.self.invariant.0),
+      omega (arith, length-take c.self.inside.known.len (fresh ++ rest), length-append fresh rest, length-drop (length fresh) c.self.inside.known.items, rows, c.self.invariant.1, c.self.inside.known.ok.0),
+    )
 
 pub returns : goal.returns
 returns c =
@@ -19,13 +26,17 @@ returns c =
     let cmd = c.args.cmd.now in
     let reply = c.args.reply.now in
     let inside = c.self.inside in
-    let followed : record { chart = c.take_next.new.self; known = c.take_next.new.known; shares = c.take_next.new.shares }
-    ≡ next_chart s cmd reply (record { chart = inside.chart; known = inside.known; shares = inside.shares }) =
-    λ i. record { chart = c.take_next.ensures.chart i; known = c.take_next.ensures.known i; shares = c.take_next.ensures.shares i } in
+    let known : (with_items inside.known c.take_next.new.known).items ≡ c.take_next.new.known =
+    written-over c.take_next.new.known inside.known.items inside.known.len (omega (arith, inside.known.ok.0)) (omega (arith, c.take_next.auto.known, ap length c.as_mut_slice.ensures.value)) in
+    let from = c.as_mut_slice.ensures.value in
+    let followed : record { chart = c.take_next.new.self; known = (with_items inside.known c.take_next.new.known).items; shares = c.take_next.new.shares }
+    ≡ next_chart s cmd reply (record { chart = inside.chart; known = inside.known.items; shares = inside.shares }) =
+    (λ i. record { chart = c.take_next.ensures.chart i; known = (known ∙ c.take_next.ensures.known) i; shares = c.take_next.ensures.shares i })
+    ∙ (λ i. next_chart s cmd reply (record { chart = inside.chart; known = from i; shares = inside.shares })) in
     let open_ : nat_le inside.to inside.seen ≡ false = let e = c.if-self.false in grind (arith, nat_tests) in
     let late : nat_lt inside.seen inside.before ≡ false = let e = c.if-self-2.false in grind (arith, nat_tests) in
-    let made : record { before = inside.before; to = inside.to; seen = inside.seen + 1; followed = next_chart s cmd reply (record { chart = inside.chart; known = inside.known; shares = inside.shares }) }
-    ≡ made_more (record { before = inside.before; to = inside.to; seen = inside.seen; followed = record { chart = inside.chart; known = inside.known; shares = inside.shares } }) s cmd reply =
+    let made : record { before = inside.before; to = inside.to; seen = inside.seen + 1; followed = next_chart s cmd reply (record { chart = inside.chart; known = inside.known.items; shares = inside.shares }) }
+    ≡ made_more (record { before = inside.before; to = inside.to; seen = inside.seen; followed = record { chart = inside.chart; known = inside.known.items; shares = inside.shares } }) s cmd reply =
     rw (open_, late) refl in
     (λ i. record { before = inside.before; to = inside.to; seen = inside.seen + 1; followed = followed i })
     ∙ made

@@ -1,0 +1,183 @@
+use Rattle.std.specs.Prelude.{◌==◌, ◌&&◌, ◌||◌, nat_lt, nat_le, slice_index}
+use Rattle.std.proofs.Common.{◌≡◌, ℕ, zero, suc, ◌+◌, ◌-◌, ◌<◌, Bool, true, false, List, get_or, length, set, refl, sym, ap, subst, ◌∙◌, arith, inl, inr}
+use Rattle.std.proofs.lemmas.Bool.{cases_eq, cases_lt, le-leb, lt-leb}
+use Rattle.std.proofs.lemmas.List.{ext_get_or, get_or-set_same, get_or-set_other}
+use Rattle.std.proofs.Math.ListN.{length-set}
+use Rattle.market_types.specs.State.{State}
+use Rattle.market_types.specs.Allotment.{demand, effective_limit_of}
+use Rattle.market_types.specs.declared.command.Cmd.{Cmd}
+use Rattle.market_types.specs.declared.reply.LimitView.{LimitView}
+use Rattle.journal_chart.specs.Shares.{Shared, shared_of}
+use Rattle.journal_chart.specs.Steps.{is_kept, keeps_order, kept_levels}
+use Rattle.journal_chart.proofs.Assigning.{Assigning, Cleared, Renewing, asked-all, assigning-all, cleared-none, given-all, renewing-more}
+use Rattle.journal_chart.proofs.shares.Shares.renew.Goals as goal
+use Rattle.journal_chart.proofs.shares.Shares.renew.Goals.{After-loop-place-2}
+
+-- ---- which levels are kept
+
+kept-at : (cmd : Cmd) (was now : Shared) (levels j : ℕ) → j < 8 → get_or (kept_levels cmd was now levels) j false ≡ is_kept cmd was now levels (j + 1)
+kept-at cmd was now levels zero inside = refl
+kept-at cmd was now levels (suc zero) inside = refl
+kept-at cmd was now levels (suc (suc zero)) inside = refl
+kept-at cmd was now levels (suc (suc (suc zero))) inside = refl
+kept-at cmd was now levels (suc (suc (suc (suc zero)))) inside = refl
+kept-at cmd was now levels (suc (suc (suc (suc (suc zero))))) inside = refl
+kept-at cmd was now levels (suc (suc (suc (suc (suc (suc zero)))))) inside = refl
+kept-at cmd was now levels (suc (suc (suc (suc (suc (suc (suc zero))))))) inside = refl
+kept-at cmd was now levels (suc (suc (suc (suc (suc (suc (suc (suc n)))))))) inside = absurd (omega (arith, inside))
+
+kept-above : (cmd : Cmd) (was now : Shared) (levels level : ℕ) → levels < level → is_kept cmd was now levels level ≡ false
+kept-above cmd was now levels level above = rw (lt-leb level levels above) refl
+
+-- a level that there is, by whether the limits divide workers
+tests : (idle order was now same : Bool) → (idle || ((order && (was && now)) && same)) ≡ (idle || (order && (((was && true) && (now && true)) && same)))
+tests true order was now same = refl
+tests false false was now same = refl
+tests false true false now same = refl
+tests false true true false same = refl
+tests false true true true same = refl
+
+kept-form : (cmd : Cmd) (was now : Shared) (levels j : ℕ) → j < levels → j < 8
+    → (((was.effective == 0) && (now.effective == 0)) || ((keeps_order cmd && (nat_lt 0 was.limit && nat_lt 0 now.limit)) && ((slice_index was.given j == slice_index now.given j) && (slice_index was.asked j == slice_index now.asked j))))
+    ≡ is_kept cmd was now levels (j + 1)
+kept-form cmd was now levels j inside few =
+    let place : j + 1 - 1 ≡ j = omega arith in
+    let low : nat_le 1 (j + 1) ≡ true = le-leb 1 (j + 1) (omega arith) in
+    let high : nat_le (j + 1) 8 ≡ true = le-leb (j + 1) 8 (omega (arith, few)) in
+    let there : nat_le (j + 1) levels ≡ true = le-leb (j + 1) levels (omega (arith, inside)) in
+    rw (there, low, high, place) (tests ((was.effective == 0) && (now.effective == 0)) (keeps_order cmd) (nat_lt 0 was.limit) (nat_lt 0 now.limit) ((slice_index was.given j == slice_index now.given j) && (slice_index was.asked j == slice_index now.asked j)))
+
+-- ---- a level more
+
+pub loop-place-preserved : goal.loop-place-preserved
+loop-place-preserved c =
+    let s : State = c.args.market.now in
+    let place : ℕ = c.loop-place.place in
+    let share : ℕ = c.min-share.result in
+    let wanted : ℕ = c.demand-demand.result in
+    let h = c.loop-place.invariant in
+    let next : place + 1 ≡ 1 + place = omega arith in
+    let few : place < 8 = omega (arith, c.loop-place-test.true, c.levels-levels.ensures.high) in
+    let inside : place < length c.loop-place.kept = omega (arith, few, h.size) in
+    let given_in : place < length c.loop-place.self-inside.given = omega (arith, few, h.renewing.size_given) in
+    let asked_in : place < length c.loop-place.self-inside.asked = omega (arith, few, h.renewing.size_asked) in
+    let test : ℕ → List ℕ → List ℕ → Bool =
+    λ j given asked. c.is_idle-idle.result || (c.is_divided-divided.result && ((slice_index c.self.inside.given j == slice_index given j) && (slice_index c.self.inside.asked j == slice_index asked j))) in
+    let new_given : List ℕ = set c.loop-place.self-inside.given place share in
+    let new_asked : List ℕ = set c.loop-place.self-inside.asked place wanted in
+    let given_here : slice_index new_given place ≡ share = get_or-set_same c.loop-place.self-inside.given place share 0 given_in in
+    let asked_here : slice_index new_asked place ≡ wanted = get_or-set_same c.loop-place.self-inside.asked place wanted 0 asked_in in
+    let was_given : slice_index c.loop-place.self-inside.given place ≡ slice_index c.self.inside.given place = h.renewing.rest_given place (omega arith) in
+    let was_asked : slice_index c.loop-place.self-inside.asked place ≡ slice_index c.self.inside.asked place = h.renewing.rest_asked place (omega arith) in
+    let same : c.is_same-same.result ≡ ((slice_index c.self.inside.given place == slice_index new_given place) && (slice_index c.self.inside.asked place == slice_index new_asked place)) =
+    c.is_same-same.ensures ∙ (λ i. (was_given i == sym given_here i) && (was_asked i == sym asked_here i)) in
+    record {
+      renewing = renewing-more s (effective_limit_of s) c.self.inside.given c.self.inside.asked c.loop-place.self-inside.given c.loop-place.self-inside.asked c.loop-place.left place wanted share h.renewing
+          few (omega (arith, c.loop-place-test.true, c.levels-levels.ensures.exact))
+          (c.demand-demand.ensures.exact ∙ ap (demand s) (c.from_index.ensures ∙ next)) c.demand-demand.ensures.small c.min-share.ensures;
+      old = h.old;
+      size = length-set c.loop-place.kept place c.is_kept.result ∙ h.size;
+      told = λ j less. elim (cases_eq j place) [
+        | inl at ↦
+            ap (λ k. get_or (set c.loop-place.kept place c.is_kept.result) k false) at ∙ get_or-set_same c.loop-place.kept place c.is_kept.result false inside
+            ∙ c.is_kept.ensures ∙ ap (λ b. c.is_idle-idle.result || (c.is_divided-divided.result && b)) same ∙ ap (λ k. test k new_given new_asked) (sym at)
+        | inr other ↦
+            get_or-set_other c.loop-place.kept place j c.is_kept.result false other ∙ h.told j (omega (arith, less, other))
+            ∙ (λ i. c.is_idle-idle.result || (c.is_divided-divided.result && ((slice_index c.self.inside.given j == sym (get_or-set_other c.loop-place.self-inside.given place j share 0 other) i) && (slice_index c.self.inside.asked j == sym (get_or-set_other c.loop-place.self-inside.asked place j wanted 0 other) i))))
+      ];
+      rest = λ j past. get_or-set_other c.loop-place.kept place j c.is_kept.result false (λ e. omega (arith, e, past)) ∙ h.rest j (omega (arith, past));
+    }
+
+pub loop-place-2-init : goal.loop-place-2-init
+loop-place-2-init c =
+    record {
+      given = cleared-none c.levels-levels.result c.loop-place.self-inside.given;
+      asked = cleared-none c.levels-levels.result c.loop-place.self-inside.asked;
+      low = omega arith;
+      high = omega (arith, c.loop-place.invariant.old, c.self.invariant.1.few);
+    }
+
+-- ---- all levels
+
+module _ (c : After-loop-place-2) where
+  abbrev s : State
+  s = c.args.market.now
+
+  levels : c.levels-levels.result ≡ s.levels
+  levels = omega (arith, c.levels-levels.ensures.exact)
+
+  whole : Assigning s (effective_limit_of s) c.loop-place-2.self-inside.given c.loop-place-2.self-inside.asked c.loop-place.left s.levels
+  whole =
+      let all : c.loop-place.place ≡ s.levels = omega (arith, c.loop-place-test.false, c.loop-place.auto.place-end, levels) in
+      let renewed : Renewing s (effective_limit_of s) c.self.inside.given c.self.inside.asked c.loop-place.self-inside.given c.loop-place.self-inside.asked c.loop-place.left s.levels =
+      subst (Renewing s (effective_limit_of s) c.self.inside.given c.self.inside.asked c.loop-place.self-inside.given c.loop-place.self-inside.asked c.loop-place.left) all c.loop-place.invariant.renewing in
+      let given : Cleared s.levels c.loop-place.self-inside.given c.loop-place-2.self-inside.given c.loop-place-2.place =
+      subst (λ n. Cleared n c.loop-place.self-inside.given c.loop-place-2.self-inside.given c.loop-place-2.place) levels c.loop-place-2.invariant.given in
+      let asked : Cleared s.levels c.loop-place.self-inside.asked c.loop-place-2.self-inside.asked c.loop-place-2.place =
+      subst (λ n. Cleared n c.loop-place.self-inside.asked c.loop-place-2.self-inside.asked c.loop-place-2.place) levels c.loop-place-2.invariant.asked in
+      assigning-all s (effective_limit_of s) c.self.inside.levels c.self.inside.given c.self.inside.asked c.loop-place.self-inside.given c.loop-place.self-inside.asked
+      c.loop-place-2.self-inside.given c.loop-place-2.self-inside.asked c.loop-place.left c.loop-place-2.place renewed c.self.invariant.1 given asked
+      (omega (arith, c.loop-place-2-test.false, c.loop-place.invariant.old))
+
+  given_all : c.loop-place-2.self-inside.given ≡ (shared_of s).given
+  given_all = given-all s (effective_limit_of s) c.loop-place-2.self-inside.given c.loop-place-2.self-inside.asked c.loop-place.left whole
+
+  asked_all : c.loop-place-2.self-inside.asked ≡ (shared_of s).asked
+  asked_all = asked-all s (effective_limit_of s) c.loop-place-2.self-inside.given c.loop-place-2.self-inside.asked c.loop-place.left whole
+
+  limit_is : c.args.limits.now.limit ≡ (shared_of s).limit
+  limit_is = ap (λ (v : LimitView). v.limit) c.requires
+
+  effective_is : c.args.limits.now.effective ≡ (shared_of s).effective
+  effective_is = ap (λ (v : LimitView). v.effective) c.requires
+
+  -- of a level it is told whether it is given what it was
+  told : (j : ℕ) → j < s.levels → j < 8 → get_or c.loop-place.kept j false ≡ is_kept c.args.cmd.now c.args.self.now (shared_of s) s.levels (j + 1)
+  told j inside few =
+      let cmd = c.args.cmd.now in
+      let was : Shared = c.args.self.now in
+      let now : Shared = shared_of s in
+      let idle : c.is_idle-idle.result ≡ ((was.effective == 0) && (now.effective == 0)) =
+      c.is_idle-idle.ensures ∙ (λ i. (((c.self.view_is i).effective) == 0) && ((effective_is i) == 0)) in
+      let divided : c.is_divided-divided.result ≡ (keeps_order cmd && (nat_lt 0 was.limit && nat_lt 0 now.limit)) =
+      c.is_divided-divided.ensures ∙ (λ i. keeps_order cmd && (nat_lt 0 ((c.self.view_is i).limit) && nat_lt 0 (limit_is i))) in
+      let was_given : slice_index c.self.inside.given j ≡ slice_index was.given j = ap (λ (v : Shared). slice_index v.given j) c.self.view_is in
+      let was_asked : slice_index c.self.inside.asked j ≡ slice_index was.asked j = ap (λ (v : Shared). slice_index v.asked j) c.self.view_is in
+      let given : slice_index c.loop-place.self-inside.given j ≡ slice_index now.given j = sym (c.loop-place-2.invariant.given.low j (omega (arith, inside, levels))) ∙ ap (λ xs. slice_index xs j) given_all in
+      let asked : slice_index c.loop-place.self-inside.asked j ≡ slice_index now.asked j = sym (c.loop-place-2.invariant.asked.low j (omega (arith, inside, levels))) ∙ ap (λ xs. slice_index xs j) asked_all in
+      c.loop-place.invariant.told j (omega (arith, inside, c.loop-place-test.false, levels))
+      ∙ (λ i. idle i || (divided i && ((was_given i == given i) && (was_asked i == asked i))))
+      ∙ kept-form cmd was now s.levels j inside few
+
+pub invariant_of-self : goal.invariant_of-self
+invariant_of-self c =
+    let here = (goal.at.invariant_of-self c).After-loop-place-2 in
+    let all = whole here in (
+      record { within = all.within; small = all.small },
+      record {
+        few = c.levels-levels.ensures.high;
+        none_given = λ place past. all.ungiven place (omega (arith, past, levels here));
+        none_asked = λ place past. all.unasked place (omega (arith, past, levels here));
+      },
+    )
+
+pub returns-clause-shares : goal.returns-clause-shares
+returns-clause-shares c =
+    let here = (goal.at.returns-clause-shares c).After-loop-place-2 in
+    λ i. record { limit = limit_is here i; effective = effective_is here i; placed = c.placed-self-inside.ensures.exact i; given = given_all here i; asked = asked_all here i }
+
+pub returns-clause-kept : goal.returns-clause-kept
+returns-clause-kept c =
+    let here = (goal.at.returns-clause-kept c).After-loop-place-2 in
+    let cmd = c.args.cmd.now in
+    let was : Shared = c.args.self.now in
+    let now : Shared = shared_of c.args.market.now in
+    let n : ℕ = c.args.market.now.levels in
+    ext_get_or false c.loop-place.kept (kept_levels cmd was now n) c.loop-place.invariant.size (λ j inside.
+    let few : j < 8 = omega (arith, inside, c.loop-place.invariant.size) in
+    elim (cases_lt j n) [
+      | inl low ↦ told here j low few ∙ sym (kept-at cmd was now n j few)
+      | inr above ↦
+          c.loop-place.invariant.rest j (omega (arith, above, c.loop-place.auto.place-end, levels here))
+          ∙ sym (kept-at cmd was now n j few ∙ kept-above cmd was now n (j + 1) (omega (arith, above)))
+    ])
