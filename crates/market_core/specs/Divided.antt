@@ -1,10 +1,12 @@
 -- How the workers of a market are divided at a moment.
-use Rattle.std.specs.Prelude.{◌≡◌, ℕ, zero, suc, ◌+◌, ◌-◌, ◌*◌, ◌<◌, ◌≤◌, List, slice_index}
+use Rattle.std.specs.Prelude.{◌≡◌, ℕ, zero, suc, ◌+◌, ◌-◌, ◌*◌, ◌<◌, ◌≤◌, List, Option, None, Some, length, slice_index}
 use Rattle.market_types.specs.State.{State}
-use Rattle.market_types.specs.Allotment.{limit_of, bound_of, assigned, at_level, demand}
+use Rattle.market_types.specs.Allotment.{limit_of, bound_of, assigned, assigned_to, at_level, demand, total_request}
 use Rattle.allotment.specs.Levels.{AreDemandsOf, IsLeveled, pick_of}
-use Rattle.arena_store.specs.Arenas.{StandOnce}
+use Rattle.arena_store.specs.Arenas.{StandOnce, level_rows}
 use Rattle.recall_hire.specs.declared.rows.Staffing.{Staffing}
+use Rattle.recall_hire.specs.declared.sharing.Sharing.{Sharing}
+use Rattle.recall_hire.specs.Shared.{CanShareAll, staffed}
 use Rattle.recall_hire.specs.Staffed.{rows_among}
 use Rattle.market_core.specs.declared.division.Division.{Division}
 use Rattle.market_core.specs.declared.division.LevelShare.{LevelShare}
@@ -17,7 +19,9 @@ pub record IsDivisionOf (s : State) (d : Division) : Type 0 where
   pub limit : d.limit ≡ limit_of s
   pub bound : d.bound ≡ bound_of s
   pub demands : AreDemandsOf s d.demands.values
+  pub size : length d.demands.values ≡ 8
   pub small : (index : ℕ) → slice_index d.demands.values index ≤ 1024 * 65535
+  pub given : d.assigned.values ≡ assigned_to d.demands.values d.bound
   pub assigned : (level : ℕ) → 1 ≤ level → level ≤ s.levels → slice_index d.assigned.values (level - 1) ≡ assigned s level
   pub within : (index : ℕ) → slice_index d.assigned.values index ≤ slice_index d.demands.values index
   pub picked : limit_of s ≡ 0 → d.picked ≡ pick_of s
@@ -46,3 +50,13 @@ pub record IsSharedAt (level : ℕ) (s : State) (share : LevelShare) : Type 0 wh
 -- private: the rows of a level's arenas
 abbrev pub rows_at : State → ℕ → List Staffing
 rows_at s level = rows_among s (at_level level s.arenas)
+
+-- private: shared out so, the level's workers go to its arenas as the market allots them, and the listing can go by it
+pub record IsSharingOf (level : ℕ) (s : State) (sharing : Sharing) : Type 0 where
+  pub fits : CanShareAll sharing 0 (total_request (at_level level s.arenas))
+  pub rows : staffed sharing s.seats 0 (level_rows level s.arenas) ≡ rows_at s level
+
+-- private: where no worker may be active, how all workers are shared out
+abbrev pub IsServing : State → Option Sharing → Type 0
+IsServing s None = 0 < limit_of s
+IsServing s (Some sharing) = (limit_of s ≡ 0) × ((level : ℕ) → IsSharingOf level s sharing)

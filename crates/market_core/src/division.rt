@@ -1,11 +1,9 @@
 //! How workers are divided at a moment.
-ghost use Rattle.std.specs.Prelude.{◌≡◌, ℕ, ◌-◌, ◌*◌, ◌<◌, ◌≤◌, slice_index, sum, if◌then◌else◌};
+ghost use Rattle.std.specs.Prelude.{◌≡◌, ℕ, ◌-◌, ◌*◌, ◌≤◌, slice_index, sum, if◌then◌else◌};
 ghost use Rattle.market_types.specs.Allotment.{is_just};
-ghost use Rattle.recall_hire.specs.declared.sharing.Sharing.TheVariants.{Carried, Picked};
 
 use crate::by_level::ByLevel;
 use market_types::{ArenaId, Level};
-use recall_hire::Sharing;
 
 /// How the workers of a market are divided at a moment: what the allotment of each arena follows from.
 #[derive(Clone, Copy)]
@@ -39,24 +37,6 @@ impl Division {
     {
         LevelShare {
             assigned: self.assigned.at(level),
-            demand: self.demands.at(level),
-        }
-    }
-
-    /// How the workers of a level are shared out among its arenas.
-    pub(crate) fn sharing(&self, level: Level) -> Sharing
-        ensures picked { self.now.limit ≡ 0 → result ≡ Picked self.now.picked self.now.bound }
-        ensures carried { 0 < self.now.limit
-            → result ≡ Carried (slice_index self.now.assigned.values (level - 1)) (slice_index self.now.demands.values (level - 1)) }
-    {
-        if self.limit == 0 {
-            return Sharing::Picked {
-                arena: self.picked,
-                workers: self.bound,
-            };
-        }
-        Sharing::Carried {
-            workers: self.assigned.at(level),
             demand: self.demands.at(level),
         }
     }

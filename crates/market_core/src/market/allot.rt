@@ -22,6 +22,7 @@ impl Market {
     /// What each level asks for, and 0 above the levels of the market.
     fn demands(&self) -> [u64; 8]
         ensures exact { AreDemandsOf self.now result }
+        ensures size { length result ≡ 8 }
         ensures small { (index : ℕ) → slice_index result index ≤ 1024 * 65535 }
         ensures leveled { IsLeveled self.now }
     {
@@ -289,7 +290,8 @@ impl Market {
         }
     }
 
-    /// How the workers are divided now, so that the allotments of many arenas can be asked with `allotment_by`. It takes no memory.
+    /// How the workers are divided now, for `allotment_by`: where no worker may be active, all allotments of a moment can be asked with one
+    /// division. It takes no memory.
     pub fn division(&self) -> Division
         ensures { IsDivisionOf self.now result }
     {
@@ -298,17 +300,18 @@ impl Market {
     }
 
     /// How many workers an arena is allotted, by how the workers are divided now; none where no living arena has this number. It is what
-    /// `allotment` tells, which divides the workers for each arena anew, and takes no memory.
+    /// `allotment` tells, which reckons what the arena's level is assigned anew, and divides all workers where none may be active. It takes
+    /// no memory.
     pub fn allotment_by(&self, arena: ArenaId, division: &Division) -> u32
         requires { IsDivisionOf self.now division.now }
         ensures { result ≡ allotment_of self.now arena }
     {
-        let Some(stored) = self.arenas.get(arena) else {
-            return 0;
-        };
         if division.limit == 0 {
             return division.mandatory_workers(arena);
         }
+        let Some(stored) = self.arenas.get(arena) else {
+            return 0;
+        };
         let mut visits = 0;
         self.carried_to(stored, division.share_at(stored.level()), &mut visits)
     }

@@ -1,18 +1,18 @@
 //! The arenas in the order in which they are served, beside what they are allotted and have.
-ghost use Rattle.std.specs.Prelude.{◌≡◌, ◌+◌, ◌*◌, ◌≤◌, length, IfOk, OnOk, IfSome};
+ghost use Rattle.std.specs.Prelude.{◌≡◌, ℕ, ◌+◌, ◌-◌, ◌*◌, ◌≤◌, length, IfOk, OnOk, IfSome};
 ghost use Rattle.market_types.specs.Allotment.{at_level, limit_of};
 ghost use Rattle.market_types.specs.Step.{counts_of};
 ghost use Rattle.recall_hire.specs.Staffed.{actives, imbalances, looks, need_among, need_of, searches};
 ghost use Rattle.recall_hire.specs.Shared.{IsListed};
 ghost use Rattle.arena_store.specs.Bits.{bits};
-ghost use Rattle.market_core.specs.Divided.{IsDivisionOf, IsSharedAt, left_after, rows_at};
+ghost use Rattle.market_core.specs.Divided.{IsServing, IsSharedAt, IsSharingOf, left_after, rows_at};
 ghost use Rattle.market_core.specs.Visits.{extra_visits, least_extra, least_listed, most_joined, most_listed, searched};
 
 use super::Market;
-use crate::division::{Division, LevelShare};
+use crate::division::LevelShare;
 use allotment::no_carry_to_keep;
 use market_types::{ArenaId, Level, Lists};
-use recall_hire::{first_in_need, hire, list};
+use recall_hire::{Sharing, first_in_need, hire, list};
 use std::alloc::{AllocError, Global};
 
 impl Market {
@@ -82,17 +82,74 @@ impl Market {
         )
     }
 
+    /// How workers are shared out where none may be active: all go to the arena whose enqueued work is served.
+    // Apart, as what finds that arena.
+    #[cold]
+    #[inline(never)]
+    fn mandatory_sharing(&self, visits: &mut u32) -> Sharing
+        requires none { limit_of self.now ≡ 0 }
+        requires uncounted { visits.old ≡ 0 }
+        ensures exact { (level : ℕ) → IsSharingOf level self.now result }
+        ensures least { least_extra self.now ≤ visits.new }
+        ensures visits { visits.new ≤ extra_visits self.now }
+        ensures few { visits.new ≤ 176 }
+    {
+        let division = &self.divide(visits);
+        Sharing::Picked {
+            arena: division.picked,
+            workers: division.bound,
+        }
+    }
+
+    /// How workers are shared out among all levels alike, where none may be active.
+    #[inline(always)]
+    fn served(&self, limit: u32, visits: &mut u32) -> Option<Sharing>
+        requires limit { limit ≡ limit_of self.now }
+        requires uncounted { visits.old ≡ 0 }
+        ensures exact { IsServing self.now result }
+        ensures least { least_extra self.now ≤ visits.new }
+        ensures visits { visits.new ≤ extra_visits self.now }
+        ensures few { visits.new ≤ 176 }
+    {
+        if limit == 0 {
+            Some(self.mandatory_sharing(visits))
+        } else {
+            None
+        }
+    }
+
+    /// How the workers of a level are shared out, where so many are left for it; those that it leaves are left then.
+    // No level behind it is looked at, as a division looks at all.
+    #[inline(always)]
+    fn sharing_at(&self, level: Level, served: &Option<Sharing>, left: &mut u64) -> Sharing
+        requires served { IsServing self.now served.now }
+        requires high { level ≤ self.now.levels }
+        requires left { left.old ≡ left_after self.now (level - 1) }
+        ensures exact { IsSharingOf level self.now result }
+        ensures left { left.new ≡ left_after self.now level }
+    {
+        if let Some(sharing) = served {
+            return *sharing;
+        }
+        no_carry_to_keep();
+        let part = self.part_of(level, *left);
+        *left = left.saturating_sub(part.demand);
+        Sharing::Carried {
+            workers: part.assigned,
+            demand: part.demand,
+        }
+    }
+
     /// Puts a level's arenas at the end of lists, each with how many workers it has too many or too few. Their seats are met.
     fn list_level(
         &self,
-        division: &Division,
+        sharing: Sharing,
         level: Level,
         unmet: &mut u32,
         lists: &mut Lists,
         visits: &mut u32,
     ) -> Result<(), AllocError>
-        requires divided { IsDivisionOf self.now division.now }
-        requires high { level ≤ self.now.levels }
+        requires shared { IsSharingOf level self.now sharing }
         requires unmet { actives (rows_at self.now level) ≤ unmet.old }
         requires room { visits.old ≤ length self.now.arenas + 176 }
         ensures listed { OnOk result (IsListed (rows_at self.now level) lists.old lists.new) }
@@ -102,11 +159,10 @@ impl Market {
         ensures once { OnOk result (visits.new ≤ visits.old + length (rows_at self.now level)) }
         ensures few { length self.now.arenas ≤ 1024 }
     {
-        no_carry_to_keep();
         list(
             &self.roster,
             &self.arenas.whole(level),
-            division.sharing(level),
+            sharing,
             unmet,
             lists,
             visits,
@@ -121,16 +177,20 @@ impl Market {
         ensures met_first { OnOk result (least_listed self.now ≤ visits.new) }
         ensures once { OnOk result (visits.new ≤ most_listed self.now) }
     {
-        let division = &self.divide(visits);
+        self.arenas.stand_once();
+        let limit = self.limit();
+        let served = self.served(limit, visits);
         // A count of its own stays in a register while rows are walked.
         let mut made = *visits;
+        let mut left = u64::from(limit);
         let mut unmet = self.roster.placed();
         let mut lists = Lists {
             arenas: Vec::new(alloc),
         };
         for level in 0..self.opening.levels {
             let level = Level::from_index(level as usize);
-            self.list_level(division, level, &mut unmet, &mut lists, &mut made)?;
+            let sharing = self.sharing_at(level, &served, &mut left);
+            self.list_level(sharing, level, &mut unmet, &mut lists, &mut made)?;
         }
         *visits = made;
         Ok(lists)

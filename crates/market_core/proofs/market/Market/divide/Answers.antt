@@ -1,6 +1,6 @@
 use Rattle.std.proofs.Common.{ap, subst, min, ◌≡◌, ◌∙◌}
 use Rattle.market_types.specs.State.{State}
-use Rattle.market_types.specs.Allotment.{bound_of, limit_of, effective_limit_of, total_request}
+use Rattle.market_types.specs.Allotment.{assigned_to, bound_of, limit_of, effective_limit_of, total_request}
 use Rattle.market_types.specs.declared.reply.LimitView.{LimitView}
 use Rattle.arena_store.specs.Arenas.{StandOnce}
 use Rattle.market_core.proofs.market.Market.divide.Goals as goal
@@ -19,7 +19,9 @@ returns-clause-exact c =
       limit = limit;
       bound = bound;
       demands = c.demands-demands.ensures.exact;
+      size = c.demands-demands.ensures.size;
       small = c.demands-demands.ensures.small;
+      given = c.assign.ensures.exact ∙ ap (assigned_to c.demands-demands.result) c.from-2.ensures;
       assigned = λ level low high. c.assign.ensures.in_market s c.demands-demands.ensures.exact (c.from-2.ensures ∙ bound) level low high;
       within = c.assign.ensures.no_more_than_asked;
       picked = λ none. elim c.if-limits-eq0.branch [

@@ -1,4 +1,4 @@
-use Rattle.std.proofs.Common.{arith, ap, ◌∙◌, ◌≡◌, ◌+◌, ◌-◌, ◌≤◌, suc, length}
+use Rattle.std.proofs.Common.{arith, ap, subst, ◌∙◌, ◌≡◌, ◌+◌, ◌-◌, ◌≤◌, suc, length}
 use Rattle.std.specs.Prelude.{is_some}
 use Rattle.std.specs.List.{count_by}
 use Rattle.recall_hire.specs.Staffed.{rows_of, rows_among, actives, imbalances, looks}
@@ -6,6 +6,7 @@ use Rattle.recall_hire.proofs.Listings.{looks-append}
 use Rattle.market_types.specs.declared.lists.Correction.TheVariants.{Recall, Hire}
 use Rattle.market_types.specs.Corrections.{counts_to}
 use Rattle.market_types.specs.State.{State}
+use Rattle.arena_store.specs.Arenas.{StandOnce}
 use Rattle.market_types.specs.Step.{counts_of}
 use Rattle.recall_hire.specs.Shared.{IsListed}
 use Rattle.market_core.specs.Divided.{rows_at}
@@ -23,14 +24,15 @@ loop-level-init c =
     let sound : IsSound s = rw c.self.view_is at c.self.invariant.sound in
     let lengths : length (levels_from 1 (s.levels - 0) s.arenas) ≡ length s.arenas = ap (λ n. length (levels_from 1 n s.arenas)) all ∙ in_order-length s sound.leveled in
     record {
+      left = omega (arith, c.from-left.ensures, c.limit-limit.ensures.exact);
       listed = listing-from s (s.levels - 0) (counts_to Recall c.new.result.items) (counts_to Hire c.new.result.items) all (ap (counts_to Recall) c.new.ensures.items) (ap (counts_to Hire) c.new.ensures.items);
-      unmet = unmet-begins s (s.levels - 0) c.placed-unmet.result c.divide.ensures.exact.once sound.leveled all (c.placed-unmet.ensures.exact ∙ ap (λ (t : State). count_by is_some t.seats) c.self.view_is);
+      unmet = unmet-begins s (s.levels - 0) c.placed-unmet.result (subst (λ (t : State). StandOnce t.arenas) c.self.view_is c.stand_once.ensures) sound.leveled all (c.placed-unmet.ensures.exact ∙ ap (λ (t : State). count_by is_some t.seats) c.self.view_is);
       looked = omega (arith, ap (λ xs. length (counts_to Recall xs)) c.new.ensures.items, ap (λ xs. length (counts_to Hire xs)) c.new.ensures.items);
       met_first =
           let placed : c.placed-unmet.result ≡ count_by is_some s.seats = c.placed-unmet.ensures.exact ∙ ap (λ (t : State). count_by is_some t.seats) c.self.view_is in
-          omega (arith, c.divide.ensures.least, ap (λ n. looks n (rows_of s)) placed, ap (λ n. looks c.placed-unmet.result (rows_among s (levels_from 1 n s.arenas))) all);
-      visits = omega (arith, lengths, c.divide.ensures.visits);
-      few = omega (arith, lengths, c.divide.ensures.few);
+          omega (arith, c.served-served.ensures.least, ap (λ n. looks n (rows_of s)) placed, ap (λ n. looks c.placed-unmet.result (rows_among s (levels_from 1 n s.arenas))) all);
+      visits = omega (arith, lengths, c.served-served.ensures.visits);
+      few = omega (arith, lengths, c.served-served.ensures.few);
     }
 
 pub list_level-requires-clause-unmet : goal.list_level-requires-clause-unmet
@@ -55,6 +57,7 @@ loop-level-preserved c =
     let met : c.loop-level.unmet ≡ c.list_level.new.unmet + actives (rows_at s (level + 1)) = rw c.from_index-level.ensures at c.in_ok-list_level.ensures.met in
     let added : IsListed (rows_at s (level + 1)) c.loop-level.lists c.list_level.new.lists = rw c.from_index-level.ensures at c.in_ok-list_level.ensures.listed in
     record {
+      left = rw c.from_index-level.ensures at c.sharing_at-sharing.ensures.left;
       listed = level-listed s (level + 1) (s.levels - (level + 1)) (s.levels - level) c.loop-level.lists c.list_level.new.lists (counts_of s) one added c.loop-level.invariant.listed;
       unmet = omega (arith, actives-coming s (level + 1) (s.levels - (level + 1)) (s.levels - level) one, met, c.loop-level.invariant.unmet);
       looked = omega (arith, level-longer s (level + 1) c.loop-level.lists c.list_level.new.lists added, looked, c.loop-level.invariant.looked);
