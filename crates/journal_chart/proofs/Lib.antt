@@ -3,6 +3,7 @@ pub mod Thinned
 pub mod Standing
 pub mod Mapped
 pub mod Pairs
+pub mod AtRest
 pub mod Charts
 pub mod Bounds
 pub mod Kept

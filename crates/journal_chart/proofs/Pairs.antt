@@ -1,6 +1,7 @@
 -- Two lists whose elements are changed together, one after the other.
 use Rattle.std.proofs.Common.{◌≡◌, ℕ, zero, suc, ◌+◌, ◌<◌, ◌≤◌, List, [], ◌∷◌, ◌++◌, length, map, take, drop, set, get_or, refl, sym, ap, ◌∙◌, subst, arith, append-nil}
-use Rattle.std.proofs.lemmas.List.{take_all, drop_all}
+use Rattle.std.specs.List.{All}
+use Rattle.std.proofs.lemmas.List.{take-append-drop, take_all, drop_all}
 use Rattle.journal_chart.specs.Steps.{pairwise}
 
 length-set : {X : Type 0} (xs : List X) (i : ℕ) (x : X) → length (set xs i x) ≡ length xs
@@ -19,6 +20,21 @@ get-any [] i d e inside = absurd (omega (arith, inside))
 get-any (x ∷ xs) zero d e inside = refl
 get-any (x ∷ xs) (suc i) d e inside = get-any xs i d e (omega (arith, inside))
 
+-- what is behind a place
+drop-set : {X : Type 0} (xs : List X) (i : ℕ) (x : X) → drop (suc i) (set xs i x) ≡ drop (suc i) xs
+drop-set [] i x = refl
+drop-set (z ∷ zs) zero x = refl
+drop-set (z ∷ zs) (suc i) x = drop-set zs i x
+
+drop-of : {X : Type 0} (xs : List X) (i : ℕ) → drop (suc i) xs ≡ drop 1 (drop i xs)
+drop-of [] zero = refl
+drop-of [] (suc i) = refl
+drop-of (z ∷ zs) zero = refl
+drop-of (z ∷ zs) (suc i) = drop-of zs i
+
+drop-next : {X : Type 0} (xs ys : List X) (i : ℕ) → drop i xs ≡ drop i ys → drop (suc i) xs ≡ drop (suc i) ys
+drop-next xs ys i same = drop-of xs i ∙ ap (drop 1) same ∙ sym (drop-of ys i)
+
 module _ {X Y : Type 0} (f : X → Y → X × Y) where
   -- those up to a place are changed, and those behind it are as they were
   pub record Paired (xs0 : List X) (ys0 : List Y) (xs : List X) (ys : List Y) (i : ℕ) : Type 0 where
@@ -26,6 +42,7 @@ module _ {X Y : Type 0} (f : X → Y → X × Y) where
     pub count : length xs ≡ length xs0
     pub first : take i xs ++ (pairwise f (drop i xs) (drop i ys)).0 ≡ (pairwise f xs0 ys0).0
     pub second : take i ys ++ (pairwise f (drop i xs) (drop i ys)).1 ≡ (pairwise f xs0 ys0).1
+    pub rest : drop i xs ≡ drop i xs0
 
   first-more : (i : ℕ) (xs : List X) (ys : List Y) (x : X) (y : Y) → i < length xs → i < length ys → x ≡ get_or xs i x → y ≡ get_or ys i y
       → take (suc i) (set xs i (f x y).0) ++ (pairwise f (drop (suc i) (set xs i (f x y).0)) (drop (suc i) (set ys i (f x y).1))).0
@@ -44,7 +61,7 @@ module _ {X Y : Type 0} (f : X → Y → X × Y) where
   second-more (suc i) (z ∷ zs) (w ∷ ws) x y inside inside' x_is y_is = ap (λ rest. w ∷ rest) (second-more i zs ws x y (omega (arith, inside)) (omega (arith, inside')) x_is y_is)
 
   pub paired-none : (xs : List X) (ys : List Y) → length ys ≡ length xs → Paired xs ys xs ys 0
-  paired-none xs ys same = record { same = same; count = refl; first = refl; second = refl }
+  paired-none xs ys same = record { same = same; count = refl; first = refl; second = refl; rest = refl }
 
   -- the next two are changed
   pub paired-more : (xs0 : List X) (ys0 : List Y) (xs : List X) (ys : List Y) (i : ℕ) (x x' : X) (y y' : Y) → Paired xs0 ys0 xs ys i → i < length xs
@@ -60,6 +77,7 @@ module _ {X Y : Type 0} (f : X → Y → X × Y) where
         count = length-set xs i _ ∙ h.count;
         first = first-more i xs ys x y inside inside' x_is y_is ∙ h.first;
         second = second-more i xs ys x y inside inside' x_is y_is ∙ h.second;
+        rest = drop-set xs i _ ∙ drop-next xs xs0 i h.rest;
       } in
       subst (λ n. Paired xs0 ys0 (set xs i x') (set ys i y') n) next
       (subst (λ (p : X). Paired xs0 ys0 (set xs i p) (set ys i y') (suc i)) x_made (subst (λ (q : Y). Paired xs0 ys0 (set xs i (f x y).0) (set ys i q) (suc i)) y_made due))
@@ -80,6 +98,25 @@ module _ {X Y : Type 0} (f : X → Y → X × Y) where
         sym (append-nil xs) ∙ (λ j. sym (take_all i xs all) j ++ (pairwise f (sym none j) (sym none' j)).0) ∙ h.first,
         sym (append-nil ys) ∙ (λ j. sym (take_all i ys all') j ++ (pairwise f (sym none j) (sym none' j)).1) ∙ h.second,
       )
+
+-- where all elements stay as they are, whatever the other is
+still-all : {X Y : Type 0} (f : X → Y → X × Y) (xs : List X) (ys : List Y) → All (λ (x : X). (y : Y) → f x y ≡ (x, y)) xs → pairwise f xs ys ≡ (xs, ys)
+still-all f [] ys h = refl
+still-all f (x ∷ xs) [] h = refl
+still-all f (x ∷ xs) (y ∷ ys) h =
+    let here : f x y ≡ (x, y) = h 0 x (omega arith) y in
+    let rest : pairwise f xs ys ≡ (xs, ys) = still-all f xs ys (λ k d inside. h (suc k) d (omega (arith, inside))) in
+    λ i. ((here i).0 ∷ (rest i).0, (here i).1 ∷ (rest i).1)
+
+-- those up to a place are changed, and those behind it stay as they are
+pub paired-part : {X Y : Type 0} (f : X → Y → X × Y) (xs0 : List X) (ys0 : List Y) (xs : List X) (ys : List Y) (i : ℕ) → Paired f xs0 ys0 xs ys i
+    → All (λ (x : X). (y : Y) → f x y ≡ (x, y)) (drop i xs0) → (xs ≡ (pairwise f xs0 ys0).0) × (ys ≡ (pairwise f xs0 ys0).1)
+paired-part f xs0 ys0 xs ys i h still =
+    let here : All (λ x. (y : _) → f x y ≡ (x, y)) (drop i xs) = subst (All (λ x. (y : _) → f x y ≡ (x, y))) (sym h.rest) still in
+    let rest : pairwise f (drop i xs) (drop i ys) ≡ (drop i xs, drop i ys) = still-all f (drop i xs) (drop i ys) here in (
+      sym (take-append-drop i xs) ∙ (λ j. take i xs ++ (sym rest j).0) ∙ h.first,
+      sym (take-append-drop i ys) ∙ (λ j. take i ys ++ (sym rest j).1) ∙ h.second,
+    )
 
 -- where what becomes of an element does not depend on the other
 pub pairwise-map : {X Y : Type 0} (f : X → X) (g : X → Y) (xs : List X) (ys : List Y) → length ys ≡ length xs

@@ -5,5 +5,6 @@ pub mod Lines
 pub mod Numbers
 pub mod Picture
 pub mod Highest
+pub mod Resting
 pub mod Shares
 pub mod Steps

@@ -343,6 +343,15 @@ near_lines place s cmd reply was ks d =
       rows = (near_rows place s cmd reply was d.rows ks).0;
     }
 
+-- the same after a command that is none of a seat
+abbrev pub arena_lines : ℕ → State → Cmd → Reply → Shared → List Known → Drawn → Drawn
+arena_lines place s cmd reply was ks d =
+    record {
+      limit = limited place was.limit (limit_of s) d.limit;
+      effective = limited place was.effective (effective_limit_of s) d.effective;
+      rows = (each_row place s cmd reply was d.rows ks).0;
+    }
+
 -- at the first moment of a column
 abbrev pub begun_lines : ℕ → State → Cmd → Reply → List Known → Drawn → Drawn
 begun_lines place s cmd reply ks d =

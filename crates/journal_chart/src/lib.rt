@@ -14,6 +14,7 @@ mod line;
 mod lines;
 mod nearby;
 mod picture;
+mod resting;
 mod row;
 mod shares;
 mod sheet;

@@ -3,10 +3,11 @@ ghost use Rattle.std.specs.Prelude.{◌≡◌, IfOk, length, map};
 ghost use Rattle.market_types.specs.State.{State};
 ghost use Rattle.market_types.specs.Step.{limits_of};
 ghost use Rattle.journal_chart.specs.Shares.{shared_of};
-ghost use Rattle.journal_chart.specs.Steps.{begun_lines, empty_lines, empty_row, first_rows, halved_lines, known_rows, limited, limited_lines, near_lines, near_rows, now_shared, passed_lines, taken_lines};
+ghost use Rattle.journal_chart.specs.Steps.{after_seat, arena_lines, begun_lines, each_row, empty_lines, empty_row, first_rows, halved_lines, known_rows, limited, limited_lines, near_lines, near_rows, now_shared, passed_lines, seat_rows, subject, taken_lines};
 
 use crate::line::Line;
-use crate::nearby::{first_rows, look_rows, moves_seat, near_rows, seat_rows};
+use crate::nearby::{first_rows, look_rows, moves_seat, near_rows, seat_rows, subject};
+use crate::resting::Resting;
 use crate::row::{Known, Row, halve_rows, pass_rows, take_rows};
 use crate::shares::Shares;
 use market_core::Market;
@@ -20,14 +21,20 @@ pub struct Lines {
     limit: Line,
     effective: Line,
     rows: Vec<Row>,
+    /// Those at the end whose arenas do not live, as far as it was seen.
+    resting: Resting,
 }
 
 impl Model for Lines {
+    ghost use Rattle.std.specs.Prelude.{◌≤◌, length};
     ghost use Rattle.journal_chart.specs.Numbers.{Drawn};
+    ghost use Rattle.journal_chart.specs.Resting.{AreResting};
 
     ghost Value = { Drawn };
 
     ghost view = { λ l. record { limit = l.limit; effective = l.effective; rows = l.rows.items } };
+
+    ghost invariant = { λ l. AreResting l.resting l.rows.items × (l.resting.before ≤ length l.rows.items) };
 }
 
 impl Lines {
@@ -43,6 +50,7 @@ impl Lines {
             limit: Line::new(alloc, columns)?,
             effective: Line::new(alloc, columns)?,
             rows: new_rows(alloc, columns, arenas)?,
+            resting: Resting::none(arenas.len()),
         })
     }
 
@@ -74,6 +82,7 @@ impl Lines {
         self.limit.halve();
         self.effective.halve();
         halve_rows(&mut self.rows);
+        self.resting = Resting::none(self.rows.len());
     }
 
     /// Puts the limits into the column at a place.
@@ -102,6 +111,7 @@ impl Lines {
     {
         self.add_limits(place, &market.limits());
         take_rows(&mut self.rows, place, market, cmd, reply);
+        self.resting = Resting::none(self.rows.len());
     }
 
     /// Takes the moment, as `take` does, what is then known of the arenas, and what the levels are given.
@@ -123,6 +133,7 @@ impl Lines {
         self.add_limits(place, &limits);
         shares.renew(market, &limits, cmd);
         look_rows(&mut self.rows, known, place, market, cmd, reply);
+        self.resting = Resting::of(&self.rows);
     }
 
     /// Takes the first moment of a column, as `take` does, where the moment before was taken, and this was then known of the arenas: what is
@@ -145,6 +156,7 @@ impl Lines {
         self.add_limits(place, &limits);
         shares.renew(market, &limits, cmd);
         first_rows(&mut self.rows, known, place, market, cmd, reply, shares);
+        self.resting = Resting::of(&self.rows);
     }
 
     /// Takes the moment after one that was taken into the same column, what is then known of the arenas, and what the levels are given.
@@ -162,22 +174,81 @@ impl Lines {
         ensures known { known.new ≡ (near_rows place market.now cmd.now reply.now shares.old self.old.rows known.old).1 }
         ensures shares { shares.new ≡ now_shared cmd.now market.now shares.old }
     {
+        let about = subject(cmd, reply);
         if moves_seat(cmd) {
-            seat_rows(&mut self.rows, known, shares, place, market, cmd, reply);
-            return;
+            self.near_seat(known, shares, place, market, cmd, reply, &about);
+        } else {
+            self.near_arena(known, shares, place, market, cmd, reply, &about);
         }
+    }
+
+    /// The same after a command of a seat.
+    #[inline(always)]
+    fn near_seat(
+        &mut self,
+        known: &mut [Known],
+        shares: &mut Shares,
+        place: usize,
+        market: &Market,
+        cmd: &Cmd,
+        reply: &Reply,
+        about: &Option<ArenaId>,
+    )
+        requires each { length known.old ≡ length self.old.rows }
+        requires about { about.now ≡ subject cmd.now reply.now }
+        ensures lines { self.new ≡ record self.old { rows = (seat_rows place market.now cmd.now reply.now shares.old self.old.rows known.old).0 } }
+        ensures known { known.new ≡ (seat_rows place market.now cmd.now reply.now shares.old self.old.rows known.old).1 }
+        ensures shares { shares.new ≡ after_seat market.now shares.old }
+    {
+        let count = self.resting.awake(&self.rows, about);
+        seat_rows(
+            &mut self.rows,
+            known,
+            shares,
+            count,
+            place,
+            market,
+            cmd,
+            reply,
+            about,
+        );
+        self.resting = self.resting.renewed(count, &self.rows);
+    }
+
+    /// The same after another command.
+    #[inline(always)]
+    fn near_arena(
+        &mut self,
+        known: &mut [Known],
+        shares: &mut Shares,
+        place: usize,
+        market: &Market,
+        cmd: &Cmd,
+        reply: &Reply,
+        about: &Option<ArenaId>,
+    )
+        requires each { length known.old ≡ length self.old.rows }
+        requires about { about.now ≡ subject cmd.now reply.now }
+        ensures lines { self.new ≡ arena_lines place market.now cmd.now reply.now shares.old known.old self.old }
+        ensures known { known.new ≡ (each_row place market.now cmd.now reply.now shares.old self.old.rows known.old).1 }
+        ensures shares { shares.new ≡ shared_of market.now }
+    {
         let limits = market.limits();
         self.add_changed(place, shares, &limits);
+        let count = self.resting.awake(&self.rows, about);
         near_rows(
             &mut self.rows,
             known,
             shares,
+            count,
             place,
             market,
             &limits,
             cmd,
             reply,
+            about,
         );
+        self.resting = self.resting.renewed(count, &self.rows);
     }
 
     /// Lets the moment after a command and its reply pass.
@@ -185,6 +256,7 @@ impl Lines {
         ensures { self.new ≡ passed_lines cmd.now reply.now self.old }
     {
         pass_rows(&mut self.rows, cmd, reply);
+        self.resting = Resting::none(self.rows.len());
     }
 }
 

@@ -1,8 +1,10 @@
 //! The rows of a chart at a moment that goes into the column of the last, and at one that begins a column after another.
-ghost use Rattle.std.specs.Prelude.{◌≡◌, ◌≤◌, IfSome, length, map, option_map};
+ghost use Rattle.std.specs.Prelude.{◌≡◌, ℕ, ◌≤◌, IfSome, drop, length, map, option_map, unwrap_or};
 ghost use Rattle.market_types.specs.Allotment.{allotment_of, is_just};
+ghost use Rattle.market_types.specs.State.{State};
 ghost use Rattle.market_types.specs.Step.{limits_of};
 ghost use Rattle.market_core.specs.Divided.{IsDivisionOf};
+ghost use Rattle.journal_chart.specs.Resting.{AreLeft};
 ghost use Rattle.journal_chart.specs.Shares.{shared_of};
 ghost use Rattle.journal_chart.specs.Steps.{after_seat, closed_row, each_row, first_row, first_rows, has_few, has_share, is_covered, is_covered_at, is_divided, is_idle, keeps_order, kept_levels, known_rows, moves_seat, near_row, needing_row, own_row, pairwise, requested, retold, seat_row, seat_rows, seated, settled_row, share_of, stands_kept, subject, taken_row, told};
 
@@ -38,7 +40,7 @@ fn told(reply: &Reply) -> Option<ArenaId>
 }
 
 /// The arena whose claim, level or seats a command may have changed.
-fn subject(cmd: &Cmd, reply: &Reply) -> Option<ArenaId>
+pub(crate) fn subject(cmd: &Cmd, reply: &Reply) -> Option<ArenaId>
     ensures { result ≡ subject cmd.now reply.now }
 {
     match cmd {
@@ -129,8 +131,8 @@ fn stands_kept(kept: &[bool; 8], stands: Option<Level>) -> bool
     }
 }
 
-/// What the market allots an arena where no worker may be active. The workers are divided once for all arenas that are asked about at a moment,
-/// since each division looks for the arena whose enqueued work is served.
+/// What the market allots an arena, where many are asked about at a moment, or no worker may be active, since each division then looks for the
+/// arena whose enqueued work is served. The workers are divided once for all.
 fn allotted(market: &Market, division: &mut Option<Division>, arena: ArenaId) -> u32
     requires { IfSome division.old (IsDivisionOf market.now) }
     ensures exact { result ≡ allotment_of market.now arena }
@@ -147,8 +149,19 @@ fn allotted(market: &Market, division: &mut Option<Division>, arena: ArenaId) ->
     }
 }
 
+/// What an arena of a level is allotted, of which this is known, where it is told by what the level is given, or by that none is given any.
+#[inline]
+fn told_share(now: &Shares, known: &Known, level: Level) -> Option<u32>
+    ensures { (s : State) (arena : ℕ) → unwrap_or result (allotment_of s arena) ≡ share_of s now.now known.now arena level }
+{
+    if is_divided(now, level) {
+        return exactly(known.request, now.given(level), now.asked(level));
+    }
+    if is_idle(now) { Some(0) } else { None }
+}
+
 /// What an arena of a level is allotted, of which this is known. The market is asked where it is told neither by what the level is given, nor
-/// by that none is given any.
+/// by that none is given any: of the arena alone where some worker may be active, since most often one is asked about at a moment.
 fn share_of(
     market: &Market,
     division: &mut Option<Division>,
@@ -161,17 +174,30 @@ fn share_of(
     ensures exact { result ≡ share_of market.now now.now known.now arena level }
     ensures divided { IfSome division.new (IsDivisionOf market.now) }
 {
-    if is_divided(now, level) {
-        let told = exactly(known.request, now.given(level), now.asked(level));
-        return match told {
-            Some(share) => share,
-            None => market.allotment(arena),
-        };
+    match told_share(now, known, level) {
+        Some(share) => share,
+        None if now.limit() > 0 => market.allotment(arena),
+        None => allotted(market, division, arena),
     }
-    if is_idle(now) {
-        return 0;
+}
+
+/// The same where all arenas are asked about at a moment.
+fn share_among(
+    market: &Market,
+    division: &mut Option<Division>,
+    now: &Shares,
+    known: &Known,
+    arena: ArenaId,
+    level: Level,
+) -> u32
+    requires { IfSome division.old (IsDivisionOf market.now) }
+    ensures exact { result ≡ share_of market.now now.now known.now arena level }
+    ensures divided { IfSome division.new (IsDivisionOf market.now) }
+{
+    match told_share(now, known, level) {
+        Some(share) => share,
+        None => allotted(market, division, arena),
     }
-    allotted(market, division, arena)
 }
 
 /// Takes the moment after a command and its reply into the column of a row at a place, where this is known of its arena, and what is then
@@ -193,7 +219,7 @@ fn settle(
 {
     match row.stands {
         Some(level) => {
-            let share = share_of(market, division, now, known, row.arena, level);
+            let share = share_among(market, division, now, known, row.arena, level);
             *known = row.tell(place, known, share);
         }
         None => *known = row.look(place, market, cmd, reply),
@@ -367,11 +393,12 @@ fn near_row(
 }
 
 /// Takes the moment into the columns of all rows, and what is then known of their arenas, where the entry is about this arena, the levels
-/// are given this now, and the arenas of these are allotted what they were.
+/// are given this now, and the arenas of these are allotted what they were. The rows behind the first `count` are left as they are.
 #[inline(always)]
 fn rows_about(
     rows: &mut [Row],
     known: &mut [Known],
+    count: usize,
     place: usize,
     market: &Market,
     cmd: &Cmd,
@@ -382,11 +409,14 @@ fn rows_about(
 )
     requires each { length known.old ≡ length rows.old }
     requires about { about.now ≡ subject cmd.now reply.now }
+    requires within { count ≤ length rows.old }
+    requires left { AreLeft count (subject cmd.now reply.now) rows.old }
     ensures rows { rows.new ≡ (pairwise (near_row place market.now cmd.now reply.now now.now kept.now) rows.old known.old).0 }
     ensures known { known.new ≡ (pairwise (near_row place market.now cmd.now reply.now now.now kept.now) rows.old known.old).1 }
+    ensures rest { drop count rows.new ≡ drop count rows.old }
 {
     let mut division = None;
-    for index in 0..rows.len() {
+    for index in 0..count {
         near_row(
             &mut rows[index],
             &mut known[index],
@@ -407,54 +437,70 @@ fn rows_about(
 fn each_row(
     rows: &mut [Row],
     known: &mut [Known],
+    count: usize,
     place: usize,
     market: &Market,
     cmd: &Cmd,
     reply: &Reply,
     now: &Shares,
+    about: &Option<ArenaId>,
     kept: &[bool; 8],
 )
     requires each { length known.old ≡ length rows.old }
+    requires about { about.now ≡ subject cmd.now reply.now }
+    requires within { count ≤ length rows.old }
+    requires left { AreLeft count (subject cmd.now reply.now) rows.old }
     ensures rows { rows.new ≡ (pairwise (near_row place market.now cmd.now reply.now now.now kept.now) rows.old known.old).0 }
     ensures known { known.new ≡ (pairwise (near_row place market.now cmd.now reply.now now.now kept.now) rows.old known.old).1 }
+    ensures rest { drop count rows.new ≡ drop count rows.old }
 {
-    let about = subject(cmd, reply);
     match about {
         Some(arena) => rows_about(
             rows,
             known,
+            count,
             place,
             market,
             cmd,
             reply,
             now,
-            &Some(arena),
+            &Some(*arena),
             kept,
         ),
-        None => rows_about(rows, known, place, market, cmd, reply, now, &None, kept),
+        None => rows_about(
+            rows, known, count, place, market, cmd, reply, now, &None, kept,
+        ),
     }
 }
 
-/// Takes the moment after a command and its reply into the column of all rows at a place, which has the moment before, what is then known
-/// of their arenas, and what the levels are given.
+/// Takes the moment after a command and its reply, which are about one arena, into the column of all rows at a place, which has the moment
+/// before, what is then known of their arenas, and what the levels are given. The rows behind the first `count` are left as they are.
 pub(crate) fn near_rows(
     rows: &mut [Row],
     known: &mut [Known],
     shares: &mut Shares,
+    count: usize,
     place: usize,
     market: &Market,
     limits: &LimitView,
     cmd: &Cmd,
     reply: &Reply,
+    about: &Option<ArenaId>,
 )
     requires each { length known.old ≡ length rows.old }
     requires limits { limits.now ≡ limits_of market.now }
+    requires about { about.now ≡ subject cmd.now reply.now }
+    requires within { count ≤ length rows.old }
+    requires left { AreLeft count (subject cmd.now reply.now) rows.old }
     ensures rows { rows.new ≡ (each_row place market.now cmd.now reply.now shares.old rows.old known.old).0 }
     ensures known { known.new ≡ (each_row place market.now cmd.now reply.now shares.old rows.old known.old).1 }
     ensures shares { shares.new ≡ shared_of market.now }
+    ensures rest { drop count rows.new ≡ drop count rows.old }
 {
     let kept = shares.renew(market, limits, cmd);
-    each_row(rows, known, place, market, cmd, reply, shares, &kept);
+    each_row(
+        rows, known, count, place, market, cmd, reply, shares, about, &kept,
+    );
 }
 
 /// Takes the moment after a command of a seat and its reply, which are about one arena, into the column of a row at a place, which has the
@@ -481,23 +527,28 @@ fn seat_row(
 }
 
 /// Takes the moment into the columns of all rows, and what is then known of their arenas, where one more seat is placed than before, or
-/// not.
+/// not. The rows behind the first `count` are left as they are.
 fn each_seat_row(
     rows: &mut [Row],
     known: &mut [Known],
+    count: usize,
     place: usize,
     market: &Market,
     cmd: &Cmd,
     reply: &Reply,
     more: bool,
     now: &Shares,
+    moved: &Option<ArenaId>,
 )
     requires each { length known.old ≡ length rows.old }
+    requires moved { moved.now ≡ subject cmd.now reply.now }
+    requires within { count ≤ length rows.old }
+    requires left { AreLeft count (subject cmd.now reply.now) rows.old }
     ensures rows { rows.new ≡ (pairwise (seat_row place market.now cmd.now reply.now more now.now) rows.old known.old).0 }
     ensures known { known.new ≡ (pairwise (seat_row place market.now cmd.now reply.now more now.now) rows.old known.old).1 }
+    ensures rest { drop count rows.new ≡ drop count rows.old }
 {
-    let moved = subject(cmd, reply);
-    for index in 0..rows.len() {
+    for index in 0..count {
         seat_row(
             &mut rows[index],
             &mut known[index],
@@ -507,29 +558,37 @@ fn each_seat_row(
             reply,
             more,
             now,
-            &moved,
+            moved,
         );
     }
 }
 
-/// Takes the moment after a command of a seat and its reply into the column of all rows at a place, which has the moment before, what is
-/// then known of their arenas, and how many seats are placed.
+/// Takes the moment after a command of a seat and its reply, which are about one arena, into the column of all rows at a place, which has the
+/// moment before, what is then known of their arenas, and how many seats are placed. The rows behind the first `count` are left as they are.
 pub(crate) fn seat_rows(
     rows: &mut [Row],
     known: &mut [Known],
     shares: &mut Shares,
+    count: usize,
     place: usize,
     market: &Market,
     cmd: &Cmd,
     reply: &Reply,
+    moved: &Option<ArenaId>,
 )
     requires each { length known.old ≡ length rows.old }
+    requires moved { moved.now ≡ subject cmd.now reply.now }
+    requires within { count ≤ length rows.old }
+    requires left { AreLeft count (subject cmd.now reply.now) rows.old }
     ensures rows { rows.new ≡ (seat_rows place market.now cmd.now reply.now shares.old rows.old known.old).0 }
     ensures known { known.new ≡ (seat_rows place market.now cmd.now reply.now shares.old rows.old known.old).1 }
     ensures shares { shares.new ≡ after_seat market.now shares.old }
+    ensures rest { drop count rows.new ≡ drop count rows.old }
 {
     let more = shares.seat(market);
-    each_seat_row(rows, known, place, market, cmd, reply, more, shares);
+    each_seat_row(
+        rows, known, count, place, market, cmd, reply, more, shares, moved,
+    );
 }
 
 /// Takes the first moment of a column into a row, where this is known of its arena at the moment before, and what is then known. The market

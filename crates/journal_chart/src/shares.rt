@@ -34,7 +34,7 @@ impl Model for Shares {
 
 /// Before a command and after it no worker may be active, not even one for enqueued work.
 #[inline(always)]
-fn is_idle(was: u32, now: u32) -> bool
+fn both_idle(was: u32, now: u32) -> bool
     ensures { result ≡ ((was == 0) && (now == 0)) }
 {
     was == 0 && now == 0
@@ -42,7 +42,7 @@ fn is_idle(was: u32, now: u32) -> bool
 
 /// Before a command and after it some worker may be active, and the arenas stand in the order in which they stood.
 #[inline(always)]
-fn is_divided(cmd: &Cmd, was: u32, now: u32) -> bool
+fn both_divided(cmd: &Cmd, was: u32, now: u32) -> bool
     ensures { result ≡ (keeps_order cmd.now && (nat_lt 0 was && nat_lt 0 now)) }
 {
     keeps_order(cmd) && (was > 0 && now > 0)
@@ -88,8 +88,8 @@ impl Shares {
         ensures kept { result ≡ kept_levels cmd.now self.old (shared_of market.now) market.now.levels }
     {
         let levels = market.levels() as usize;
-        let idle = is_idle(self.effective, limits.effective);
-        let divided = is_divided(cmd, self.limit, limits.limit);
+        let idle = both_idle(self.effective, limits.effective);
+        let divided = both_divided(cmd, self.limit, limits.limit);
         let mut kept = [false; 8];
         let mut left = u64::from(limits.effective);
         // No level above those of the market, whose number most often is small, takes any time.

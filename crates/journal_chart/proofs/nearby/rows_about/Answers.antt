@@ -1,9 +1,12 @@
-use Rattle.std.proofs.Common.{get_or, arith, rules}
+use Rattle.std.proofs.Common.{get_or, drop, subst, sym, ◌≡◌, arith, rules}
 use Rattle.journal_chart.specs.declared.row.Known.{Known}
 use Rattle.journal_chart.specs.declared.row.Row.{Row}
-use Rattle.journal_chart.specs.Steps.{near_row, nothing_known}
-use Rattle.journal_chart.proofs.Pairs.{get-any, paired-all, paired-more, paired-none}
+use Rattle.journal_chart.specs.Resting.{AreLeft}
+use Rattle.journal_chart.specs.Steps.{near_row, nothing_known, pairwise, subject}
+use Rattle.journal_chart.proofs.Pairs.{get-any, paired-part, paired-more, paired-none}
+use Rattle.journal_chart.proofs.AtRest.{near-rest}
 use Rattle.journal_chart.proofs.nearby.rows_about.Goals as goal
+use Rattle.journal_chart.proofs.nearby.rows_about.Goals.{After-loop-index}
 
 pub loop-index-init : goal.loop-index-init
 loop-index-init c = record { paired = paired-none (near_row c.args.place c.args.market.now c.args.cmd.now c.args.reply.now c.args.now.now c.args.kept.now) c.args.rows.now c.args.known.now c.requires.each; divided = search rules }
@@ -19,13 +22,30 @@ loop-index-preserved c =
     record {
       paired =
           paired-more (near_row c.args.place c.args.market.now c.args.cmd.now c.args.reply.now c.args.now.now c.args.kept.now) c.args.rows.now c.args.known.now c.loop-index.rows c.loop-index.known i row
-          c.near_row.new.row known c.near_row.new.known c.loop-index.invariant.paired (omega arith) (get-any c.loop-index.rows i c.index-rows-index.result row (omega arith))
-          (get-any c.loop-index.known i nothing_known known (omega (arith, c.loop-index.invariant.paired.same))) c.near_row.ensures.exact;
+          c.near_row.new.row known c.near_row.new.known c.loop-index.invariant.paired (omega (arith, c.loop-index.invariant.paired.count)) (get-any c.loop-index.rows i c.index-rows-index.result row (omega (arith, c.loop-index.invariant.paired.count)))
+          (get-any c.loop-index.known i nothing_known known (omega (arith, c.loop-index.invariant.paired.same, c.loop-index.invariant.paired.count))) c.near_row.ensures.exact;
       divided = c.near_row.ensures.divided;
     }
 
+-- what becomes of all rows
+module _ (c : After-loop-index) where
+  abbrev row-made : Row → Known → Row × Known
+  row-made = near_row c.args.place c.args.market.now c.args.cmd.now c.args.reply.now c.args.now.now c.args.kept.now
+
+  all-made : (c.loop-index.rows ≡ (pairwise row-made c.args.rows.now c.args.known.now).0) × (c.loop-index.known ≡ (pairwise row-made c.args.rows.now c.args.known.now).1)
+  all-made =
+      let all : c.args.count ≡ c.loop-index.index = omega arith in
+      let left : AreLeft c.loop-index.index (subject c.args.cmd.now c.args.reply.now) c.args.rows.now = subst (λ n. AreLeft n (subject c.args.cmd.now c.args.reply.now) c.args.rows.now) all c.requires.left in
+      paired-part row-made c.args.rows.now c.args.known.now c.loop-index.rows c.loop-index.known c.loop-index.index c.loop-index.invariant.paired
+      (near-rest c.args.place c.args.market.now c.args.cmd.now c.args.reply.now c.args.now.now c.args.kept.now (drop c.loop-index.index c.args.rows.now) left)
+
 pub returns-clause-rows : goal.returns-clause-rows
-returns-clause-rows c = (paired-all (near_row c.args.place c.args.market.now c.args.cmd.now c.args.reply.now c.args.now.now c.args.kept.now) c.args.rows.now c.args.known.now c.loop-index.rows c.loop-index.known c.loop-index.index c.loop-index.invariant.paired (omega arith)).0
+returns-clause-rows c = (all-made (goal.at.returns-clause-rows c).After-loop-index).0
 
 pub returns-clause-known : goal.returns-clause-known
-returns-clause-known c = (paired-all (near_row c.args.place c.args.market.now c.args.cmd.now c.args.reply.now c.args.now.now c.args.kept.now) c.args.rows.now c.args.known.now c.loop-index.rows c.loop-index.known c.loop-index.index c.loop-index.invariant.paired (omega arith)).1
+returns-clause-known c = (all-made (goal.at.returns-clause-known c).After-loop-index).1
+
+pub returns-clause-rest : goal.returns-clause-rest
+returns-clause-rest c =
+    let all : c.args.count ≡ c.loop-index.index = omega arith in
+    subst (λ n. drop n c.loop-index.rows ≡ drop n c.args.rows.now) (sym all) c.loop-index.invariant.paired.rest

@@ -62,7 +62,7 @@ loop-place-preserved c =
     let given_in : place < length c.loop-place.self-inside.given = omega (arith, few, h.renewing.size_given) in
     let asked_in : place < length c.loop-place.self-inside.asked = omega (arith, few, h.renewing.size_asked) in
     let test : ℕ → List ℕ → List ℕ → Bool =
-    λ j given asked. c.is_idle-idle.result || (c.is_divided-divided.result && ((slice_index c.self.inside.given j == slice_index given j) && (slice_index c.self.inside.asked j == slice_index asked j))) in
+    λ j given asked. c.both_idle-idle.result || (c.both_divided-divided.result && ((slice_index c.self.inside.given j == slice_index given j) && (slice_index c.self.inside.asked j == slice_index asked j))) in
     let new_given : List ℕ = set c.loop-place.self-inside.given place share in
     let new_asked : List ℕ = set c.loop-place.self-inside.asked place wanted in
     let given_here : slice_index new_given place ≡ share = get_or-set_same c.loop-place.self-inside.given place share 0 given_in in
@@ -80,10 +80,10 @@ loop-place-preserved c =
       told = λ j less. elim (cases_eq j place) [
         | inl at ↦
             ap (λ k. get_or (set c.loop-place.kept place c.is_kept.result) k false) at ∙ get_or-set_same c.loop-place.kept place c.is_kept.result false inside
-            ∙ c.is_kept.ensures ∙ ap (λ b. c.is_idle-idle.result || (c.is_divided-divided.result && b)) same ∙ ap (λ k. test k new_given new_asked) (sym at)
+            ∙ c.is_kept.ensures ∙ ap (λ b. c.both_idle-idle.result || (c.both_divided-divided.result && b)) same ∙ ap (λ k. test k new_given new_asked) (sym at)
         | inr other ↦
             get_or-set_other c.loop-place.kept place j c.is_kept.result false other ∙ h.told j (omega (arith, less, other))
-            ∙ (λ i. c.is_idle-idle.result || (c.is_divided-divided.result && ((slice_index c.self.inside.given j == sym (get_or-set_other c.loop-place.self-inside.given place j share 0 other) i) && (slice_index c.self.inside.asked j == sym (get_or-set_other c.loop-place.self-inside.asked place j wanted 0 other) i))))
+            ∙ (λ i. c.both_idle-idle.result || (c.both_divided-divided.result && ((slice_index c.self.inside.given j == sym (get_or-set_other c.loop-place.self-inside.given place j share 0 other) i) && (slice_index c.self.inside.asked j == sym (get_or-set_other c.loop-place.self-inside.asked place j wanted 0 other) i))))
       ];
       rest = λ j past. get_or-set_other c.loop-place.kept place j c.is_kept.result false (λ e. omega (arith, e, past)) ∙ h.rest j (omega (arith, past));
     }
@@ -137,10 +137,10 @@ module _ (c : After-loop-place-2) where
       let cmd = c.args.cmd.now in
       let was : Shared = c.args.self.now in
       let now : Shared = shared_of s in
-      let idle : c.is_idle-idle.result ≡ ((was.effective == 0) && (now.effective == 0)) =
-      c.is_idle-idle.ensures ∙ (λ i. (((c.self.view_is i).effective) == 0) && ((effective_is i) == 0)) in
-      let divided : c.is_divided-divided.result ≡ (keeps_order cmd && (nat_lt 0 was.limit && nat_lt 0 now.limit)) =
-      c.is_divided-divided.ensures ∙ (λ i. keeps_order cmd && (nat_lt 0 ((c.self.view_is i).limit) && nat_lt 0 (limit_is i))) in
+      let idle : c.both_idle-idle.result ≡ ((was.effective == 0) && (now.effective == 0)) =
+      c.both_idle-idle.ensures ∙ (λ i. (((c.self.view_is i).effective) == 0) && ((effective_is i) == 0)) in
+      let divided : c.both_divided-divided.result ≡ (keeps_order cmd && (nat_lt 0 was.limit && nat_lt 0 now.limit)) =
+      c.both_divided-divided.ensures ∙ (λ i. keeps_order cmd && (nat_lt 0 ((c.self.view_is i).limit) && nat_lt 0 (limit_is i))) in
       let was_given : slice_index c.self.inside.given j ≡ slice_index was.given j = ap (λ (v : Shared). slice_index v.given j) c.self.view_is in
       let was_asked : slice_index c.self.inside.asked j ≡ slice_index was.asked j = ap (λ (v : Shared). slice_index v.asked j) c.self.view_is in
       let given : slice_index c.loop-place.self-inside.given j ≡ slice_index now.given j = sym (c.loop-place-2.invariant.given.low j (omega (arith, inside, levels))) ∙ ap (λ xs. slice_index xs j) given_all in
