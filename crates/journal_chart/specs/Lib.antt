@@ -1,3 +1,4 @@
+pub mod Cells
 pub mod Columns
 pub mod Covering
 pub mod Journals

@@ -40,7 +40,7 @@ impl Model for Chart {
 
 impl Chart {
     /// The chart of these arenas, in at most so many columns, before the first moment of a market without arenas. It takes all the
-    /// memory that it will ever need: 12 bytes for each column of each of six lines an arena.
+    /// memory that it will ever need: 8 bytes for each column of each of six lines an arena.
     pub fn new(alloc: Global, columns: u32, arenas: &[ArenaId]) -> Result<Chart, AllocError>
         requires some { 0 < columns }
         ensures opened { (s : State) → s.arenas ≡ [] → IfOk result (λ chart. chart ≡ chart_of columns arenas.now [] s) }

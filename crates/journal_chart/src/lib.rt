@@ -6,6 +6,7 @@
 #![tactic(auto)]
 
 mod chart;
+mod column;
 mod covered;
 mod figure;
 mod journal;
@@ -21,6 +22,7 @@ mod sheet;
 mod span;
 
 pub use chart::Chart;
+pub use column::Column;
 pub use journal::chart_source;
 pub use law::a_call_is_a_moment;
 pub use line::Line;

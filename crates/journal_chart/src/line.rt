@@ -3,7 +3,8 @@ ghost use Rattle.std.specs.Prelude.{◌≡◌, IfOk, None, Some, replicate};
 ghost use Rattle.journal_chart.specs.Lines.{added, at, halved};
 ghost use Rattle.journal_chart.specs.Picture.{same_span, says_next};
 
-use crate::span::{Span, joined};
+use crate::column::Column;
+use crate::span::Span;
 use std::alloc::{AllocError, Global};
 use std::marker::Model;
 
@@ -11,7 +12,7 @@ use std::marker::Model;
 /// column, `None` where there was no number.
 #[derive(Drop)]
 pub struct Line {
-    columns: Vec<Option<Span>>,
+    columns: Vec<Column>,
 }
 
 impl Model for Line {
@@ -29,12 +30,12 @@ impl Line {
         ensures { IfOk result (λ line. line ≡ replicate columns None) }
     {
         Ok(Line {
-            columns: vec![in alloc; None; columns]?,
+            columns: vec![in alloc; Column::none(); columns]?,
         })
     }
 
     /// Its columns, in order.
-    pub fn columns(&self) -> &[Option<Span>]
+    pub fn columns(&self) -> &[Column]
         ensures { result.now ≡ self.now }
     {
         &self.columns
@@ -45,7 +46,7 @@ impl Line {
         ensures { result ≡ at self.now place }
     {
         match self.columns.get(place) {
-            Some(column) => *column,
+            Some(column) => column.span(),
             None => None,
         }
     }
@@ -63,7 +64,7 @@ impl Line {
         ensures { self.new ≡ added place (Some number) self.old }
     {
         if let Some(column) = self.columns.get_mut(place) {
-            *column = joined(*column, Some(Span::of(number)));
+            *column = column.with(number);
         }
     }
 
@@ -87,12 +88,12 @@ fn same(one: Option<Span>, other: Option<Span>) -> bool
 }
 
 /// Makes each two columns one, and puts as many without numbers behind them: each column is read once, and written at most once.
-fn halve_columns(columns: &mut [Option<Span>])
+fn halve_columns(columns: &mut [Column])
     ensures { columns.new ≡ halved columns.old }
 {
     let pairs = columns.len() / 2;
     for place in 0..pairs {
-        columns[place] = joined(columns[2 * place], columns[2 * place + 1]);
+        columns[place] = columns[2 * place].joined(columns[2 * place + 1]);
     }
     // Where their number is odd, the last has none beside it.
     let mut halves = pairs;
@@ -101,6 +102,6 @@ fn halve_columns(columns: &mut [Option<Span>])
         halves = pairs + 1;
     }
     for place in halves..columns.len() {
-        columns[place] = None;
+        columns[place] = Column::none();
     }
 }

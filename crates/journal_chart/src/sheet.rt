@@ -4,9 +4,9 @@ ghost use Rattle.std.specs.List.{list_any};
 ghost use Rattle.journal_chart.specs.Highest.{highest, highest_in, highest_of};
 ghost use Rattle.journal_chart.specs.Picture.{entries_of, filled, first_entry, greatest, is_at, last_entry, most_of, scale_of, stands_at, wide_of};
 
+use crate::column::Column;
 use crate::figure::{Entries, Run, stands_at};
 use crate::row::Row;
-use crate::span::Span;
 
 /// How many entries came before the first moment, how many moments there are, how many of them a column holds, and at most how many
 /// columns there are.
@@ -84,17 +84,17 @@ impl Sheet {
 }
 
 /// The most of a column, or 0.
-fn most_of(column: Option<Span>) -> u32
+fn most_of(column: Column) -> u32
     ensures { result ≡ most_of column }
 {
-    match column {
+    match column.span() {
         Some(span) => span.most,
         None => 0,
     }
 }
 
 /// The greatest number of a line, or 0.
-pub(crate) fn greatest(columns: &[Option<Span>]) -> u32
+pub(crate) fn greatest(columns: &[Column]) -> u32
     ensures { result ≡ greatest columns.now }
 {
     let mut most = 0;
@@ -116,17 +116,17 @@ pub(crate) fn scale_of(row: &Row) -> u64
 }
 
 /// The highest level of a column, or 0.
-fn highest_in(column: Option<Span>) -> u32
+fn highest_in(column: Column) -> u32
     ensures { result ≡ highest_in column }
 {
-    match column {
+    match column.span() {
         Some(span) => span.least.max(span.most),
         None => 0,
     }
 }
 
 /// The highest level of all columns, or 0.
-fn highest_of(columns: &[Option<Span>]) -> u32
+fn highest_of(columns: &[Column]) -> u32
     ensures { result ≡ highest_of columns.now }
 {
     let mut level = 0;
@@ -148,10 +148,10 @@ pub(crate) fn highest(rows: &[Row]) -> u32
 }
 
 /// This is the least or the greatest level of one of these columns.
-fn any_at(columns: &[Option<Span>], level: u32) -> bool
+fn any_at(columns: &[Column], level: u32) -> bool
     ensures { result ≡ list_any (stands_at level) columns.now }
 {
-    columns.iter().any(|column| stands_at(level, *column))
+    columns.iter().any(|column| stands_at(level, column.span()))
 }
 
 /// This is the least or the greatest level of one of the columns of a row.

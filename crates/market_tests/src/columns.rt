@@ -62,7 +62,7 @@ fn says(rt: &impl Abort, line: &Line, spans: &[Option<(u32, u32)>]) {
             }),
             None => None,
         };
-        same(rt, *column, due);
+        same(rt, column.span(), due);
     }
 }
 
