@@ -39,13 +39,11 @@ impl Model for Column {
 
     ghost inverse = { λ s. record { least = least_word s; most = most_word s } };
 
-    ghost inverse_ok = {
-        λ c h.
+    ghost inverse_ok = { λ c h.
         elim (cases_lt c.most c.least) [
           | inl none ↦ rw (lt-leb c.least c.most none) (λ i. record { least = sym (h.high none) i; most = sym (h.low none) i })
           | inr some ↦ rw (le-leb c.least c.most (omega (arith, some))) refl
-        ]
-    };
+        ] };
 }
 
 impl Column {

@@ -1,7 +1,9 @@
 //! The rows of a chart at a moment that goes into the column of the last, and at one that begins a column after another.
-ghost use Rattle.std.specs.Prelude.{◌≡◌, ℕ, ◌≤◌, IfSome, drop, length, map, option_map, unwrap_or};
+ghost use Rattle.std.specs.Prelude.{◌≡◌, ℕ, ◌<◌, ◌≤◌, true, IfSome, Some, drop, length, map, option_map, unwrap_or};
 ghost use Rattle.market_types.specs.Allotment.{allotment_of, is_just};
 ghost use Rattle.market_types.specs.State.{State};
+ghost use Rattle.market_types.specs.declared.command.Cmd.{Cmd};
+ghost use Rattle.market_types.specs.declared.reply.Reply.{Reply};
 ghost use Rattle.market_types.specs.Step.{limits_of};
 ghost use Rattle.market_core.specs.Divided.{IsDivisionOf};
 ghost use Rattle.journal_chart.specs.Resting.{AreLeft};
@@ -62,14 +64,15 @@ fn is_just(arena: ArenaId, option: &Option<ArenaId>) -> bool
     }
 }
 
-/// What levels are given tells what the arenas of this one are allotted: some worker may be active.
+/// What levels are given tells what the arenas of this one are allotted: some worker may be active, which who calls may have found before.
 #[inline]
-fn is_divided(now: &Shares, level: Level) -> bool
+fn is_divided<const FOUND: bool>(now: &Shares, level: Level) -> bool
+    requires { FOUND ≡ true → 0 < now.now.limit }
     ensures { result ≡ is_divided now.now level }
 {
     // That there are 8 levels at most is what this call promises.
     let _ = level.index();
-    now.limit() > 0
+    FOUND || now.limit() > 0
 }
 
 /// Nothing is added to the column of an arena of which this is known, if it is allotted so many workers.
@@ -98,10 +101,11 @@ fn has_few(now: &Shares, covered: Covered) -> bool
 
 /// A column has all that an arena of a level may be allotted, of which this is known.
 #[inline]
-fn is_covered(now: &Shares, known: &Known, level: Level) -> bool
+fn is_covered<const FOUND: bool>(now: &Shares, known: &Known, level: Level) -> bool
+    requires { FOUND ≡ true → 0 < now.now.limit }
     ensures { result ≡ is_covered now.now known.now level }
 {
-    if !is_divided(now, level) {
+    if !is_divided::<FOUND>(now, level) {
         return has_few(now, known.covered);
     }
     known
@@ -111,11 +115,12 @@ fn is_covered(now: &Shares, known: &Known, level: Level) -> bool
 
 /// The same of the level at which the arena stands, if it lives.
 #[inline]
-fn is_covered_at(now: &Shares, known: &Known, stands: Option<Level>) -> bool
+fn is_covered_at<const FOUND: bool>(now: &Shares, known: &Known, stands: Option<Level>) -> bool
+    requires { FOUND ≡ true → 0 < now.now.limit }
     ensures { result ≡ is_covered_at now.now known.now stands }
 {
     match stands {
-        Some(level) => is_covered(now, known, level),
+        Some(level) => is_covered::<FOUND>(now, known, level),
         None => false,
     }
 }
@@ -151,10 +156,11 @@ fn allotted(market: &Market, division: &mut Option<Division>, arena: ArenaId) ->
 
 /// What an arena of a level is allotted, of which this is known, where it is told by what the level is given, or by that none is given any.
 #[inline]
-fn told_share(now: &Shares, known: &Known, level: Level) -> Option<u32>
+fn told_share<const FOUND: bool>(now: &Shares, known: &Known, level: Level) -> Option<u32>
+    requires { FOUND ≡ true → 0 < now.now.limit }
     ensures { (s : State) (arena : ℕ) → unwrap_or result (allotment_of s arena) ≡ share_of s now.now known.now arena level }
 {
-    if is_divided(now, level) {
+    if is_divided::<FOUND>(now, level) {
         return exactly(known.request, now.given(level), now.asked(level));
     }
     if is_idle(now) { Some(0) } else { None }
@@ -162,7 +168,7 @@ fn told_share(now: &Shares, known: &Known, level: Level) -> Option<u32>
 
 /// What an arena of a level is allotted, of which this is known. The market is asked where it is told neither by what the level is given, nor
 /// by that none is given any: of the arena alone where some worker may be active, since most often one is asked about at a moment.
-fn share_of(
+fn share_of<const FOUND: bool>(
     market: &Market,
     division: &mut Option<Division>,
     now: &Shares,
@@ -170,13 +176,14 @@ fn share_of(
     arena: ArenaId,
     level: Level,
 ) -> u32
-    requires { IfSome division.old (IsDivisionOf market.now) }
+    requires found { FOUND ≡ true → 0 < now.now.limit }
+    requires divided { IfSome division.old (IsDivisionOf market.now) }
     ensures exact { result ≡ share_of market.now now.now known.now arena level }
     ensures divided { IfSome division.new (IsDivisionOf market.now) }
 {
-    match told_share(now, known, level) {
+    match told_share::<FOUND>(now, known, level) {
         Some(share) => share,
-        None if now.limit() > 0 => market.allotment(arena),
+        None if FOUND || now.limit() > 0 => market.allotment(arena),
         None => allotted(market, division, arena),
     }
 }
@@ -194,7 +201,7 @@ fn share_among(
     ensures exact { result ≡ share_of market.now now.now known.now arena level }
     ensures divided { IfSome division.new (IsDivisionOf market.now) }
 {
-    match told_share(now, known, level) {
+    match told_share::<false>(now, known, level) {
         Some(share) => share,
         None => allotted(market, division, arena),
     }
@@ -226,37 +233,32 @@ fn settle(
     }
 }
 
-/// The same in the column of the last moment, where the entry is not about the arena. A row whose column has what the arena is allotted is
-/// left as it is.
+/// The same in the column of the last moment, of an arena of a level, where the entry is not about it. A row whose column has what the arena is
+/// allotted is left as it is.
 #[inline(never)]
-fn settle_other(
+fn settle_other<const FOUND: bool>(
     row: &mut Row,
     known: &mut Known,
     place: usize,
     market: &Market,
     division: &mut Option<Division>,
-    cmd: &Cmd,
-    reply: &Reply,
     now: &Shares,
+    level: Level,
 )
+    requires found { FOUND ≡ true → 0 < now.now.limit }
     requires divided { IfSome division.old (IsDivisionOf market.now) }
-    ensures exact { (row.new, known.new) ≡ closed_row place market.now cmd.now reply.now known.old row.old row.old (option_map (share_of market.now now.now known.old row.old.arena) row.old.stands) }
+    ensures exact { (cmd : Cmd) (reply : Reply) → (row.new, known.new) ≡ closed_row place market.now cmd reply known.old row.old row.old (Some (share_of market.now now.now known.old row.old.arena level)) }
     ensures divided { IfSome division.new (IsDivisionOf market.now) }
 {
-    match row.stands {
-        Some(level) => {
-            let share = share_of(market, division, now, known, row.arena, level);
-            if !has_share(known, share) {
-                *known = row.tell(place, known, share);
-            }
-        }
-        None => *known = row.look(place, market, cmd, reply),
+    let share = share_of::<FOUND>(market, division, now, known, row.arena, level);
+    if !has_share(known, share) {
+        *known = row.tell(place, known, share);
     }
 }
 
 /// The same where the entry is about the arena: what it asks for and has is put into the column.
 #[inline(never)]
-fn settle_own(
+fn settle_own<const FOUND: bool>(
     row: &mut Row,
     known: &mut Known,
     place: usize,
@@ -266,13 +268,14 @@ fn settle_own(
     reply: &Reply,
     now: &Shares,
 )
+    requires found { FOUND ≡ true → 0 < now.now.limit }
     requires divided { IfSome division.old (IsDivisionOf market.now) }
     ensures exact { (row.new, known.new) ≡ closed_row place market.now cmd.now reply.now known.old row.old (needing_row place known.old row.old) (option_map (share_of market.now now.now known.old row.old.arena) row.old.stands) }
     ensures divided { IfSome division.new (IsDivisionOf market.now) }
 {
     match row.stands {
         Some(level) => {
-            let share = share_of(market, division, now, known, row.arena, level);
+            let share = share_of::<FOUND>(market, division, now, known, row.arena, level);
             if has_share(known, share) {
                 row.add_needs(place, known);
             } else {
@@ -330,7 +333,7 @@ fn seated(place: usize, more: bool, reply: &Reply, known: &Known, row: &Row) -> 
 /// Takes the moment after an entry into the column of the row of the arena that it is about, which has the moment before, where this is
 /// told of it, and what is then known of the arena.
 #[inline(always)]
-fn own_row(
+fn own_row<const FOUND: bool>(
     row: &mut Row,
     known: &mut Known,
     place: usize,
@@ -341,6 +344,7 @@ fn own_row(
     now: &Shares,
     told: Option<Known>,
 )
+    requires found { FOUND ≡ true → 0 < now.now.limit }
     requires divided { IfSome division.old (IsDivisionOf market.now) }
     ensures exact { (row.new, known.new) ≡ own_row place market.now cmd.now reply.now now.now row.old told }
     ensures divided { IfSome division.new (IsDivisionOf market.now) }
@@ -350,18 +354,18 @@ fn own_row(
         return;
     };
     *known = told;
-    if is_covered_at(now, known, row.stands) {
+    if is_covered_at::<FOUND>(now, known, row.stands) {
         row.add_needs(place, known);
         return;
     }
-    settle_own(row, known, place, market, division, cmd, reply, now);
+    settle_own::<FOUND>(row, known, place, market, division, cmd, reply, now);
 }
 
 /// Takes the moment after a command and its reply, which are about one arena, into the column of a row at a place, which has the moment
 /// before, and what is then known of its arena. A row to which the moment adds nothing is left as it is.
 // Always in its caller: a call for each row would have more words to hand over than most rows take.
 #[inline(always)]
-fn near_row(
+fn near_row<const FOUND: bool>(
     row: &mut Row,
     known: &mut Known,
     place: usize,
@@ -373,6 +377,7 @@ fn near_row(
     about: &Option<ArenaId>,
     kept: &[bool; 8],
 )
+    requires found { FOUND ≡ true → 0 < now.now.limit }
     requires divided { IfSome division.old (IsDivisionOf market.now) }
     requires about { about.now ≡ subject cmd.now reply.now }
     ensures exact { (row.new, known.new) ≡ near_row place market.now cmd.now reply.now now.now kept.now row.old known.old }
@@ -380,22 +385,25 @@ fn near_row(
 {
     if is_just(row.arena, about) {
         let told = retold(cmd, reply, known);
-        own_row(row, known, place, market, division, cmd, reply, now, told);
+        own_row::<FOUND>(row, known, place, market, division, cmd, reply, now, told);
         return;
     }
     if stands_kept(kept, row.stands) {
         return;
     }
-    if is_covered_at(now, known, row.stands) {
+    // Else it stands at a level.
+    let Some(level) = row.stands else {
         return;
+    };
+    if !is_covered::<FOUND>(now, known, level) {
+        settle_other::<FOUND>(row, known, place, market, division, now, level);
     }
-    settle_other(row, known, place, market, division, cmd, reply, now);
 }
 
 /// Takes the moment into the columns of all rows, and what is then known of their arenas, where the entry is about this arena, the levels
 /// are given this now, and the arenas of these are allotted what they were. The rows behind the first `count` are left as they are.
 #[inline(always)]
-fn rows_about(
+fn rows_about<const FOUND: bool>(
     rows: &mut [Row],
     known: &mut [Known],
     count: usize,
@@ -407,6 +415,7 @@ fn rows_about(
     about: &Option<ArenaId>,
     kept: &[bool; 8],
 )
+    requires found { FOUND ≡ true → 0 < now.now.limit }
     requires each { length known.old ≡ length rows.old }
     requires about { about.now ≡ subject cmd.now reply.now }
     requires within { count ≤ length rows.old }
@@ -417,7 +426,7 @@ fn rows_about(
 {
     let mut division = None;
     for index in 0..count {
-        near_row(
+        near_row::<FOUND>(
             &mut rows[index],
             &mut known[index],
             place,
@@ -433,7 +442,7 @@ fn rows_about(
 }
 
 /// The same of whatever the entry is about.
-// By cases, so that no row has to ask whether the entry is about any arena.
+// By cases, so that no row has to ask whether the entry is about any arena, nor whether any worker may be active.
 fn each_row(
     rows: &mut [Row],
     known: &mut [Known],
@@ -455,7 +464,7 @@ fn each_row(
     ensures rest { drop count rows.new ≡ drop count rows.old }
 {
     match about {
-        Some(arena) => rows_about(
+        Some(arena) if now.limit() > 0 => rows_about::<true>(
             rows,
             known,
             count,
@@ -467,8 +476,8 @@ fn each_row(
             &Some(*arena),
             kept,
         ),
-        None => rows_about(
-            rows, known, count, place, market, cmd, reply, now, &None, kept,
+        _ => rows_about::<false>(
+            rows, known, count, place, market, cmd, reply, now, about, kept,
         ),
     }
 }
@@ -522,7 +531,7 @@ fn seat_row(
 {
     if is_just(row.arena, moved) {
         let told = seated(place, more, reply, known, row);
-        own_row(row, known, place, market, &mut None, cmd, reply, now, told);
+        own_row::<false>(row, known, place, market, &mut None, cmd, reply, now, told);
     }
 }
 

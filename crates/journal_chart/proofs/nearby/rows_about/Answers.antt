@@ -1,21 +1,24 @@
-use Rattle.std.proofs.Common.{get_or, drop, subst, sym, ◌≡◌, arith, rules}
+use Rattle.std.proofs.Common.{ℕ, List, Bool, get_or, drop, subst, sym, ◌≡◌, arith, rules}
+use Rattle.market_types.specs.State.{State}
+use Rattle.market_types.specs.declared.command.Cmd.{Cmd}
+use Rattle.market_types.specs.declared.reply.Reply.{Reply}
 use Rattle.journal_chart.specs.declared.row.Known.{Known}
 use Rattle.journal_chart.specs.declared.row.Row.{Row}
 use Rattle.journal_chart.specs.Resting.{AreLeft}
+use Rattle.journal_chart.specs.Shares.{Shared}
 use Rattle.journal_chart.specs.Steps.{near_row, nothing_known, pairwise, subject}
-use Rattle.journal_chart.proofs.Pairs.{get-any, paired-part, paired-more, paired-none}
+use Rattle.journal_chart.proofs.Pairs.{Paired, get-any, paired-part, paired-more, paired-none}
 use Rattle.journal_chart.proofs.AtRest.{near-rest}
 use Rattle.journal_chart.proofs.nearby.rows_about.Goals as goal
-use Rattle.journal_chart.proofs.nearby.rows_about.Goals.{After-loop-index}
 
 pub loop-index-init : goal.loop-index-init
-loop-index-init c = record { paired = paired-none (near_row c.args.place c.args.market.now c.args.cmd.now c.args.reply.now c.args.now.now c.args.kept.now) c.args.rows.now c.args.known.now c.requires.each; divided = search rules }
+loop-index-init g c = record { paired = paired-none (near_row c.args.place c.args.market.now c.args.cmd.now c.args.reply.now c.args.now.now c.args.kept.now) c.args.rows.now c.args.known.now c.requires.each; divided = search rules }
 
 pub near_row-requires-clause-divided : goal.near_row-requires-clause-divided
-near_row-requires-clause-divided c = c.loop-index.invariant.divided
+near_row-requires-clause-divided g c = c.loop-index.invariant.divided
 
 pub loop-index-preserved : goal.loop-index-preserved
-loop-index-preserved c =
+loop-index-preserved g c =
     let i = c.loop-index.index in
     let row : Row = get_or c.loop-index.rows i c.index-rows-index.result in
     let known : Known = get_or c.loop-index.known i nothing_known in
@@ -28,24 +31,24 @@ loop-index-preserved c =
     }
 
 -- what becomes of all rows
-module _ (c : After-loop-index) where
-  abbrev row-made : Row → Known → Row × Known
-  row-made = near_row c.args.place c.args.market.now c.args.cmd.now c.args.reply.now c.args.now.now c.args.kept.now
-
-  all-made : (c.loop-index.rows ≡ (pairwise row-made c.args.rows.now c.args.known.now).0) × (c.loop-index.known ≡ (pairwise row-made c.args.rows.now c.args.known.now).1)
-  all-made =
-      let all : c.args.count ≡ c.loop-index.index = omega arith in
-      let left : AreLeft c.loop-index.index (subject c.args.cmd.now c.args.reply.now) c.args.rows.now = subst (λ n. AreLeft n (subject c.args.cmd.now c.args.reply.now) c.args.rows.now) all c.requires.left in
-      paired-part row-made c.args.rows.now c.args.known.now c.loop-index.rows c.loop-index.known c.loop-index.index c.loop-index.invariant.paired
-      (near-rest c.args.place c.args.market.now c.args.cmd.now c.args.reply.now c.args.now.now c.args.kept.now (drop c.loop-index.index c.args.rows.now) left)
+made : (place : ℕ) (s : State) (cmd : Cmd) (reply : Reply) (now : Shared) (kept : List Bool) (rows0 : List Row) (ks0 : List Known) (rows : List Row) (ks : List Known) (i count : ℕ)
+    → Paired (near_row place s cmd reply now kept) rows0 ks0 rows ks i → count ≡ i → AreLeft count (subject cmd reply) rows0
+    → (rows ≡ (pairwise (near_row place s cmd reply now kept) rows0 ks0).0) × (ks ≡ (pairwise (near_row place s cmd reply now kept) rows0 ks0).1)
+made place s cmd reply now kept rows0 ks0 rows ks i count h all left =
+    paired-part (near_row place s cmd reply now kept) rows0 ks0 rows ks i h
+    (near-rest place s cmd reply now kept (drop i rows0) (subst (λ n. AreLeft n (subject cmd reply) rows0) all left))
 
 pub returns-clause-rows : goal.returns-clause-rows
-returns-clause-rows c = (all-made (goal.at.returns-clause-rows c).After-loop-index).0
+returns-clause-rows g c =
+    (made c.args.place c.args.market.now c.args.cmd.now c.args.reply.now c.args.now.now c.args.kept.now c.args.rows.now c.args.known.now c.loop-index.rows c.loop-index.known c.loop-index.index c.args.count
+    c.loop-index.invariant.paired (omega arith) c.requires.left).0
 
 pub returns-clause-known : goal.returns-clause-known
-returns-clause-known c = (all-made (goal.at.returns-clause-known c).After-loop-index).1
+returns-clause-known g c =
+    (made c.args.place c.args.market.now c.args.cmd.now c.args.reply.now c.args.now.now c.args.kept.now c.args.rows.now c.args.known.now c.loop-index.rows c.loop-index.known c.loop-index.index c.args.count
+    c.loop-index.invariant.paired (omega arith) c.requires.left).1
 
 pub returns-clause-rest : goal.returns-clause-rest
-returns-clause-rest c =
+returns-clause-rest g c =
     let all : c.args.count ≡ c.loop-index.index = omega arith in
     subst (λ n. drop n c.loop-index.rows ≡ drop n c.args.rows.now) (sym all) c.loop-index.invariant.paired.rest

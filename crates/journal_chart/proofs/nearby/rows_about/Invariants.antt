@@ -5,7 +5,7 @@ use Rattle.journal_chart.proofs.Pairs.{Paired}
 use Rattle.journal_chart.proofs.nearby.rows_about.Given as goal
 
 abbrev pub invariant-loop-index : goal.invariant-loop-index
-invariant-loop-index l = record {
+invariant-loop-index g l = record {
   paired : Paired (near_row l.place l.market l.cmd l.reply l.now l.kept) l.initial.rows l.initial.known l.rows l.known l.index;
   divided : IfSome l.division (IsDivisionOf l.market);
 }
