@@ -10,9 +10,11 @@
 //!   7, 3 and 5       3            7
 //! ```
 //!
-//! A number more, or another column, is then a minimum and a maximum, with no branch that asks whether there are numbers yet.
+//! A number more, or another column, is then a minimum and a maximum, with no branch that asks whether there are numbers yet, and two columns
+//! say the same where their words are the same.
 ghost use Rattle.std.specs.Prelude.{◌≡◌, None, Some};
 ghost use Rattle.journal_chart.specs.Columns.{alone, joined};
+ghost use Rattle.journal_chart.specs.Picture.{same_span};
 
 use crate::span::Span;
 use std::marker::Model;
@@ -91,6 +93,14 @@ impl Column {
             least: self.least.min(other.least),
             most: self.most.max(other.most),
         }
+    }
+
+    /// Both say the same.
+    #[inline]
+    pub(crate) fn is_same(self, other: Column) -> bool
+        ensures { result ≡ same_span self other }
+    {
+        self.least == other.least && self.most == other.most
     }
 
     /// These and a number more.

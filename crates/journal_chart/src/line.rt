@@ -1,7 +1,7 @@
 //! A line of a chart.
 ghost use Rattle.std.specs.Prelude.{◌≡◌, IfOk, None, Some, replicate};
 ghost use Rattle.journal_chart.specs.Lines.{added, at, halved};
-ghost use Rattle.journal_chart.specs.Picture.{same_span, says_next};
+ghost use Rattle.journal_chart.specs.Picture.{says_next};
 
 use crate::column::Column;
 use crate::span::Span;
@@ -41,14 +41,21 @@ impl Line {
         &self.columns
     }
 
-    /// The column at a place, `None` beyond the last.
-    pub(crate) fn at(&self, place: usize) -> Option<Span>
+    /// The column at a place, without numbers beyond the last.
+    fn column_at(&self, place: usize) -> Column
         ensures { result ≡ at self.now place }
     {
         match self.columns.get(place) {
-            Some(column) => column.span(),
-            None => None,
+            Some(column) => *column,
+            None => Column::none(),
         }
+    }
+
+    /// What the column at a place says, `None` beyond the last.
+    pub(crate) fn at(&self, place: usize) -> Option<Span>
+        ensures { result ≡ at self.now place }
+    {
+        self.column_at(place).span()
     }
 
     /// Whether the column at a place says what the next says.
@@ -56,7 +63,7 @@ impl Line {
         ensures { result ≡ says_next self.now place }
     {
         let place = place as usize;
-        same(self.at(place), self.at(place + 1))
+        self.column_at(place).is_same(self.column_at(place + 1))
     }
 
     /// Puts a number into the column at a place, if there is one.
@@ -73,17 +80,6 @@ impl Line {
         ensures { self.new ≡ halved self.old }
     {
         halve_columns(&mut self.columns);
-    }
-}
-
-/// Whether two columns say the same.
-fn same(one: Option<Span>, other: Option<Span>) -> bool
-    ensures { result ≡ same_span one other }
-{
-    match (one, other) {
-        (None, None) => true,
-        (Some(one), Some(other)) => one.least == other.least && one.most == other.most,
-        _ => false,
     }
 }
 

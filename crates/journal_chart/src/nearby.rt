@@ -64,15 +64,15 @@ fn is_just(arena: ArenaId, option: &Option<ArenaId>) -> bool
     }
 }
 
-/// What levels are given tells what the arenas of this one are allotted: some worker may be active, which who calls may have found before.
+/// What levels are given tells what the arenas of this one are allotted: some worker may be active, as whoever calls may know (`DIVIDED`).
 #[inline]
-fn is_divided<const FOUND: bool>(now: &Shares, level: Level) -> bool
-    requires { FOUND ≡ true → 0 < now.now.limit }
+fn is_divided<const DIVIDED: bool>(now: &Shares, level: Level) -> bool
+    requires { DIVIDED ≡ true → 0 < now.now.limit }
     ensures { result ≡ is_divided now.now level }
 {
     // That there are 8 levels at most is what this call promises.
     let _ = level.index();
-    FOUND || now.limit() > 0
+    DIVIDED || now.limit() > 0
 }
 
 /// Nothing is added to the column of an arena of which this is known, if it is allotted so many workers.
@@ -101,11 +101,11 @@ fn has_few(now: &Shares, covered: Covered) -> bool
 
 /// A column has all that an arena of a level may be allotted, of which this is known.
 #[inline]
-fn is_covered<const FOUND: bool>(now: &Shares, known: &Known, level: Level) -> bool
-    requires { FOUND ≡ true → 0 < now.now.limit }
+fn is_covered<const DIVIDED: bool>(now: &Shares, known: &Known, level: Level) -> bool
+    requires { DIVIDED ≡ true → 0 < now.now.limit }
     ensures { result ≡ is_covered now.now known.now level }
 {
-    if !is_divided::<FOUND>(now, level) {
+    if !is_divided::<DIVIDED>(now, level) {
         return has_few(now, known.covered);
     }
     known
@@ -115,12 +115,12 @@ fn is_covered<const FOUND: bool>(now: &Shares, known: &Known, level: Level) -> b
 
 /// The same of the level at which the arena stands, if it lives.
 #[inline]
-fn is_covered_at<const FOUND: bool>(now: &Shares, known: &Known, stands: Option<Level>) -> bool
-    requires { FOUND ≡ true → 0 < now.now.limit }
+fn is_covered_at<const DIVIDED: bool>(now: &Shares, known: &Known, stands: Option<Level>) -> bool
+    requires { DIVIDED ≡ true → 0 < now.now.limit }
     ensures { result ≡ is_covered_at now.now known.now stands }
 {
     match stands {
-        Some(level) => is_covered::<FOUND>(now, known, level),
+        Some(level) => is_covered::<DIVIDED>(now, known, level),
         None => false,
     }
 }
@@ -156,11 +156,11 @@ fn allotted(market: &Market, division: &mut Option<Division>, arena: ArenaId) ->
 
 /// What an arena of a level is allotted, of which this is known, where it is told by what the level is given, or by that none is given any.
 #[inline]
-fn told_share<const FOUND: bool>(now: &Shares, known: &Known, level: Level) -> Option<u32>
-    requires { FOUND ≡ true → 0 < now.now.limit }
+fn told_share<const DIVIDED: bool>(now: &Shares, known: &Known, level: Level) -> Option<u32>
+    requires { DIVIDED ≡ true → 0 < now.now.limit }
     ensures { (s : State) (arena : ℕ) → unwrap_or result (allotment_of s arena) ≡ share_of s now.now known.now arena level }
 {
-    if is_divided::<FOUND>(now, level) {
+    if is_divided::<DIVIDED>(now, level) {
         return exactly(known.request, now.given(level), now.asked(level));
     }
     if is_idle(now) { Some(0) } else { None }
@@ -168,7 +168,7 @@ fn told_share<const FOUND: bool>(now: &Shares, known: &Known, level: Level) -> O
 
 /// What an arena of a level is allotted, of which this is known. The market is asked where it is told neither by what the level is given, nor
 /// by that none is given any: of the arena alone where some worker may be active, since most often one is asked about at a moment.
-fn share_of<const FOUND: bool>(
+fn share_of<const DIVIDED: bool>(
     market: &Market,
     division: &mut Option<Division>,
     now: &Shares,
@@ -176,14 +176,14 @@ fn share_of<const FOUND: bool>(
     arena: ArenaId,
     level: Level,
 ) -> u32
-    requires found { FOUND ≡ true → 0 < now.now.limit }
+    requires found { DIVIDED ≡ true → 0 < now.now.limit }
     requires divided { IfSome division.old (IsDivisionOf market.now) }
     ensures exact { result ≡ share_of market.now now.now known.now arena level }
     ensures divided { IfSome division.new (IsDivisionOf market.now) }
 {
-    match told_share::<FOUND>(now, known, level) {
+    match told_share::<DIVIDED>(now, known, level) {
         Some(share) => share,
-        None if FOUND || now.limit() > 0 => market.allotment(arena),
+        None if DIVIDED || now.limit() > 0 => market.allotment(arena),
         None => allotted(market, division, arena),
     }
 }
@@ -236,7 +236,7 @@ fn settle(
 /// The same in the column of the last moment, of an arena of a level, where the entry is not about it. A row whose column has what the arena is
 /// allotted is left as it is.
 #[inline(never)]
-fn settle_other<const FOUND: bool>(
+fn settle_other<const DIVIDED: bool>(
     row: &mut Row,
     known: &mut Known,
     place: usize,
@@ -245,12 +245,12 @@ fn settle_other<const FOUND: bool>(
     now: &Shares,
     level: Level,
 )
-    requires found { FOUND ≡ true → 0 < now.now.limit }
+    requires found { DIVIDED ≡ true → 0 < now.now.limit }
     requires divided { IfSome division.old (IsDivisionOf market.now) }
     ensures exact { (cmd : Cmd) (reply : Reply) → (row.new, known.new) ≡ closed_row place market.now cmd reply known.old row.old row.old (Some (share_of market.now now.now known.old row.old.arena level)) }
     ensures divided { IfSome division.new (IsDivisionOf market.now) }
 {
-    let share = share_of::<FOUND>(market, division, now, known, row.arena, level);
+    let share = share_of::<DIVIDED>(market, division, now, known, row.arena, level);
     if !has_share(known, share) {
         *known = row.tell(place, known, share);
     }
@@ -258,7 +258,7 @@ fn settle_other<const FOUND: bool>(
 
 /// The same where the entry is about the arena: what it asks for and has is put into the column.
 #[inline(never)]
-fn settle_own<const FOUND: bool>(
+fn settle_own<const DIVIDED: bool>(
     row: &mut Row,
     known: &mut Known,
     place: usize,
@@ -268,14 +268,14 @@ fn settle_own<const FOUND: bool>(
     reply: &Reply,
     now: &Shares,
 )
-    requires found { FOUND ≡ true → 0 < now.now.limit }
+    requires found { DIVIDED ≡ true → 0 < now.now.limit }
     requires divided { IfSome division.old (IsDivisionOf market.now) }
     ensures exact { (row.new, known.new) ≡ closed_row place market.now cmd.now reply.now known.old row.old (needing_row place known.old row.old) (option_map (share_of market.now now.now known.old row.old.arena) row.old.stands) }
     ensures divided { IfSome division.new (IsDivisionOf market.now) }
 {
     match row.stands {
         Some(level) => {
-            let share = share_of::<FOUND>(market, division, now, known, row.arena, level);
+            let share = share_of::<DIVIDED>(market, division, now, known, row.arena, level);
             if has_share(known, share) {
                 row.add_needs(place, known);
             } else {
@@ -333,7 +333,7 @@ fn seated(place: usize, more: bool, reply: &Reply, known: &Known, row: &Row) -> 
 /// Takes the moment after an entry into the column of the row of the arena that it is about, which has the moment before, where this is
 /// told of it, and what is then known of the arena.
 #[inline(always)]
-fn own_row<const FOUND: bool>(
+fn own_row<const DIVIDED: bool>(
     row: &mut Row,
     known: &mut Known,
     place: usize,
@@ -344,7 +344,7 @@ fn own_row<const FOUND: bool>(
     now: &Shares,
     told: Option<Known>,
 )
-    requires found { FOUND ≡ true → 0 < now.now.limit }
+    requires found { DIVIDED ≡ true → 0 < now.now.limit }
     requires divided { IfSome division.old (IsDivisionOf market.now) }
     ensures exact { (row.new, known.new) ≡ own_row place market.now cmd.now reply.now now.now row.old told }
     ensures divided { IfSome division.new (IsDivisionOf market.now) }
@@ -354,18 +354,18 @@ fn own_row<const FOUND: bool>(
         return;
     };
     *known = told;
-    if is_covered_at::<FOUND>(now, known, row.stands) {
+    if is_covered_at::<DIVIDED>(now, known, row.stands) {
         row.add_needs(place, known);
         return;
     }
-    settle_own::<FOUND>(row, known, place, market, division, cmd, reply, now);
+    settle_own::<DIVIDED>(row, known, place, market, division, cmd, reply, now);
 }
 
 /// Takes the moment after a command and its reply, which are about one arena, into the column of a row at a place, which has the moment
 /// before, and what is then known of its arena. A row to which the moment adds nothing is left as it is.
 // Always in its caller: a call for each row would have more words to hand over than most rows take.
 #[inline(always)]
-fn near_row<const FOUND: bool>(
+fn near_row<const DIVIDED: bool>(
     row: &mut Row,
     known: &mut Known,
     place: usize,
@@ -377,7 +377,7 @@ fn near_row<const FOUND: bool>(
     about: &Option<ArenaId>,
     kept: &[bool; 8],
 )
-    requires found { FOUND ≡ true → 0 < now.now.limit }
+    requires found { DIVIDED ≡ true → 0 < now.now.limit }
     requires divided { IfSome division.old (IsDivisionOf market.now) }
     requires about { about.now ≡ subject cmd.now reply.now }
     ensures exact { (row.new, known.new) ≡ near_row place market.now cmd.now reply.now now.now kept.now row.old known.old }
@@ -385,7 +385,7 @@ fn near_row<const FOUND: bool>(
 {
     if is_just(row.arena, about) {
         let told = retold(cmd, reply, known);
-        own_row::<FOUND>(row, known, place, market, division, cmd, reply, now, told);
+        own_row::<DIVIDED>(row, known, place, market, division, cmd, reply, now, told);
         return;
     }
     if stands_kept(kept, row.stands) {
@@ -395,15 +395,15 @@ fn near_row<const FOUND: bool>(
     let Some(level) = row.stands else {
         return;
     };
-    if !is_covered::<FOUND>(now, known, level) {
-        settle_other::<FOUND>(row, known, place, market, division, now, level);
+    if !is_covered::<DIVIDED>(now, known, level) {
+        settle_other::<DIVIDED>(row, known, place, market, division, now, level);
     }
 }
 
 /// Takes the moment into the columns of all rows, and what is then known of their arenas, where the entry is about this arena, the levels
 /// are given this now, and the arenas of these are allotted what they were. The rows behind the first `count` are left as they are.
 #[inline(always)]
-fn rows_about<const FOUND: bool>(
+fn rows_about<const DIVIDED: bool>(
     rows: &mut [Row],
     known: &mut [Known],
     count: usize,
@@ -415,7 +415,7 @@ fn rows_about<const FOUND: bool>(
     about: &Option<ArenaId>,
     kept: &[bool; 8],
 )
-    requires found { FOUND ≡ true → 0 < now.now.limit }
+    requires found { DIVIDED ≡ true → 0 < now.now.limit }
     requires each { length known.old ≡ length rows.old }
     requires about { about.now ≡ subject cmd.now reply.now }
     requires within { count ≤ length rows.old }
@@ -426,7 +426,7 @@ fn rows_about<const FOUND: bool>(
 {
     let mut division = None;
     for index in 0..count {
-        near_row::<FOUND>(
+        near_row::<DIVIDED>(
             &mut rows[index],
             &mut known[index],
             place,
