@@ -17,7 +17,7 @@ use Rattle.journal_replay.specs.Verdicts.{StopsReading, limit_of}
 use Rattle.journal_chart.specs.Numbers.{Charted, moments_of}
 use Rattle.journal_chart.specs.Journals.{Charts, IsChartOf}
 use Rattle.journal_chart.specs.Picture.{picture_text}
-use Rattle.market_prog.specs.declared.words.ChartOptions.{ChartOptions}
+use Rattle.market_words.specs.declared.words.ChartOptions.{ChartOptions}
 use Rattle.market_prog.specs.declared.fault.RunFault.{RunFault}
 use Rattle.market_prog.specs.declared.fault.RunFault.TheVariants.{Open, Read, TooLong, Write, Memory, HistoryFull}
 use Rattle.market_prog.specs.Faults.{run_fault_of_input}

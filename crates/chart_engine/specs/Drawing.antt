@@ -8,7 +8,7 @@ use Rattle.journal_replay.specs.Verdicts.{limit_of, verdict}
 use Rattle.journal_chart.specs.Numbers.{Charted}
 use Rattle.journal_chart.specs.Journals.{IsChartOf}
 use Rattle.journal_chart.specs.Picture.{picture_text}
-use Rattle.market_prog.specs.declared.words.ChartOptions.{ChartOptions}
+use Rattle.market_words.specs.declared.words.ChartOptions.{ChartOptions}
 use Rattle.market_prog.specs.declared.fault.RunFault.{RunFault}
 use Rattle.market_prog.specs.declared.fault.RunFault.TheVariants.{Open, Read, TooLong, Write, Memory, HistoryFull}
 use Rattle.market_prog.specs.Replay.{TellingCauseOf}

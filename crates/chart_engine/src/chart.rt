@@ -9,7 +9,8 @@ ghost use Rattle.market_prog.specs.Replay.{IsTellingFault};
 use byte_devices::{Sink, Source, put_all};
 use journal_chart::{Chart, chart_source, push_picture};
 use journal_replay::Verdict;
-use market_prog::{ChartOptions, RunFault};
+use market_prog::RunFault;
+use market_words::ChartOptions;
 use std::alloc::Global;
 
 /// How many cells a picture has at most, a cell being a column of an arena. So a picture has less than 2 MB.

@@ -4,6 +4,8 @@
 #![tactic(auto)]
 
 mod drive;
+mod progress;
 mod text;
 
 pub use drive::{DriveEnd, run_drive, run_drive_through, status_of_drive};
+pub use progress::ProgressGate;

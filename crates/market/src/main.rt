@@ -3,20 +3,19 @@
 
 ghost use Rattle.std.specs.Prelude.{◌≤◌, length};
 
-mod progress;
-
-use crate::progress::{Meter, MeteredSource, ProgressGate};
 use byte_devices::{ReadSource, WriteSink};
 use chart_engine::run_chart;
 use clap::Error;
 use clap::error::ErrorKind;
-use drive_engine::{DriveEnd, run_drive, run_drive_through, status_of_drive};
+use drive_engine::{DriveEnd, ProgressGate, run_drive, run_drive_through, status_of_drive};
 use journal_replay::Verdict;
 use market_drive::DriveFault;
 use market_prog::{
-    ChartOptions, Choice, DriveOptions, ReplayOptions, RunFault, ScriptOptions, ScriptTask,
-    explain_script, read_words, run_journal, run_replay, run_script, status_of_replay,
-    status_of_run,
+    Meter, MeteredSource, RunFault, explain_script, run_journal, run_replay, run_script,
+    status_of_replay, status_of_run,
+};
+use market_words::{
+    ChartOptions, Choice, DriveOptions, ReplayOptions, ScriptOptions, ScriptTask, read_words,
 };
 use std::fmt::Display;
 use std::io::IsTerminal;

@@ -1,6 +1,3 @@
-pub mod Words
-pub mod Passed
-pub mod Command
 pub mod Faults
 pub mod Replay
 pub mod Run

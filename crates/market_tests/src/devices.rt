@@ -4,10 +4,9 @@ use crate::asserts::{holds, same};
 use crate::endless::Hashes;
 use crate::work::{new_sink, work_script};
 use byte_devices::TestSource;
-use market_prog::{
-    RunFault, ScriptTask, USUAL_MARKET, run_replay, run_script, status_of_replay, status_of_run,
-};
+use market_prog::{RunFault, run_replay, run_script, status_of_replay, status_of_run};
 use market_types::{OpenFault, Opening};
+use market_words::{ScriptTask, USUAL_MARKET};
 use std::rt::HostRuntime;
 
 const HIRED: &[u8] = b"0 open 8 1 normal\n0 request 1 3 0\n0 show 1\n";

@@ -4,8 +4,9 @@ use crate::asserts::{holds, same};
 use crate::endless::{LineCount, Repeated};
 use crate::work::new_sink;
 use byte_devices::TestSource;
-use market_prog::{RunFault, USUAL_MARKET, run_journal, status_of_run};
+use market_prog::{RunFault, run_journal, status_of_run};
 use market_types::{LastNumber, Opening};
+use market_words::USUAL_MARKET;
 use std::rt::HostRuntime;
 
 /// The fourth control has no number.

@@ -2,8 +2,9 @@
 use crate::asserts::{holds, same};
 use crate::work::new_sink;
 use byte_devices::TestSource;
-use market_prog::{USUAL_MARKET, run_script};
+use market_prog::run_script;
 use market_types::{LastNumber, Opening};
+use market_words::USUAL_MARKET;
 use std::alloc::Global;
 use std::process::Abort;
 use std::rt::HostRuntime;

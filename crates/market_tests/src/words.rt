@@ -1,10 +1,10 @@
 //! Command lines, and what is said of them.
 use crate::asserts::same;
-use market_prog::{
+use market_types::{ArenaId, LastNumber, Opening};
+use market_words::{
     ChartOptions, Choice, DriveOptions, ReplayOptions, ScriptOptions, ScriptTask, USUAL_MARKET,
     read_words,
 };
-use market_types::{ArenaId, LastNumber, Opening};
 use std::alloc::Global;
 use std::process::Abort;
 use std::rt::HostRuntime;

@@ -2,8 +2,9 @@
 ghost use Rattle.std.specs.Prelude.{◌≡◌, false};
 
 use byte_devices::{Sink, Source, TestSink};
-use market_prog::{RunFault, ScriptTask, explain_script, run_journal, run_script};
+use market_prog::{RunFault, explain_script, run_journal, run_script};
 use market_types::Opening;
+use market_words::ScriptTask;
 use std::alloc::Global;
 use std::process::Abort;
 

@@ -1,8 +1,8 @@
 //! The words of a command line.
 use crate::asserts::{holds, same};
 use clap::error::ErrorKind;
-use market_prog::{Choice, ScriptOptions, ScriptTask, USUAL_MARKET, read_words};
 use market_types::Opening;
+use market_words::{Choice, ScriptOptions, ScriptTask, USUAL_MARKET, read_words};
 use std::rt::HostRuntime;
 
 #[test]

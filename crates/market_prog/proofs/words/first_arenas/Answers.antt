@@ -1,6 +1,0 @@
-use Rattle.std.proofs.Common.{rules}
-use Rattle.market_prog.proofs.Spelling.{first-more}
-use Rattle.market_prog.proofs.words.first_arenas.Goals as goal
-
-pub loop-index-preserved : goal.loop-index-preserved
-loop-index-preserved c = first-more c.loop-index.index _ _ c.loop-index.invariant (search rules)

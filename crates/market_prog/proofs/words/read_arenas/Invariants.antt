@@ -1,6 +1,0 @@
-use Rattle.std.proofs.Common.{map, take}
-use Rattle.market_prog.specs.Words.{AreSpelled}
-use Rattle.market_prog.proofs.words.read_arenas.Given as goal
-
-abbrev pub invariant-loop-word : goal.invariant-loop-word
-invariant-loop-word l = AreSpelled (map (λ s. s.now) (take l.word-index l.words)) l.arenas.items

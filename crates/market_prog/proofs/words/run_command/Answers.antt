@@ -1,4 +1,0 @@
-use Rattle.market_prog.proofs.words.run_command.Goals as goal
-
-pub returns : goal.returns
-returns c = c.with_progress.ensures _ (c.with_flag-command.ensures _ c.script_command-command.ensures)
