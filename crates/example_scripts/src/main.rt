@@ -6,8 +6,10 @@ ghost use Rattle.std.specs.Prelude.{◌<◌, ◌≤◌};
 
 use anyhow::Result;
 use byte_devices::{TestSink, TestSource};
-use drive_engine::{run_drive, status_of_drive};
-use market_prog::{explain_script, run_journal, run_replay, run_script, status_of_replay};
+use market_prog::{
+    explain_script, run_drive, run_journal, run_replay, run_script, status_of_drive,
+    status_of_replay,
+};
 use market_types::Opening;
 use market_words::{ScriptTask, USUAL_MARKET};
 use std::alloc::Global;

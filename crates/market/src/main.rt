@@ -4,15 +4,14 @@
 ghost use Rattle.std.specs.Prelude.{◌≤◌, length};
 
 use byte_devices::{ReadSource, WriteSink};
-use chart_engine::run_chart;
 use clap::Error;
 use clap::error::ErrorKind;
-use drive_engine::{DriveEnd, ProgressGate, run_drive, run_drive_through, status_of_drive};
 use journal_replay::Verdict;
 use market_drive::DriveFault;
 use market_prog::{
-    Meter, MeteredSource, RunFault, explain_script, run_journal, run_replay, run_script,
-    status_of_replay, status_of_run,
+    DriveEnd, Meter, MeteredSource, ProgressGate, RunFault, explain_script, run_chart, run_drive,
+    run_drive_through, run_journal, run_replay, run_script, status_of_drive, status_of_replay,
+    status_of_run,
 };
 use market_words::{
     ChartOptions, Choice, DriveOptions, ReplayOptions, ScriptOptions, ScriptTask, read_words,

@@ -5,3 +5,6 @@ pub mod Runs
 pub mod Explaining
 pub mod History
 pub mod Journaling
+pub mod Drawn
+mod DriveExamples
+pub mod Driven

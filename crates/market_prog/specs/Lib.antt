@@ -7,3 +7,6 @@ pub mod Status
 pub mod Recorded
 pub mod Recording
 pub mod Journal
+pub mod Drawing
+pub mod DriveTexts
+pub mod Drive

@@ -1,7 +1,11 @@
-//! What the program `market` does once its words are read (`market_words`), but for plans (`drive_engine`) and charts (`chart_engine`): it
-//! runs scripts, writes their journals, explains the markets that they lead to, or replays journals, from a source to a sink.
+//! What the program `market` does once its words are read (`market_words`): it runs scripts, writes their journals, explains the markets that
+//! they lead to, replays or draws journals, or has plans driven, from a source to a sink.
 #![tactic(auto)]
 
+mod chart;
+mod drive;
+mod drive_progress;
+mod drive_text;
 mod engine;
 mod explain;
 mod fault;
@@ -11,6 +15,9 @@ mod recording;
 mod replay;
 mod session;
 
+pub use chart::run_chart;
+pub use drive::{DriveEnd, run_drive, run_drive_through, status_of_drive};
+pub use drive_progress::ProgressGate;
 pub use engine::run_script;
 pub use explain::explain_script;
 pub use fault::{RunFault, status_of_run};

@@ -3,9 +3,8 @@ ghost use Rattle.std.specs.Prelude.{◌≡◌, ◌≤◌, false, length};
 
 use crate::asserts::{holds, same};
 use byte_devices::{TestSink, TestSource};
-use chart_engine::run_chart;
 use journal_replay::Verdict;
-use market_prog::{RunFault, status_of_replay};
+use market_prog::{RunFault, run_chart, status_of_replay};
 use market_types::ArenaId;
 use market_words::ChartOptions;
 use std::alloc::Global;

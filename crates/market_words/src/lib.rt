@@ -1,5 +1,5 @@
 //! The words of the command line of the program `market`: its subcommands and their options, as clap reads them, and what they choose. It
-//! stands apart from what the program then does (`market_prog`, `chart_engine`, `drive_engine`), so that it is proved beside the market.
+//! stands apart from what the program then does (`market_prog`), so that it is proved beside the market.
 #![tactic(auto)]
 
 mod help;

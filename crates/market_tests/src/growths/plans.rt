@@ -2,10 +2,9 @@
 use super::engines::new_sink;
 use crate::asserts::{holds, same};
 use byte_devices::{TestSink, TestSource};
-use drive_engine::{DriveEnd, run_drive};
 use drive_plan::{Plan, PlanFault, read_plan};
 use market_drive::{DriveFault, drive, plan_commands, unservable};
-use market_prog::RunFault;
+use market_prog::{DriveEnd, RunFault, run_drive};
 use market_types::ArenaId;
 use std::alloc::Global;
 use std::process::Abort;

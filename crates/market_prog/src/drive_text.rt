@@ -1,6 +1,6 @@
 //! What is written of a plan that was driven.
 ghost use Rattle.std.specs.Prelude.{◌≡◌, ◌++◌, IfOk, OnOk, decimal};
-ghost use Rattle.drive_engine.specs.Texts.{answer_lines, fault_line, job_line, numbered_line};
+ghost use Rattle.market_prog.specs.DriveTexts.{answer_lines, fault_line, job_line, numbered_line};
 
 use itoa::Buffer;
 use market_drive::DriveFault;

@@ -21,7 +21,7 @@ use Rattle.market_words.specs.declared.words.ChartOptions.{ChartOptions}
 use Rattle.market_prog.specs.declared.fault.RunFault.{RunFault}
 use Rattle.market_prog.specs.declared.fault.RunFault.TheVariants.{Open, Read, TooLong, Write, Memory, HistoryFull}
 use Rattle.market_prog.specs.Faults.{run_fault_of_input}
-use Rattle.chart_engine.specs.Drawing.{Draws, DrawsBefore, IsDrawnOf, StopsDrawing, columns_of}
+use Rattle.market_prog.specs.Drawing.{Draws, DrawsBefore, IsDrawnOf, StopsDrawing, columns_of}
 use Rattle.market_prog.specs.Replay.{IsTellingFault}
 use Rattle.market_prog.proofs.Telling.{telling-cause}
 

@@ -1,7 +1,7 @@
 use Rattle.std.proofs.Common.{◌∙◌, ap}
-use Rattle.drive_engine.specs.Texts.{answer_lines}
-use Rattle.drive_engine.proofs.Driven.{outcome-written}
-use Rattle.drive_engine.proofs.drive.tell.Goals as goal
+use Rattle.market_prog.specs.DriveTexts.{answer_lines}
+use Rattle.market_prog.proofs.Driven.{outcome-written}
+use Rattle.market_prog.proofs.drive.tell.Goals as goal
 
 pub returns-in_ok-answer_text-in-Ok : goal.returns-in_ok-answer_text-in-Ok
 returns-in_ok-answer_text-in-Ok g c =

@@ -4,7 +4,7 @@ use Rattle.plan_jobs.specs.declared.task.PlannedJob.{PlannedJob}
 use Rattle.plan_jobs.specs.declared.task.Done.{Done}
 use Rattle.plan_jobs.specs.Values.{value_of}
 use Rattle.plan_jobs.specs.Outcome.{IsOutcome}
-use Rattle.drive_engine.specs.Texts.{answer_lines, job_line, outcome_lines}
+use Rattle.market_prog.specs.DriveTexts.{answer_lines, job_line, outcome_lines}
 
 -- answers with the jobs' values, the first of which has this number
 lines-are : (n : ℕ) (jobs : List PlannedJob) (ds : List Done) → length ds ≡ length jobs

@@ -1,6 +1,6 @@
 //! How far a drive is, told on standard error while it goes on.
 
-use market_prog::Pace;
+use crate::progress::Pace;
 use std::io;
 use std::rt::Clock;
 use std::sync::atomic::{AtomicU64, Ordering};

@@ -1,9 +1,9 @@
 use Rattle.std.proofs.Common.{◌≤◌, ℕ, List, sym, subst, arith}
 use Rattle.journal_chart.specs.Journals.{Charts}
-use Rattle.chart_engine.specs.Drawing.{Draws, columns_of}
-use Rattle.chart_engine.proofs.Drawn.{draws-legal, draws-nothing, few-moments}
-use Rattle.chart_engine.proofs.chart.run_chart.Goals as goal
-use Rattle.chart_engine.proofs.chart.run_chart.Goals.{in-Legal+in_ok-draw, in_default}
+use Rattle.market_prog.specs.Drawing.{Draws, columns_of}
+use Rattle.market_prog.proofs.Drawn.{draws-legal, draws-nothing, few-moments}
+use Rattle.market_prog.proofs.chart.run_chart.Goals as goal
+use Rattle.market_prog.proofs.chart.run_chart.Goals.{in-Legal+in_ok-draw, in_default}
 
 pub draw-requires-clause-countable : goal.draw-requires-clause-countable
 draw-requires-clause-countable g c =

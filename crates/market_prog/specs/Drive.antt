@@ -6,11 +6,11 @@ use Rattle.line_engine.specs.Input.{longest_input}
 use Rattle.drive_plan.specs.Plans.{Planned}
 use Rattle.market_drive.specs.Driving.{IsServable, IsDue}
 use Rattle.market_drive.specs.declared.fault.DriveFault.TheVariants as drive
-use Rattle.drive_engine.specs.declared.drive.DriveEnd.{DriveEnd}
-use Rattle.drive_engine.specs.declared.drive.DriveEnd.TheVariants.{Finished, Refused}
+use Rattle.market_prog.specs.declared.drive.DriveEnd.{DriveEnd}
+use Rattle.market_prog.specs.declared.drive.DriveEnd.TheVariants.{Finished, Refused}
 use Rattle.market_prog.specs.declared.fault.RunFault.{RunFault}
 use Rattle.market_prog.specs.declared.fault.RunFault.TheVariants.{Open, Read, TooLong, Write, Memory, HistoryFull}
-use Rattle.drive_engine.specs.Texts.{outcome_lines, fault_line}
+use Rattle.market_prog.specs.DriveTexts.{outcome_lines, fault_line}
 use Rattle.market_prog.specs.Run.{CauseOf}
 
 -- a plan may end so, with this text: all of its jobs with their values, or a fault that is due

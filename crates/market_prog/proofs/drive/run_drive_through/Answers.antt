@@ -1,7 +1,7 @@
 use Rattle.std.proofs.Common.{refl}
 use Rattle.std.proofs.lemmas.Result.{err_from_is_err_and}
 use Rattle.market_prog.proofs.Runs.{cause-of, no-write}
-use Rattle.drive_engine.proofs.drive.run_drive_through.Goals as goal
+use Rattle.market_prog.proofs.drive.run_drive_through.Goals as goal
 
 pub returns-in_err-plan-clause-stops : goal.returns-in_err-plan-clause-stops
 returns-in_err-plan-clause-stops g c =

@@ -1,13 +1,13 @@
 //! The engine that drives a plan.
 ghost use Rattle.std.specs.Prelude.{◌≡◌, ◌≢◌, ◌<◌, ◌≤◌, true, false, IfOk, IfErr, OnOk};
 ghost use Rattle.std.specs.Io.KnownBytes.{IsAtEnd};
-ghost use Rattle.drive_engine.specs.Drive.{Drives, Ends, StopsDriving, drive_status};
+ghost use Rattle.market_prog.specs.Drive.{Drives, Ends, StopsDriving, drive_status};
 
-use crate::text::{answer_text, fault_text};
+use crate::drive_text::{answer_text, fault_text};
+use crate::fault::RunFault;
 use byte_devices::{Sink, Source, put_all};
 use line_engine::read_input;
 use market_drive::{DriveFault, drive};
-use market_prog::RunFault;
 use std::alloc::{AllocError, Global};
 use std::sync::Wait;
 use std::thread::Threads;

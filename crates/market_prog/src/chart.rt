@@ -3,13 +3,13 @@ ghost use Rattle.std.specs.Prelude.{◌≡◌, ◌≢◌, ◌+◌, ◌*◌, ◌<
 ghost use Rattle.std.specs.Io.KnownBytes.{Appends, IsAtEnd};
 ghost use Rattle.byte_devices.specs.Devices.{WritesFront};
 ghost use Rattle.journal_chart.specs.Picture.{picture_text};
-ghost use Rattle.chart_engine.specs.Drawing.{Draws, StopsDrawing, columns_of};
+ghost use Rattle.market_prog.specs.Drawing.{Draws, StopsDrawing, columns_of};
 ghost use Rattle.market_prog.specs.Replay.{IsTellingFault};
 
+use crate::fault::RunFault;
 use byte_devices::{Sink, Source, put_all};
 use journal_chart::{Chart, chart_source, push_picture};
 use journal_replay::Verdict;
-use market_prog::RunFault;
 use market_words::ChartOptions;
 use std::alloc::Global;
 

@@ -9,10 +9,10 @@ use Rattle.drive_plan.specs.declared.reader.PlanFault.TheVariants as plan
 use Rattle.drive_plan.specs.Reading.{line_of, long_number}
 use Rattle.drive_plan.specs.Format.{plan_of}
 use Rattle.market_drive.specs.declared.fault.DriveFault.TheVariants.{BadPlan, Unservable, Unfinished, Doubled, Missing, Memory}
-use Rattle.drive_engine.specs.declared.drive.DriveEnd.TheVariants.{Finished, Refused}
+use Rattle.market_prog.specs.declared.drive.DriveEnd.TheVariants.{Finished, Refused}
 use Rattle.market_prog.specs.declared.fault.RunFault.TheVariants as run
-use Rattle.drive_engine.specs.Drive.{drive_status}
-use Rattle.drive_engine.specs.Texts.{outcome_lines, fault_line}
+use Rattle.market_prog.specs.Drive.{drive_status}
+use Rattle.market_prog.specs.DriveTexts.{outcome_lines, fault_line}
 
 -- two arenas, and three jobs for them
 abbrev arenas : List ℕ
