@@ -4,7 +4,6 @@
 
 mod chart;
 mod drive;
-mod drive_progress;
 mod drive_text;
 mod engine;
 mod explain;
@@ -17,10 +16,9 @@ mod session;
 
 pub use chart::run_chart;
 pub use drive::{DriveEnd, run_drive, run_drive_through, status_of_drive};
-pub use drive_progress::ProgressGate;
 pub use engine::run_script;
 pub use explain::explain_script;
 pub use fault::{RunFault, status_of_run};
 pub use journal::run_journal;
-pub use progress::{Meter, MeteredSource, Pace};
+pub use progress::{Meter, MeteredSource, ProgressGate};
 pub use replay::{run_replay, status_of_replay};

@@ -1,4 +1,4 @@
-//! How far a command has read, told on standard error while it goes on, and when such a thing is told.
+//! How far the work is, told on standard error while it goes on.
 ghost use Rattle.std.specs.Prelude.{◌≡◌, ◌+◌, ◌-◌, ◌^◌, min, length};
 ghost use Rattle.memchr.specs.Find.{is_byte, places};
 
@@ -8,6 +8,7 @@ use std::io;
 use std::rt::Clock;
 use std::sync::atomic::{AtomicU64, Ordering};
 use std::time::Instant;
+use worker_main::Gate;
 
 /// How long a span is, in milliseconds.
 const SPAN: u128 = 250;
@@ -17,7 +18,7 @@ const QUIET: u64 = 3;
 
 /// When something is told: from a second after the start on, once a span at most.
 #[derive(Drop)]
-pub struct Pace<'a, R> {
+struct Pace<'a, R> {
     rt: &'a R,
     start: Instant,
     /// The last span that was told of, or had nothing to tell.
@@ -25,8 +26,7 @@ pub struct Pace<'a, R> {
 }
 
 impl<'a, R: Clock> Pace<'a, R> {
-    /// From now on. Where the clock can't be read, its error is the answer.
-    pub fn new(rt: &'a R) -> io::Result<Self> {
+    fn new(rt: &'a R) -> io::Result<Self> {
         Ok(Pace {
             rt,
             start: Instant::now(rt)?,
@@ -34,9 +34,8 @@ impl<'a, R: Clock> Pace<'a, R> {
         })
     }
 
-    /// How many milliseconds have gone by, where this span is the caller's to tell of, and is told of now: of all threads that ask
-    /// in a span, one is told so.
-    pub fn turn(&self) -> Option<u128> {
+    /// How many milliseconds have gone by, where this span is the caller's to tell of, and is told of now.
+    fn turn(&self) -> Option<u128> {
         let gone = self.start.elapsed(self.rt).ok()?.as_millis();
         let span = u64::try_from(gone / SPAN).ok()?;
         let told = self.told.load(Ordering::SeqCst);
@@ -46,6 +45,40 @@ impl<'a, R: Clock> Pace<'a, R> {
                 .compare_exchange(told, span, Ordering::SeqCst, Ordering::SeqCst)
                 .is_ok();
         if taken { Some(gone) } else { None }
+    }
+}
+
+/// A gate through which each job goes at once, and that tells how many are done, when one is.
+#[derive(Drop)]
+pub struct ProgressGate<'a, R> {
+    pace: Pace<'a, R>,
+    done: AtomicU64,
+}
+
+impl<'a, R: Clock + Eprint> ProgressGate<'a, R> {
+    /// Before the first job.
+    pub fn new(rt: &'a R) -> io::Result<Self> {
+        Ok(ProgressGate {
+            pace: Pace::new(rt)?,
+            done: AtomicU64::new(0),
+        })
+    }
+}
+
+impl<'a, R: Clock + Eprint> Gate for ProgressGate<'a, R> {
+    fn before(&self, number: u32, earlier: u64) -> bool {
+        let _ = earlier;
+        let _ = number;
+        true
+    }
+
+    fn after(&self, number: u32) {
+        let _ = number;
+        let done = self.done.fetch_add(1, Ordering::SeqCst).saturating_add(1);
+        if self.pace.turn().is_some() {
+            // Where standard error takes nothing, the jobs go on.
+            let _ = eprintln!(self.pace.rt; "drive: {done} jobs done");
+        }
     }
 }
 
