@@ -1,10 +1,11 @@
 -- Texts that are put one behind the other.
-use Rattle.std.proofs.Common.{◌≡◌, ℕ, ◌+◌, ◌<◌, if◌then◌else◌, Bool, true, false, cond, eqb, Option, None, Some, List, [], ◌∷◌, ◌++◌, drop, length, get_or, Result, Ok, Err, OnOk, is_ok, subst, codes, refl, sym, ap, ◌∙◌, append_assoc, append-nil, arith}
+use Rattle.std.proofs.Common.{◌≡◌, ℕ, ◌+◌, ◌<◌, ◌≤◌, ◌/◌, ◌%◌, ◌^◌, decimal, if◌then◌else◌, Bool, true, false, cond, eqb, Option, None, Some, List, [], ◌∷◌, ◌++◌, drop, length, get_or, Result, Ok, Err, OnOk, is_ok, subst, codes, refl, sym, ap, ◌∙◌, append_assoc, append-nil, arith}
 use Rattle.std.specs.List.{count_by, flat_map, list_any, range_with_len}
 use Rattle.std.proofs.lemmas.Bool.Decides.{nat_tests}
 use Rattle.std.proofs.lemmas.List.Sums.{sum_by-cons}
 use Rattle.std.proofs.lemmas.List.{flat_map_more, map-id, at_drop_more}
 use Rattle.std.proofs.Math.Numerals.{suc-eq-add-one}
+use Rattle.std.proofs.lemmas.Fmt.{decimal_digit, decimal_step}
 use Rattle.std.proofs.lemmas.List.FromFn.{map-range_with_len_more}
 use Rattle.journal_chart.specs.declared.row.Row.{Row}
 use Rattle.journal_chart.specs.declared.span.Span.{Span}
@@ -157,3 +158,13 @@ sheet-written r o a b c d e sheet lines rows wide y same broad end p q s t l =
     λ w z rs. head_text w (z + 32) ++ (limits_text sheet lines ++ (levels_text sheet rs 8 ++ (axis_text sheet (z + 20) ++ codes "</svg>\n"))) in
     subst (λ rs. OnOk r (e ≡ o ++ text (wide_of sheet) (levels_end rs 8) rs)) same
     (subst (λ z. OnOk r (e ≡ o ++ text (wide_of sheet) z rows)) end (subst (λ w. OnOk r (e ≡ o ++ text w y rows)) broad (five r o a b c d e _ _ _ _ _ p q s t l)))
+
+-- ---- digits
+
+-- the last digit of a number behind the others
+pub last-digit : {T E : Type 0} (r : Result T E) (n : ℕ) (old front bytes : List ℕ) → 10 ≤ n → n < 2 ^ 64 → front ≡ old ++ decimal (n / 10)
+    → OnOk r (bytes ≡ front ++ decimal (n % 10)) → OnOk r (bytes ≡ old ++ decimal n)
+last-digit r n old front bytes two fits first h =
+    let both : decimal n ≡ decimal (n / 10) ++ decimal (n % 10) =
+    decimal_step n two (omega (arith, fits)) ∙ ap (λ ones. decimal (n / 10) ++ ones) (sym (decimal_digit (n % 10) (omega arith))) in
+    subst (λ bs. OnOk r (bytes ≡ bs)) (ap (λ f. f ++ decimal (n % 10)) first ∙ append_assoc old (decimal (n / 10)) (decimal (n % 10)) ∙ ap (λ d. old ++ d) (sym both)) h

@@ -30,9 +30,9 @@ rise_of scale number = min 28 (number * 28 / scale)
 abbrev pub bar_of : ℕ → Span → Bar
 bar_of scale s = record { y = 28 - rise_of scale s.most; height = rise_of scale s.most - rise_of scale s.least + 2 }
 
--- a bar, after the name of its class
+-- a bar, after what closes the path before it and begins its own; what stands behind it closes its own
 abbrev pub bar_text : Bar → List ℕ
-bar_text b = codes " d=\"M4 " ++ (decimal b.y ++ (codes "v" ++ (decimal b.height ++ codes "\"/>")))
+bar_text b = decimal b.y ++ (codes "v" ++ decimal b.height)
 
 -- what a row says in a column, where its arena lived
 abbrev pub figure_of : Option Span → Option Span → Option Span → Option Span → Option Span → Option Span → Option Figure
@@ -49,19 +49,19 @@ figure_of (Some level) (Some request) (Some allot) (Some active) (Some recall) (
 abbrev pub figure_at : Row → ℕ → Option Figure
 figure_at r place = figure_of (at r.level place) (at r.request place) (at r.allot place) (at r.active place) (at r.recall place) (at r.hire place)
 
--- what a pointer over columns is told
+-- what a pointer over columns is told, between what begins and what ends that
 abbrev pub title_text : Entries → ℕ → Figure → List ℕ
 title_text e arena f =
-    (codes "<title>" ++ (entries_text e ++ (codes ": arena " ++ (decimal arena ++ (codes ", level " ++ range_text f.level)))))
+    (entries_text e ++ (codes ": arena " ++ (decimal arena ++ (codes ", level " ++ range_text f.level))))
     ++ (codes ", request " ++ (range_text f.request ++ (codes ", allotment " ++ (range_text f.allot
-    ++ (codes ", active " ++ (range_text f.active ++ codes "</title>"))))))
+    ++ (codes ", active " ++ range_text f.active)))))
 
--- the ground of columns, which is another where the arena moved between levels
+-- the end of what a pointer is told, and the ground of columns, which is another where the arena moved between levels
 abbrev pub ground_text : Span → List ℕ
 ground_text level =
-    if level.least == level.most then codes "<path class=\"h\" d=\"M4 0v36\"/>" else codes "<path class=\"v\" d=\"M4 0v36\"/>"
+    if level.least == level.most then codes "</title><path class=\"h\" d=\"M4 0v36" else codes "</title><path class=\"v\" d=\"M4 0v36"
 
--- an area from the foot of the row to a number, after the name of its class
+-- an area from the foot of the row to a number, as a bar
 abbrev pub foot_text : ℕ → ℕ → List ℕ
 foot_text scale number = bar_text (bar_of scale (record { least = 0; most = number }))
 
@@ -69,20 +69,20 @@ foot_text scale number = bar_text (bar_of scale (record { least = 0; most = numb
 abbrev pub area_text : ℕ → Span → List ℕ
 area_text scale allot =
     if allot.least == allot.most
-    then codes "<path class=\"l\"" ++ foot_text scale allot.least
-    else codes "<path class=\"m\"" ++ (foot_text scale allot.most ++ (codes "<path class=\"l\"" ++ foot_text scale allot.least))
+    then codes "\"/><path class=\"l\" d=\"M4 " ++ foot_text scale allot.least
+    else codes "\"/><path class=\"m\" d=\"M4 " ++ (foot_text scale allot.most ++ (codes "\"/><path class=\"l\" d=\"M4 " ++ foot_text scale allot.least))
 
 -- the request and the active workers
 abbrev pub bars_text : ℕ → Span → Span → List ℕ
-bars_text scale request active = codes "<path class=\"r\"" ++ (bar_text (bar_of scale request) ++ (codes "<path class=\"a\"" ++ bar_text (bar_of scale active)))
+bars_text scale request active = codes "\"/><path class=\"r\" d=\"M4 " ++ (bar_text (bar_of scale request) ++ (codes "\"/><path class=\"a\" d=\"M4 " ++ bar_text (bar_of scale active)))
 
--- a mark at this height, where there are some
+-- a mark at this height, where there are some, as a bar behind what begins it
 abbrev pub mark_text : List ℕ → ℕ → ℕ → List ℕ
-mark_text class y some = if some == 0 then [] else class ++ bar_text (record { y = y; height = min 2 some })
+mark_text head y some = if some == 0 then [] else head ++ bar_text (record { y = y; height = min 2 some })
 
 -- marks of recalls and of hires
 abbrev pub marks_text : ℕ → ℕ → List ℕ
-marks_text recall hire = mark_text (codes "<path class=\"k\"") 31 recall ++ mark_text (codes "<path class=\"n\"") 34 hire
+marks_text recall hire = mark_text (codes "\"/><path class=\"k\" d=\"M4 ") 31 recall ++ mark_text (codes "\"/><path class=\"n\" d=\"M4 ") 34 hire
 
 abbrev pub shapes_text : ℕ → Figure → List ℕ
 shapes_text scale f = ground_text f.level ++ (area_text scale f.allot ++ (bars_text scale f.request f.active ++ marks_text f.recall.most f.hire.most))
@@ -98,7 +98,7 @@ place_text run end = codes "<g transform=\"matrix(" ++ (decimal (run.last - run.
 
 -- columns of an arena, drawn as one at their place
 abbrev pub placed_text : ℕ → ℕ → Entries → Run → Figure → List ℕ
-placed_text arena scale e run f = place_text run (codes " 0)\">") ++ (title_text e arena f ++ (shapes_text scale f ++ codes "</g>\n"))
+placed_text arena scale e run f = place_text run (codes " 0)\"><title>") ++ (title_text e arena f ++ (shapes_text scale f ++ codes "\"/></g>\n"))
 
 -- columns of an arena at a level, where it is drawn there
 abbrev pub cell_text : ℕ → ℕ → ℕ → Entries → Run → Option Figure → List ℕ
@@ -224,12 +224,12 @@ levels_text sheet rows (suc n) = levels_text sheet rows n ++ rows_text sheet (n 
 -- what a pointer over a column of the limits is told, and the ground
 abbrev pub limits_title : Entries → Span → Span → List ℕ
 limits_title e limit effective =
-    (codes "<title>" ++ (entries_text e ++ (codes ": limit " ++ range_text limit))) ++ (codes ", effective limit " ++ (range_text effective ++ codes "</title><path class=\"h\" d=\"M4 0v36\"/>"))
+    (entries_text e ++ (codes ": limit " ++ range_text limit)) ++ (codes ", effective limit " ++ (range_text effective ++ codes "</title><path class=\"h\" d=\"M4 0v36"))
 
 -- columns of the limits, drawn as one at their place
 abbrev pub placed_limits : ℕ → Entries → Run → Span → Span → List ℕ
 placed_limits scale e run limit effective =
-    place_text run (codes " 60)\">") ++ (limits_title e limit effective ++ (bars_text scale limit effective ++ codes "</g>\n"))
+    place_text run (codes " 60)\"><title>") ++ (limits_title e limit effective ++ (bars_text scale limit effective ++ codes "\"/></g>\n"))
 
 -- columns of the limits, where they have moments
 abbrev pub limits_cell : ℕ → Entries → Run → Option Span → Option Span → List ℕ

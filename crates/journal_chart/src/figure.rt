@@ -1,11 +1,10 @@
 //! Columns of a row, as text: those beside each other that say the same are drawn as one.
 ghost use Rattle.std.specs.Prelude.{◌≡◌, ◌+◌, ◌*◌, ◌++◌, ◌<◌, ◌≤◌, OnOk, codes, decimal, string_bytes};
-ghost use Rattle.journal_chart.specs.Picture.{area_text, bar_of, bar_text, bars_text, cell_text, figure_at, foot_text, ground_text, limits_cell, limits_title, mark_text, marks_text, place_text, placed_limits, placed_text, range_text, rise_of, row_goes_on, row_says_next, shapes_text, stands_at, title_text};
+ghost use Rattle.journal_chart.specs.Picture.{area_text, bar_of, bar_text, bars_text, cell_text, entries_text, figure_at, foot_text, ground_text, limits_cell, limits_title, mark_text, marks_text, place_text, placed_limits, placed_text, range_text, rise_of, row_goes_on, row_says_next, shapes_text, stands_at, title_text};
 
 use crate::row::Row;
 use crate::span::Span;
 use std::alloc::AllocError;
-use std::fmt;
 
 /// What a row says in a column.
 #[derive(Clone, Copy)]
@@ -37,21 +36,6 @@ pub(crate) struct Entries {
 struct Bar {
     y: u64,
     height: u64,
-}
-
-impl fmt::Display for Entries {
-    ghost use Rattle.std.specs.Prelude.{Some};
-    ghost use Rattle.journal_chart.specs.Picture.{entries_text};
-
-    ghost output = { λ e. Some (entries_text e) };
-
-    fn fmt<W: fmt::Write>(&self, f: &mut fmt::Formatter<W>) -> fmt::Result {
-        let (first, last) = (self.first, self.last);
-        if first == last {
-            return write!(f, "entry {first}");
-        }
-        write!(f, "entries {first} to {last}")
-    }
 }
 
 impl Row {
@@ -130,18 +114,80 @@ fn write_digit(text: &mut String, digit: u64) -> Result<(), AllocError>
     text.push((b'0' + digit as u8) as char)
 }
 
-/// Writes a number. Nearly all in a picture are below 100, and these need no buffer.
-fn write_number(text: &mut String, number: u64) -> Result<(), AllocError>
+/// Writes a number of at most two digits.
+#[inline]
+fn write_tens(text: &mut String, number: u64) -> Result<(), AllocError>
+    requires { number < 100 }
     ensures { OnOk result (string_bytes text.new ≡ string_bytes text.old ++ decimal number) }
 {
     if number < 10 {
         return write_digit(text, number);
     }
+    write_digit(text, number / 10)?;
+    write_digit(text, number % 10)
+}
+
+/// Writes a number of at most three digits.
+fn write_hundreds(text: &mut String, number: u64) -> Result<(), AllocError>
+    requires { number < 1000 }
+    ensures { OnOk result (string_bytes text.new ≡ string_bytes text.old ++ decimal number) }
+{
     if number < 100 {
-        write_digit(text, number / 10)?;
+        return write_tens(text, number);
+    }
+    write_tens(text, number / 10)?;
+    write_digit(text, number % 10)
+}
+
+/// Writes a number of at most four digits.
+fn write_thousands(text: &mut String, number: u64) -> Result<(), AllocError>
+    requires { number < 10000 }
+    ensures { OnOk result (string_bytes text.new ≡ string_bytes text.old ++ decimal number) }
+{
+    if number < 1000 {
+        return write_hundreds(text, number);
+    }
+    write_hundreds(text, number / 10)?;
+    write_digit(text, number % 10)
+}
+
+/// Writes a number. Nearly all in a picture have at most two digits.
+#[inline]
+fn write_number(text: &mut String, number: u64) -> Result<(), AllocError>
+    ensures { OnOk result (string_bytes text.new ≡ string_bytes text.old ++ decimal number) }
+{
+    if number < 100 {
+        return write_tens(text, number);
+    }
+    write_long(text, number)
+}
+
+/// Writes a number of three digits or more. Few have more than five: the others need no buffer.
+// Apart, since each shorter number would else make room for that buffer.
+#[inline(never)]
+fn write_long(text: &mut String, number: u64) -> Result<(), AllocError>
+    requires { 100 ≤ number }
+    ensures { OnOk result (string_bytes text.new ≡ string_bytes text.old ++ decimal number) }
+{
+    if number < 100_000 {
+        write_thousands(text, number / 10)?;
         return write_digit(text, number % 10);
     }
     write!(text, "{number}")
+}
+
+/// Writes the entries of columns.
+fn write_entries(text: &mut String, entries: Entries) -> Result<(), AllocError>
+    ensures { OnOk result (string_bytes text.new ≡ string_bytes text.old ++ entries_text entries) }
+{
+    if entries.first == entries.last {
+        text.push_str("entry ")?;
+        return write_number(text, entries.first);
+    }
+    text.push_str("entries ")?;
+    write_number(text, entries.first)?;
+    text.push_str(" to ")?;
+    write_number(text, entries.last)
 }
 
 /// Writes a number, or the least and the most of several, behind its name.
@@ -157,19 +203,26 @@ fn write_range(text: &mut String, name: &str, range: Span) -> Result<(), AllocEr
     write_number(text, u64::from(range.most))
 }
 
-/// Writes a bar behind the name of its class.
-fn write_bar(text: &mut String, class: &str, bar: Bar) -> Result<(), AllocError>
-    ensures { OnOk result (string_bytes text.new ≡ string_bytes text.old ++ (class.now ++ bar_text bar)) }
+/// Writes a bar behind what closes the path before it and begins its own. What is written behind it closes its own.
+// All that stands between two numbers is one text, since each that is put is a call: a picture has four or five bars a cell.
+fn write_bar(text: &mut String, head: &str, bar: Bar) -> Result<(), AllocError>
+    ensures { OnOk result (string_bytes text.new ≡ string_bytes text.old ++ (head.now ++ bar_text bar)) }
 {
-    text.push_str(class)?;
-    text.push_str(" d=\"M4 ")?;
+    text.push_str(head)?;
     write_number(text, bar.y)?;
-    text.push_str("v")?;
-    write_number(text, bar.height)?;
-    text.push_str("\"/>")
+    text.push('v')?;
+    write_number(text, bar.height)
 }
 
-/// Writes what a pointer over columns is told.
+/// Writes the bar of numbers in the same way.
+fn write_span(text: &mut String, head: &str, scale: u64, span: Span) -> Result<(), AllocError>
+    requires { 0 < scale }
+    ensures { OnOk result (string_bytes text.new ≡ string_bytes text.old ++ (head.now ++ bar_text (bar_of scale span))) }
+{
+    write_bar(text, head, bar_of(scale, span))
+}
+
+/// Writes what a pointer over columns is told, between what begins and what ends that.
 fn write_title(
     text: &mut String,
     entries: Entries,
@@ -178,34 +231,35 @@ fn write_title(
 ) -> Result<(), AllocError>
     ensures { OnOk result (string_bytes text.new ≡ string_bytes text.old ++ title_text entries arena figure) }
 {
-    write!(text, "<title>{entries}: arena {arena}")?;
+    write_entries(text, entries)?;
+    text.push_str(": arena ")?;
+    write_number(text, u64::from(arena))?;
     write_range(text, ", level ", figure.level)?;
     write_range(text, ", request ", figure.request)?;
     write_range(text, ", allotment ", figure.allot)?;
-    write_range(text, ", active ", figure.active)?;
-    text.push_str("</title>")
+    write_range(text, ", active ", figure.active)
 }
 
-/// Writes the ground.
+/// Writes the end of what a pointer is told, and the ground.
 fn write_ground(text: &mut String, level: Span) -> Result<(), AllocError>
     ensures { OnOk result (string_bytes text.new ≡ string_bytes text.old ++ ground_text level) }
 {
     if level.least == level.most {
-        return text.push_str("<path class=\"h\" d=\"M4 0v36\"/>");
+        return text.push_str("</title><path class=\"h\" d=\"M4 0v36");
     }
-    text.push_str("<path class=\"v\" d=\"M4 0v36\"/>")
+    text.push_str("</title><path class=\"v\" d=\"M4 0v36")
 }
 
 /// Writes an area from the foot of the row to a number.
-fn write_foot(text: &mut String, class: &str, scale: u64, number: u32) -> Result<(), AllocError>
+fn write_foot(text: &mut String, head: &str, scale: u64, number: u32) -> Result<(), AllocError>
     requires { 0 < scale }
-    ensures { OnOk result (string_bytes text.new ≡ string_bytes text.old ++ (class.now ++ foot_text scale number)) }
+    ensures { OnOk result (string_bytes text.new ≡ string_bytes text.old ++ (head.now ++ foot_text scale number)) }
 {
     let range = Span {
         least: 0,
         most: number,
     };
-    write_bar(text, class, bar_of(scale, range))
+    write_span(text, head, scale, range)
 }
 
 /// Writes the allotment as an area.
@@ -213,10 +267,11 @@ fn write_area(text: &mut String, scale: u64, allot: Span) -> Result<(), AllocErr
     requires { 0 < scale }
     ensures { OnOk result (string_bytes text.new ≡ string_bytes text.old ++ area_text scale allot) }
 {
-    if allot.least != allot.most {
-        write_foot(text, "<path class=\"m\"", scale, allot.most)?;
+    if allot.least == allot.most {
+        return write_foot(text, "\"/><path class=\"l\" d=\"M4 ", scale, allot.least);
     }
-    write_foot(text, "<path class=\"l\"", scale, allot.least)
+    write_foot(text, "\"/><path class=\"m\" d=\"M4 ", scale, allot.most)?;
+    write_foot(text, "\"/><path class=\"l\" d=\"M4 ", scale, allot.least)
 }
 
 /// Writes the request and the active workers as bars.
@@ -224,27 +279,27 @@ fn write_bars(text: &mut String, scale: u64, request: Span, active: Span) -> Res
     requires { 0 < scale }
     ensures { OnOk result (string_bytes text.new ≡ string_bytes text.old ++ bars_text scale request active) }
 {
-    write_bar(text, "<path class=\"r\"", bar_of(scale, request))?;
-    write_bar(text, "<path class=\"a\"", bar_of(scale, active))
+    write_span(text, "\"/><path class=\"r\" d=\"M4 ", scale, request)?;
+    write_span(text, "\"/><path class=\"a\" d=\"M4 ", scale, active)
 }
 
 /// Writes a mark at a height, where there are some.
-fn write_mark(text: &mut String, class: &str, y: u64, some: u32) -> Result<(), AllocError>
-    ensures { OnOk result (string_bytes text.new ≡ string_bytes text.old ++ mark_text class.now y some) }
+fn write_mark(text: &mut String, head: &str, y: u64, some: u32) -> Result<(), AllocError>
+    ensures { OnOk result (string_bytes text.new ≡ string_bytes text.old ++ mark_text head.now y some) }
 {
     if some == 0 {
         return Ok(());
     }
     let height = u64::from(some.min(2));
-    write_bar(text, class, Bar { y, height })
+    write_bar(text, head, Bar { y, height })
 }
 
 /// Writes the marks of recalls and of hires.
 fn write_marks(text: &mut String, recall: u32, hire: u32) -> Result<(), AllocError>
     ensures { OnOk result (string_bytes text.new ≡ string_bytes text.old ++ marks_text recall hire) }
 {
-    write_mark(text, "<path class=\"k\"", 31, recall)?;
-    write_mark(text, "<path class=\"n\"", 34, hire)
+    write_mark(text, "\"/><path class=\"k\" d=\"M4 ", 31, recall)?;
+    write_mark(text, "\"/><path class=\"n\" d=\"M4 ", 34, hire)
 }
 
 /// Writes the ground, the area of the allotment, the bars, and the marks.
@@ -306,10 +361,10 @@ fn write_placed(
     requires some { run.first ≤ run.last }
     ensures { OnOk result (string_bytes text.new ≡ string_bytes text.old ++ placed_text arena scale entries run figure) }
 {
-    write_place(text, run, " 0)\">")?;
+    write_place(text, run, " 0)\"><title>")?;
     write_title(text, entries, arena, figure)?;
     write_shapes(text, scale, figure)?;
-    text.push_str("</g>\n")
+    text.push_str("\"/></g>\n")
 }
 
 /// Writes columns of the limits.
@@ -343,10 +398,10 @@ fn write_limits_title(
 ) -> Result<(), AllocError>
     ensures { OnOk result (string_bytes text.new ≡ string_bytes text.old ++ limits_title entries limit effective) }
 {
-    write!(text, "<title>{entries}")?;
+    write_entries(text, entries)?;
     write_range(text, ": limit ", limit)?;
     write_range(text, ", effective limit ", effective)?;
-    text.push_str("</title><path class=\"h\" d=\"M4 0v36\"/>")
+    text.push_str("</title><path class=\"h\" d=\"M4 0v36")
 }
 
 /// Writes columns of the limits at their place.
@@ -362,8 +417,8 @@ fn write_placed_limits(
     requires some { run.first ≤ run.last }
     ensures { OnOk result (string_bytes text.new ≡ string_bytes text.old ++ placed_limits scale entries run limit effective) }
 {
-    write_place(text, run, " 60)\">")?;
+    write_place(text, run, " 60)\"><title>")?;
     write_limits_title(text, entries, limit, effective)?;
     write_bars(text, scale, limit, effective)?;
-    text.push_str("</g>\n")
+    text.push_str("\"/></g>\n")
 }

@@ -1,5 +1,5 @@
 //! The picture of a chart, as the text of an SVG.
-ghost use Rattle.std.specs.Prelude.{◌≡◌, ◌+◌, ◌*◌, ◌++◌, ◌<◌, ◌≤◌, ◌^◌, length, OnErr, OnOk, string_bytes};
+ghost use Rattle.std.specs.Prelude.{◌≡◌, ◌+◌, ◌*◌, ◌++◌, ◌<◌, ◌≤◌, ◌^◌, length, IfOk, [], OnErr, OnOk, string_bytes};
 ghost use Rattle.std.specs.List.{count_by};
 ghost use Rattle.journal_chart.specs.Picture.{axis_name, axis_text, box_text, columns_text, filled, head_text, is_at, legend_text, levels_end, levels_text, limits_columns, limits_go_on, limits_name, limits_run, limits_scale, limits_text, name_text, picture_text, row_text, rows_end, rows_text, run_text, sheet_text, size_text, style_text, tick_text, ticks_text};
 
@@ -8,7 +8,13 @@ use crate::figure::{Run, write_cell, write_limits_cell};
 use crate::lines::Lines;
 use crate::row::Row;
 use crate::sheet::{Sheet, greatest, highest, is_at, scale_of};
-use std::alloc::AllocError;
+use std::alloc::{AllocError, Global};
+
+/// How many bytes most cells of a picture have, a cell being a column of an arena: none has more than 397.
+const BYTES_OF_CELL: usize = 128;
+
+/// Room for so many cells at most is taken at once.
+const MOST_CELLS_AT_ONCE: usize = 2_048;
 
 /// Writes columns of a row at a level, in which it says the same.
 fn write_run(
@@ -404,16 +410,35 @@ fn write_picture(text: &mut String, before: u32, chart: &Chart) -> Result<(), Al
     write_sheet(text, sheet, chart.lines())
 }
 
+/// A text with room for most pictures of a chart.
+// At once, since a text that grows is copied each time, to pages that nothing has touched yet.
+fn text_with_room(alloc: Global, chart: &Chart) -> Result<String, AllocError>
+    requires few { length chart.now.lines.rows < 2 ^ 32 }
+    ensures { IfOk result (λ text. string_bytes text ≡ []) }
+{
+    let columns = chart.moments().min(u64::from(chart.columns())) as usize;
+    let cells = chart.lines().rows().len() * columns;
+    String::with_capacity(alloc, BYTES_OF_CELL * cells.min(MOST_CELLS_AT_ONCE))
+}
+
 /// Puts the picture of a chart, an SVG that stands alone, behind what `out` holds. It has a row for each arena at each level at which
 /// it stood (of the levels of one column, the least and the greatest), in which each column tells a pointer its numbers and its
-/// entries, and columns beside each other that say the same are drawn as one; `before` entries came before the first moment. `Err` says that memory ran out, and leaves `out` as it was.
+/// entries, and columns beside each other that say the same are drawn as one; `before` entries came before the first moment. `Err` says
+/// that memory ran out, and leaves `out` as it was.
+///
+/// It takes room for most pictures at once, 256 KiB at most, and more as a picture grows. Where `out` is empty, the picture's text is put in
+/// its place, and else copied behind it.
 pub fn push_picture(out: &mut Vec<u8>, before: u32, chart: &Chart) -> Result<(), AllocError>
     requires few { length chart.now.lines.rows < 2 ^ 32 }
     requires countable { before + chart.now.moments < 2 ^ 64 }
     ensures ok { OnOk result (out.new.items ≡ out.old.items ++ picture_text before chart.now) }
     ensures err { OnErr result (out.new.items ≡ out.old.items) }
 {
-    let mut text = String::new(*out.allocator());
+    let mut text = text_with_room(*out.allocator(), chart)?;
     write_picture(&mut text, before, chart)?;
+    if out.is_empty() {
+        *out = text.into_bytes();
+        return Ok(());
+    }
     out.extend_from_slice(text.as_bytes())
 }
