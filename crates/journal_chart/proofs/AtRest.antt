@@ -12,8 +12,8 @@ use Rattle.journal_chart.specs.declared.row.Known.{Known}
 use Rattle.journal_chart.specs.declared.resting.Resting.{Resting}
 use Rattle.journal_chart.specs.Resting.{AreLeft, AreResting, IsLeft, IsResting}
 use Rattle.journal_chart.specs.Shares.{Shared}
-use Rattle.journal_chart.specs.Steps.{near_row, seat_row, subject}
-use Rattle.journal_chart.proofs.Pairs.{get-any}
+use Rattle.journal_chart.specs.Steps.{near_row, pairwise, seat_row, subject}
+use Rattle.journal_chart.proofs.Pairs.{Paired, get-any, paired-part}
 
 near-left : (place : ℕ) (s : State) (cmd : Cmd) (reply : Reply) (now : Shared) (kept : List Bool) (r : Row) → IsLeft (subject cmd reply) r
     → (k : Known) → near_row place s cmd reply now kept r k ≡ (r, k)
@@ -30,6 +30,14 @@ near-rest place s cmd reply now kept rows h i d inside = near-left place s cmd r
 pub seat-rest : (place : ℕ) (s : State) (cmd : Cmd) (reply : Reply) (more : Bool) (now : Shared) (rows : List Row) → All (IsLeft (subject cmd reply)) rows
     → All (λ (r : Row). (k : Known) → seat_row place s cmd reply more now r k ≡ (r, k)) rows
 seat-rest place s cmd reply more now rows h i d inside = seat-left place s cmd reply more now (get_or rows i d) (h i d inside)
+
+-- what becomes of all rows, of which those from one on are left
+pub near-made : (place : ℕ) (s : State) (cmd : Cmd) (reply : Reply) (now : Shared) (kept : List Bool) (rows0 : List Row) (ks0 : List Known) (rows : List Row) (ks : List Known) (i count : ℕ)
+    → Paired (near_row place s cmd reply now kept) rows0 ks0 rows ks i → count ≡ i → AreLeft count (subject cmd reply) rows0
+    → (rows ≡ (pairwise (near_row place s cmd reply now kept) rows0 ks0).0) × (ks ≡ (pairwise (near_row place s cmd reply now kept) rows0 ks0).1)
+near-made place s cmd reply now kept rows0 ks0 rows ks i count h all left =
+    paired-part (near_row place s cmd reply now kept) rows0 ks0 rows ks i h
+    (near-rest place s cmd reply now kept (drop i rows0) (subst (λ n. AreLeft n (subject cmd reply) rows0) all left))
 
 -- behind the last row there is none
 pub none-left : (P : Row → Type 0) (rows : List Row) (count : ℕ) → length rows ≤ count → All P (drop count rows)

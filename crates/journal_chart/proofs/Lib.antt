@@ -4,6 +4,8 @@ pub mod Standing
 pub mod Mapped
 pub mod Pairs
 pub mod AtRest
+pub mod Numbered
+pub mod Arenas
 pub mod Charts
 pub mod Bounds
 pub mod Kept

@@ -100,7 +100,7 @@ module _ {X Y : Type 0} (f : X → Y → X × Y) where
       )
 
 -- where all elements stay as they are, whatever the other is
-still-all : {X Y : Type 0} (f : X → Y → X × Y) (xs : List X) (ys : List Y) → All (λ (x : X). (y : Y) → f x y ≡ (x, y)) xs → pairwise f xs ys ≡ (xs, ys)
+pub still-all : {X Y : Type 0} (f : X → Y → X × Y) (xs : List X) (ys : List Y) → All (λ (x : X). (y : Y) → f x y ≡ (x, y)) xs → pairwise f xs ys ≡ (xs, ys)
 still-all f [] ys h = refl
 still-all f (x ∷ xs) [] h = refl
 still-all f (x ∷ xs) (y ∷ ys) h =
@@ -127,3 +127,21 @@ pairwise-map f g (x ∷ xs) [] same = absurd (omega (arith, same))
 pairwise-map f g (x ∷ xs) (y ∷ ys) same =
     let rest = pairwise-map f g xs ys (omega (arith, same)) in
     λ i. (f x ∷ (rest i).0, g x ∷ (rest i).1)
+
+-- one element is changed, and the others stay as they are
+pub pairwise-one : {X Y : Type 0} (f : X → Y → X × Y) (xs : List X) (ys : List Y) (i : ℕ) (x x' : X) (y y' : Y) → length ys ≡ length xs → i < length xs
+    → x ≡ get_or xs i x → y ≡ get_or ys i y → (x', y') ≡ f x y
+    → ((j : ℕ) (d : X) → j < length xs → (j ≡ i → ⊥) → (w : Y) → f (get_or xs j d) w ≡ (get_or xs j d, w))
+    → (set xs i x' ≡ (pairwise f xs ys).0) × (set ys i y' ≡ (pairwise f xs ys).1)
+pairwise-one f [] ys i x x' y y' same inside x_is y_is made others = absurd (omega (arith, inside))
+pairwise-one f (z ∷ zs) [] i x x' y y' same inside x_is y_is made others = absurd (omega (arith, same))
+pairwise-one f (z ∷ zs) (w ∷ ws) zero x x' y y' same inside x_is y_is made others =
+    let rest : pairwise f zs ws ≡ (zs, ws) = still-all f zs ws (λ k d within v. others (suc k) d (omega (arith, within)) (λ e. omega (arith, e)) v) in
+    let here : (x', y') ≡ f z w = made ∙ (λ j. f (x_is j) (y_is j)) in
+    ((λ j. (here j).0 ∷ (sym rest j).0), (λ j. (here j).1 ∷ (sym rest j).1))
+pairwise-one f (z ∷ zs) (w ∷ ws) (suc i) x x' y y' same inside x_is y_is made others =
+    let head : f z w ≡ (z, w) = others 0 z (omega arith) (λ e. omega (arith, e)) w in
+    let more =
+    pairwise-one f zs ws i x x' y y' (omega (arith, same)) (omega (arith, inside)) x_is y_is made
+    (λ j d within apart v. others (suc j) d (omega (arith, within)) (λ e. apart (omega (arith, e))) v) in
+    ((λ j. (sym head j).0 ∷ more.0 j), (λ j. (sym head j).1 ∷ more.1 j))

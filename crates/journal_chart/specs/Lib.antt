@@ -4,6 +4,7 @@ pub mod Covering
 pub mod Journals
 pub mod Lines
 pub mod Numbers
+pub mod Numbering
 pub mod Picture
 pub mod Highest
 pub mod Resting

@@ -4,6 +4,7 @@ ghost use Rattle.market_types.specs.State.{State};
 ghost use Rattle.market_types.specs.Step.{step};
 ghost use Rattle.journal_chart.specs.Columns.{width_of};
 ghost use Rattle.journal_chart.specs.Numbers.{chart_of};
+ghost use Rattle.journal_chart.specs.Numbering.{AreNumbered};
 ghost use Rattle.journal_chart.specs.Shares.{shared_of};
 ghost use Rattle.journal_chart.specs.Steps.{begun_chart, first_chart, goes_on, halved_lines, is_still, near_chart, next_chart, now_shared, passed_chart, taken_chart};
 
@@ -98,11 +99,20 @@ impl Chart {
         self.moments += 1;
     }
 
-    /// The next moment goes into the column of the last.
-    fn goes_on(&self) -> bool
+    /// The column of the next moment, if no other begins with it.
+    fn place(&self) -> u64
+        ensures { result ≡ self.now.moments / width_of self.now.most self.now.moments }
+    {
+        place_of(self.moments, self.width)
+    }
+
+    /// The next moment goes into the column of the last, which is at this place.
+    fn goes_on(&self, place: u64) -> bool
+        requires few { self.now.moments < 2 ^ 63 }
+        requires place { place ≡ self.now.moments / width_of self.now.most self.now.moments }
         ensures { result ≡ goes_on self.now }
     {
-        place_of(self.moments, self.width) * self.width < self.moments
+        place * self.width < self.moments
     }
 
     /// Takes the first moment, as `take` does, what is then known of the arenas, and what the levels are given.
@@ -153,48 +163,57 @@ impl Chart {
         self.moments += 1;
     }
 
-    /// Takes the moment after an entry into the column of the last moment, which was taken before, what is then known of the arenas, and
-    /// what the levels are given.
+    /// Takes the moment after an entry into the column of the last moment, which is at this place and was taken before, what is then known of
+    /// the arenas, and what the levels are given. The arenas are numbered from `first` on, as in `take_next`.
     #[inline(never)]
     fn near(
         &mut self,
         known: &mut [Known],
         shares: &mut Shares,
+        first: Option<u32>,
+        place: u64,
         market: &Market,
         cmd: &Cmd,
         reply: &Reply,
     )
         requires few { self.old.moments + 1 < 2 ^ 63 }
+        requires place { place ≡ self.old.moments / width_of self.old.most self.old.moments }
         requires on { goes_on self.old ≡ true }
         requires each { length known.old ≡ length self.old.lines.rows }
+        requires numbered { AreNumbered first self.old.lines.rows }
         ensures chart { self.new ≡ (near_chart market.now cmd.now reply.now (record { chart = self.old; known = known.old; shares = shares.old })).chart }
         ensures known { known.new ≡ (near_chart market.now cmd.now reply.now (record { chart = self.old; known = known.old; shares = shares.old })).known }
         ensures shares { shares.new ≡ now_shared cmd.now market.now shares.old }
     {
-        let place = place_of(self.moments, self.width) as usize;
-        self.lines.near(known, shares, place, market, cmd, reply);
+        self.lines
+            .near(known, shares, first, place as usize, market, cmd, reply);
         self.moments += 1;
     }
 
     /// Takes the moment after an entry, as `take` does, where the moment before was taken last, if any was, and this was then known of the
     /// arenas. Only what may have changed is looked at: the arena that the entry is about, and those whose allotment is not told; in the same
-    /// column nothing where the market is as it was, and else none of which it is known that it adds nothing.
+    /// column nothing where the market is as it was, and else none of which it is known that it adds nothing. The arenas are numbered one
+    /// after another from `first` on, if there is such a number.
     #[inline]
     pub(crate) fn take_next(
         &mut self,
         known: &mut [Known],
         shares: &mut Shares,
+        first: Option<u32>,
         market: &Market,
         cmd: &Cmd,
         reply: &Reply,
     )
         requires few { self.old.moments + 1 < 2 ^ 63 }
         requires each { length known.old ≡ length self.old.lines.rows }
+        requires numbered { AreNumbered first self.old.lines.rows }
         ensures chart { self.new ≡ (next_chart market.now cmd.now reply.now (record { chart = self.old; known = known.old; shares = shares.old })).chart }
         ensures known { known.new ≡ (next_chart market.now cmd.now reply.now (record { chart = self.old; known = known.old; shares = shares.old })).known }
         ensures shares { shares.new ≡ (next_chart market.now cmd.now reply.now (record { chart = self.old; known = known.old; shares = shares.old })).shares }
     {
-        if !self.goes_on() {
+        // Once, for both that ask for it.
+        let place = self.place();
+        if !self.goes_on(place) {
             if self.moments == 0 {
                 self.look(known, shares, market, cmd, reply);
             } else {
@@ -206,7 +225,7 @@ impl Chart {
             self.moments += 1;
             return;
         }
-        self.near(known, shares, market, cmd, reply);
+        self.near(known, shares, first, place, market, cmd, reply);
     }
 
     /// Lets the moment after an entry pass that is not drawn, by its command and its reply. It takes no memory.

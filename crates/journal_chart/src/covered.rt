@@ -13,6 +13,7 @@ pub(crate) struct Covered {
 
 impl Covered {
     /// Those that add nothing to a column, nor their recalls nor their hires, where so many workers are active.
+    #[inline(always)]
     pub(crate) fn of(
         allot: Option<Span>,
         recall: Option<Span>,

@@ -6,6 +6,7 @@ ghost use Rattle.journal_chart.specs.Journals.{Charts};
 ghost use Rattle.journal_chart.specs.Numbers.{chart_of};
 
 use crate::chart::Chart;
+use crate::numbering::numbering;
 use crate::row::Known;
 use crate::shares::Shares;
 use allotment::no_carry_to_keep;
@@ -26,6 +27,8 @@ struct Making {
     to: u32,
     /// How many were seen, as far as they are drawn.
     seen: u32,
+    /// From which number on the arenas of its rows are numbered one after another, if they are.
+    first: Option<u32>,
     chart: Chart,
     /// What is known of each arena since the last moment that was taken.
     known: Vec<Known>,
@@ -35,13 +38,14 @@ struct Making {
 
 impl Model for Making {
     ghost use Rattle.std.specs.Prelude.{◌≡◌, ◌≤◌, length};
+    ghost use Rattle.journal_chart.specs.Numbering.{AreNumbered};
     ghost use Rattle.journal_chart.specs.Steps.{Making};
 
     ghost Value = { Making };
 
     ghost view = { λ m. record { before = m.before; to = m.to; seen = m.seen; followed = record { chart = m.chart; known = m.known.items; shares = m.shares } } };
 
-    ghost invariant = { λ m. (m.chart.moments ≤ m.seen) × (length m.known.items ≡ length m.chart.lines.rows) };
+    ghost invariant = { λ m. (m.chart.moments ≤ m.seen) × ((length m.known.items ≡ length m.chart.lines.rows) × AreNumbered m.first m.chart.lines.rows) };
 }
 
 impl Watcher for Making {
@@ -65,6 +69,7 @@ impl Watcher for Making {
         self.chart.take_next(
             self.known.as_mut_slice(),
             &mut self.shares,
+            self.first,
             market,
             cmd,
             reply,
@@ -100,6 +105,7 @@ pub fn chart_source<R: Source>(
         before: from - 1,
         to,
         seen: 0,
+        first: numbering(arenas),
         chart: Chart::new(alloc, columns, arenas)?,
         known: vec![in alloc; Known::nothing(); arenas.len()]?,
         shares: Shares::none(),

@@ -8,12 +8,14 @@
 mod chart;
 mod column;
 mod covered;
+mod entry;
 mod figure;
 mod journal;
 mod law;
 mod line;
 mod lines;
 mod nearby;
+mod numbering;
 mod picture;
 mod resting;
 mod row;

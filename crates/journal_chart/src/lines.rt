@@ -2,11 +2,13 @@
 ghost use Rattle.std.specs.Prelude.{◌≡◌, IfOk, length, map};
 ghost use Rattle.market_types.specs.State.{State};
 ghost use Rattle.market_types.specs.Step.{limits_of};
+ghost use Rattle.journal_chart.specs.Numbering.{AreNumbered};
 ghost use Rattle.journal_chart.specs.Shares.{shared_of};
 ghost use Rattle.journal_chart.specs.Steps.{after_seat, arena_lines, begun_lines, each_row, empty_lines, empty_row, first_rows, halved_lines, known_rows, limited, limited_lines, near_lines, near_rows, now_shared, passed_lines, seat_rows, subject, taken_lines};
 
+use crate::entry::{moves_seat, subject};
 use crate::line::Line;
-use crate::nearby::{first_rows, look_rows, moves_seat, near_rows, seat_rows, subject};
+use crate::nearby::{first_rows, look_rows, near_rows, seat_rows};
 use crate::resting::Resting;
 use crate::row::{Known, Row, halve_rows, pass_rows, take_rows};
 use crate::shares::Shares;
@@ -159,26 +161,29 @@ impl Lines {
         self.resting = Resting::of(&self.rows);
     }
 
-    /// Takes the moment after one that was taken into the same column, what is then known of the arenas, and what the levels are given.
+    /// Takes the moment after one that was taken into the same column, what is then known of the arenas, and what the levels are given. The
+    /// arenas of the rows are numbered one after another from `first` on, if there is such a number.
     pub(crate) fn near(
         &mut self,
         known: &mut [Known],
         shares: &mut Shares,
+        first: Option<u32>,
         place: usize,
         market: &Market,
         cmd: &Cmd,
         reply: &Reply,
     )
         requires each { length known.old ≡ length self.old.rows }
+        requires numbered { AreNumbered first self.old.rows }
         ensures lines { self.new ≡ near_lines place market.now cmd.now reply.now shares.old known.old self.old }
         ensures known { known.new ≡ (near_rows place market.now cmd.now reply.now shares.old self.old.rows known.old).1 }
         ensures shares { shares.new ≡ now_shared cmd.now market.now shares.old }
     {
         let about = subject(cmd, reply);
         if moves_seat(cmd) {
-            self.near_seat(known, shares, place, market, cmd, reply, &about);
+            self.near_seat(known, shares, first, place, market, cmd, reply, &about);
         } else {
-            self.near_arena(known, shares, place, market, cmd, reply, &about);
+            self.near_arena(known, shares, first, place, market, cmd, reply, &about);
         }
     }
 
@@ -188,6 +193,7 @@ impl Lines {
         &mut self,
         known: &mut [Known],
         shares: &mut Shares,
+        first: Option<u32>,
         place: usize,
         market: &Market,
         cmd: &Cmd,
@@ -195,6 +201,7 @@ impl Lines {
         about: &Option<ArenaId>,
     )
         requires each { length known.old ≡ length self.old.rows }
+        requires numbered { AreNumbered first self.old.rows }
         requires about { about.now ≡ subject cmd.now reply.now }
         ensures lines { self.new ≡ record self.old { rows = (seat_rows place market.now cmd.now reply.now shares.old self.old.rows known.old).0 } }
         ensures known { known.new ≡ (seat_rows place market.now cmd.now reply.now shares.old self.old.rows known.old).1 }
@@ -206,6 +213,7 @@ impl Lines {
             known,
             shares,
             count,
+            first,
             place,
             market,
             cmd,
@@ -221,6 +229,7 @@ impl Lines {
         &mut self,
         known: &mut [Known],
         shares: &mut Shares,
+        first: Option<u32>,
         place: usize,
         market: &Market,
         cmd: &Cmd,
@@ -228,6 +237,7 @@ impl Lines {
         about: &Option<ArenaId>,
     )
         requires each { length known.old ≡ length self.old.rows }
+        requires numbered { AreNumbered first self.old.rows }
         requires about { about.now ≡ subject cmd.now reply.now }
         ensures lines { self.new ≡ arena_lines place market.now cmd.now reply.now shares.old known.old self.old }
         ensures known { known.new ≡ (each_row place market.now cmd.now reply.now shares.old self.old.rows known.old).1 }
@@ -241,6 +251,7 @@ impl Lines {
             known,
             shares,
             count,
+            first,
             place,
             market,
             &limits,

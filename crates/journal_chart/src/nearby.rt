@@ -1,58 +1,23 @@
 //! The rows of a chart at a moment that goes into the column of the last, and at one that begins a column after another.
-ghost use Rattle.std.specs.Prelude.{◌≡◌, ℕ, ◌<◌, ◌≤◌, true, IfSome, Some, drop, length, map, option_map, unwrap_or};
+ghost use Rattle.std.specs.Prelude.{◌≡◌, ℕ, ◌<◌, ◌≤◌, false, true, IfSome, Some, drop, length, map, option_map, unwrap_or};
 ghost use Rattle.market_types.specs.Allotment.{allotment_of, is_just};
 ghost use Rattle.market_types.specs.State.{State};
 ghost use Rattle.market_types.specs.declared.command.Cmd.{Cmd};
 ghost use Rattle.market_types.specs.declared.reply.Reply.{Reply};
 ghost use Rattle.market_types.specs.Step.{limits_of};
 ghost use Rattle.market_core.specs.Divided.{IsDivisionOf};
+ghost use Rattle.journal_chart.specs.Numbering.{AreNumbered};
 ghost use Rattle.journal_chart.specs.Resting.{AreLeft};
 ghost use Rattle.journal_chart.specs.Shares.{shared_of};
-ghost use Rattle.journal_chart.specs.Steps.{after_seat, closed_row, each_row, first_row, first_rows, has_few, has_share, is_covered, is_covered_at, is_divided, is_idle, keeps_order, kept_levels, known_rows, moves_seat, near_row, needing_row, own_row, pairwise, requested, retold, seat_row, seat_rows, seated, settled_row, share_of, stands_kept, subject, taken_row, told};
+ghost use Rattle.journal_chart.specs.Steps.{after_seat, closed_row, each_row, first_row, first_rows, has_few, has_share, is_covered, is_covered_at, is_divided, is_idle, kept_levels, known_rows, near_row, needing_row, own_row, pairwise, requested, retold, seat_row, seat_rows, seated, settled_row, share_of, stands_kept, subject, taken_row};
 
 use crate::covered::{Covered, exactly};
+use crate::entry::subject;
+use crate::numbering::place_of;
 use crate::row::{Known, Row};
 use crate::shares::Shares;
 use market_core::{Division, Market};
 use market_types::{ArenaId, Cmd, Level, LimitView, Reply};
-
-/// A command after which at most a seat has moved.
-pub(crate) fn moves_seat(cmd: &Cmd) -> bool
-    ensures { result ≡ moves_seat cmd.now }
-{
-    matches!(cmd, Cmd::Join | Cmd::Stay | Cmd::Leave)
-}
-
-/// A command after which the arenas stand in the order in which they stood.
-pub(crate) fn keeps_order(cmd: &Cmd) -> bool
-    ensures { result ≡ keeps_order cmd.now }
-{
-    !matches!(cmd, Cmd::Priority(_, _))
-}
-
-/// The arena that a reply names, if the entry changed it.
-fn told(reply: &Reply) -> Option<ArenaId>
-    ensures { result ≡ told reply.now }
-{
-    match reply {
-        Reply::Opened(arena) | Reply::Placed(arena) | Reply::Recalled(arena) | Reply::Left(arena) =>
-            Some(*arena),
-        _ => None,
-    }
-}
-
-/// The arena whose claim, level or seats a command may have changed.
-pub(crate) fn subject(cmd: &Cmd, reply: &Reply) -> Option<ArenaId>
-    ensures { result ≡ subject cmd.now reply.now }
-{
-    match cmd {
-        Cmd::Close(arena)
-        | Cmd::Priority(arena, _)
-        | Cmd::Resize(arena, _, _)
-        | Cmd::Request(arena, _, _) => Some(*arena),
-        _ => told(reply),
-    }
-}
 
 /// The option is this arena.
 fn is_just(arena: ArenaId, option: &Option<ArenaId>) -> bool
@@ -100,7 +65,7 @@ fn has_few(now: &Shares, covered: Covered) -> bool
 }
 
 /// A column has all that an arena of a level may be allotted, of which this is known.
-#[inline]
+#[inline(always)]
 fn is_covered<const DIVIDED: bool>(now: &Shares, known: &Known, level: Level) -> bool
     requires { DIVIDED ≡ true → 0 < now.now.limit }
     ensures { result ≡ is_covered now.now known.now level }
@@ -114,7 +79,7 @@ fn is_covered<const DIVIDED: bool>(now: &Shares, known: &Known, level: Level) ->
 }
 
 /// The same of the level at which the arena stands, if it lives.
-#[inline]
+#[inline(always)]
 fn is_covered_at<const DIVIDED: bool>(now: &Shares, known: &Known, stands: Option<Level>) -> bool
     requires { DIVIDED ≡ true → 0 < now.now.limit }
     ensures { result ≡ is_covered_at now.now known.now stands }
@@ -311,6 +276,7 @@ fn retold(cmd: &Cmd, reply: &Reply, known: &Known) -> Option<Known>
 }
 
 /// The same after a command of a seat. A Placed tells it where one more seat is placed than before.
+#[inline(always)]
 fn seated(place: usize, more: bool, reply: &Reply, known: &Known, row: &Row) -> Option<Known>
     ensures { result ≡ seated place more reply.now known.now row.now }
 {
@@ -361,6 +327,34 @@ fn own_row<const DIVIDED: bool>(
     settle_own::<DIVIDED>(row, known, place, market, division, cmd, reply, now);
 }
 
+/// The same of another arena than the one that the entry is about. A row to which the moment adds nothing is left as it is.
+#[inline(always)]
+fn other_row<const DIVIDED: bool>(
+    row: &mut Row,
+    known: &mut Known,
+    place: usize,
+    market: &Market,
+    division: &mut Option<Division>,
+    now: &Shares,
+    kept: &[bool; 8],
+)
+    requires found { DIVIDED ≡ true → 0 < now.now.limit }
+    requires divided { IfSome division.old (IsDivisionOf market.now) }
+    ensures exact { (cmd : Cmd) (reply : Reply) → is_just row.old.arena (subject cmd reply) ≡ false → (row.new, known.new) ≡ near_row place market.now cmd reply now.now kept.now row.old known.old }
+    ensures divided { IfSome division.new (IsDivisionOf market.now) }
+{
+    if stands_kept(kept, row.stands) {
+        return;
+    }
+    // Else it stands at a level.
+    let Some(level) = row.stands else {
+        return;
+    };
+    if !is_covered::<DIVIDED>(now, known, level) {
+        settle_other::<DIVIDED>(row, known, place, market, division, now, level);
+    }
+}
+
 /// Takes the moment after a command and its reply, which are about one arena, into the column of a row at a place, which has the moment
 /// before, and what is then known of its arena. A row to which the moment adds nothing is left as it is.
 // Always in its caller: a call for each row would have more words to hand over than most rows take.
@@ -388,16 +382,7 @@ fn near_row<const DIVIDED: bool>(
         own_row::<DIVIDED>(row, known, place, market, division, cmd, reply, now, told);
         return;
     }
-    if stands_kept(kept, row.stands) {
-        return;
-    }
-    // Else it stands at a level.
-    let Some(level) = row.stands else {
-        return;
-    };
-    if !is_covered::<DIVIDED>(now, known, level) {
-        settle_other::<DIVIDED>(row, known, place, market, division, now, level);
-    }
+    other_row::<DIVIDED>(row, known, place, market, division, now, kept);
 }
 
 /// Takes the moment into the columns of all rows, and what is then known of their arenas, where the entry is about this arena, the levels
@@ -441,12 +426,68 @@ fn rows_about<const DIVIDED: bool>(
     }
 }
 
+/// The same where some worker may be active, of rows whose arenas are numbered one after another: no row asks whether the entry is about its
+/// arena.
+#[inline(always)]
+fn rows_numbered(
+    rows: &mut [Row],
+    known: &mut [Known],
+    count: usize,
+    first: u32,
+    place: usize,
+    market: &Market,
+    cmd: &Cmd,
+    reply: &Reply,
+    now: &Shares,
+    about: ArenaId,
+    kept: &[bool; 8],
+)
+    requires found { 0 < now.now.limit }
+    requires each { length known.old ≡ length rows.old }
+    requires about { Some about ≡ subject cmd.now reply.now }
+    requires within { count ≤ length rows.old }
+    requires left { AreLeft count (subject cmd.now reply.now) rows.old }
+    requires numbered { AreNumbered (Some first) rows.old }
+    ensures rows { rows.new ≡ (pairwise (near_row place market.now cmd.now reply.now now.now kept.now) rows.old known.old).0 }
+    ensures known { known.new ≡ (pairwise (near_row place market.now cmd.now reply.now now.now kept.now) rows.old known.old).1 }
+    ensures rest { drop count rows.new ≡ drop count rows.old }
+{
+    let mut division = None;
+    let own = place_of(first, count, about);
+    for index in 0..own {
+        let row = &mut rows[index];
+        let known = &mut known[index];
+        other_row::<true>(row, known, place, market, &mut division, now, kept);
+    }
+    if own == count {
+        return;
+    }
+    near_row::<true>(
+        &mut rows[own],
+        &mut known[own],
+        place,
+        market,
+        &mut division,
+        cmd,
+        reply,
+        now,
+        &Some(about),
+        kept,
+    );
+    for index in own + 1..count {
+        let row = &mut rows[index];
+        let known = &mut known[index];
+        other_row::<true>(row, known, place, market, &mut division, now, kept);
+    }
+}
+
 /// The same of whatever the entry is about.
 // By cases, so that no row has to ask whether the entry is about any arena, nor whether any worker may be active.
 fn each_row(
     rows: &mut [Row],
     known: &mut [Known],
     count: usize,
+    first: Option<u32>,
     place: usize,
     market: &Market,
     cmd: &Cmd,
@@ -459,23 +500,29 @@ fn each_row(
     requires about { about.now ≡ subject cmd.now reply.now }
     requires within { count ≤ length rows.old }
     requires left { AreLeft count (subject cmd.now reply.now) rows.old }
+    requires numbered { AreNumbered first rows.old }
     ensures rows { rows.new ≡ (pairwise (near_row place market.now cmd.now reply.now now.now kept.now) rows.old known.old).0 }
     ensures known { known.new ≡ (pairwise (near_row place market.now cmd.now reply.now now.now kept.now) rows.old known.old).1 }
     ensures rest { drop count rows.new ≡ drop count rows.old }
 {
     match about {
-        Some(arena) if now.limit() > 0 => rows_about::<true>(
-            rows,
-            known,
-            count,
-            place,
-            market,
-            cmd,
-            reply,
-            now,
-            &Some(*arena),
-            kept,
-        ),
+        Some(arena) if now.limit() > 0 => match first {
+            Some(first) => rows_numbered(
+                rows, known, count, first, place, market, cmd, reply, now, *arena, kept,
+            ),
+            None => rows_about::<true>(
+                rows,
+                known,
+                count,
+                place,
+                market,
+                cmd,
+                reply,
+                now,
+                &Some(*arena),
+                kept,
+            ),
+        },
         _ => rows_about::<false>(
             rows, known, count, place, market, cmd, reply, now, about, kept,
         ),
@@ -483,12 +530,14 @@ fn each_row(
 }
 
 /// Takes the moment after a command and its reply, which are about one arena, into the column of all rows at a place, which has the moment
-/// before, what is then known of their arenas, and what the levels are given. The rows behind the first `count` are left as they are.
+/// before, what is then known of their arenas, and what the levels are given. The rows behind the first `count` are left as they are. The arenas
+/// of all rows are numbered one after another from `first` on, if there is such a number.
 pub(crate) fn near_rows(
     rows: &mut [Row],
     known: &mut [Known],
     shares: &mut Shares,
     count: usize,
+    first: Option<u32>,
     place: usize,
     market: &Market,
     limits: &LimitView,
@@ -497,6 +546,7 @@ pub(crate) fn near_rows(
     about: &Option<ArenaId>,
 )
     requires each { length known.old ≡ length rows.old }
+    requires numbered { AreNumbered first rows.old }
     requires limits { limits.now ≡ limits_of market.now }
     requires about { about.now ≡ subject cmd.now reply.now }
     requires within { count ≤ length rows.old }
@@ -508,13 +558,14 @@ pub(crate) fn near_rows(
 {
     let kept = shares.renew(market, limits, cmd);
     each_row(
-        rows, known, count, place, market, cmd, reply, shares, about, &kept,
+        rows, known, count, first, place, market, cmd, reply, shares, about, &kept,
     );
 }
 
 /// Takes the moment after a command of a seat and its reply, which are about one arena, into the column of a row at a place, which has the
 /// moment before, and what is then known of its arena. The row of another arena is left as it is.
-#[inline]
+// Always in its callers, as the row of an arena that an entry is about is, whether it is found by its number or looked for.
+#[inline(always)]
 fn seat_row(
     row: &mut Row,
     known: &mut Known,
@@ -533,6 +584,47 @@ fn seat_row(
         let told = seated(place, more, reply, known, row);
         own_row::<false>(row, known, place, market, &mut None, cmd, reply, now, told);
     }
+}
+
+/// Takes the moment into the column of the row of the arena that the entry is about, and what is then known of it, where one more seat is
+/// placed than before, or not, and the arenas of the rows are numbered one after another. The others are left as they are.
+fn seat_row_numbered(
+    rows: &mut [Row],
+    known: &mut [Known],
+    count: usize,
+    first: u32,
+    place: usize,
+    market: &Market,
+    cmd: &Cmd,
+    reply: &Reply,
+    more: bool,
+    now: &Shares,
+    moved: ArenaId,
+)
+    requires each { length known.old ≡ length rows.old }
+    requires moved { Some moved ≡ subject cmd.now reply.now }
+    requires within { count ≤ length rows.old }
+    requires left { AreLeft count (subject cmd.now reply.now) rows.old }
+    requires numbered { AreNumbered (Some first) rows.old }
+    ensures rows { rows.new ≡ (pairwise (seat_row place market.now cmd.now reply.now more now.now) rows.old known.old).0 }
+    ensures known { known.new ≡ (pairwise (seat_row place market.now cmd.now reply.now more now.now) rows.old known.old).1 }
+    ensures rest { drop count rows.new ≡ drop count rows.old }
+{
+    let own = place_of(first, count, moved);
+    if own == count {
+        return;
+    }
+    seat_row(
+        &mut rows[own],
+        &mut known[own],
+        place,
+        market,
+        cmd,
+        reply,
+        more,
+        now,
+        &Some(moved),
+    );
 }
 
 /// Takes the moment into the columns of all rows, and what is then known of their arenas, where one more seat is placed than before, or
@@ -573,12 +665,14 @@ fn each_seat_row(
 }
 
 /// Takes the moment after a command of a seat and its reply, which are about one arena, into the column of all rows at a place, which has the
-/// moment before, what is then known of their arenas, and how many seats are placed. The rows behind the first `count` are left as they are.
+/// moment before, what is then known of their arenas, and how many seats are placed. The rows behind the first `count` are left as they are. The
+/// arenas of all rows are numbered one after another from `first` on, if there is such a number.
 pub(crate) fn seat_rows(
     rows: &mut [Row],
     known: &mut [Known],
     shares: &mut Shares,
     count: usize,
+    first: Option<u32>,
     place: usize,
     market: &Market,
     cmd: &Cmd,
@@ -589,15 +683,21 @@ pub(crate) fn seat_rows(
     requires moved { moved.now ≡ subject cmd.now reply.now }
     requires within { count ≤ length rows.old }
     requires left { AreLeft count (subject cmd.now reply.now) rows.old }
+    requires numbered { AreNumbered first rows.old }
     ensures rows { rows.new ≡ (seat_rows place market.now cmd.now reply.now shares.old rows.old known.old).0 }
     ensures known { known.new ≡ (seat_rows place market.now cmd.now reply.now shares.old rows.old known.old).1 }
     ensures shares { shares.new ≡ after_seat market.now shares.old }
     ensures rest { drop count rows.new ≡ drop count rows.old }
 {
     let more = shares.seat(market);
-    each_seat_row(
-        rows, known, count, place, market, cmd, reply, more, shares, moved,
-    );
+    match (first, moved) {
+        (Some(first), Some(arena)) => seat_row_numbered(
+            rows, known, count, first, place, market, cmd, reply, more, shares, *arena,
+        ),
+        _ => each_seat_row(
+            rows, known, count, place, market, cmd, reply, more, shares, moved,
+        ),
+    }
 }
 
 /// Takes the first moment of a column into a row, where this is known of its arena at the moment before, and what is then known. The market

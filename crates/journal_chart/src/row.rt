@@ -105,6 +105,7 @@ impl Row {
     }
 
     /// What is known of the arena, if it asks for so many workers and has so many, and the column at a place is that of the last moment.
+    #[inline(always)]
     pub(crate) fn known(&self, place: usize, request: u32, active: u32) -> Known
         ensures { result ≡ known_in place request active self.now }
     {
@@ -142,6 +143,7 @@ impl Row {
     }
 
     /// Puts into the column at a place what the arena asks for and has.
+    #[inline(always)]
     pub(crate) fn add_needs(&mut self, place: usize, known: &Known)
         ensures { self.new ≡ needing_row place known.now self.old }
     {

@@ -4,7 +4,7 @@ ghost use Rattle.market_types.specs.Step.{limits_of};
 ghost use Rattle.journal_chart.specs.Shares.{no_shares, shared_of};
 ghost use Rattle.journal_chart.specs.Steps.{after_seat, is_joined, keeps_order, kept_levels};
 
-use crate::nearby::keeps_order;
+use crate::entry::keeps_order;
 use market_core::Market;
 use market_types::{Cmd, Level, LimitView};
 use std::marker::Model;

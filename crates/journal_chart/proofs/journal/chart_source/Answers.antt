@@ -4,6 +4,7 @@ use Rattle.market_types.specs.State.{opening_to}
 use Rattle.journal_chart.specs.Numbers.{Charted}
 use Rattle.journal_chart.specs.Steps.{Making}
 use Rattle.journal_chart.specs.Journals.{Charts}
+use Rattle.journal_chart.proofs.Arenas.{numbered-chart}
 use Rattle.journal_chart.proofs.Making.{charts}
 use Rattle.journal_chart.proofs.journal.chart_source.Goals as goal
 
@@ -11,7 +12,10 @@ pub invariant_of-making : goal.invariant_of-making
 invariant_of-making g c =
     let new = c.in_ok-new.ensures.opened (opening_to 1 1 1 1 1) refl in (
       omega (arith, ap (λ (d : Charted). d.moments) new),
-      omega (arith, c.in_ok-vec.ensures.len, c.in_ok-vec.field-0.ok.0, ap (λ (d : Charted). length d.lines.rows) new ∙ length-map c.args.arenas.now _),
+      (
+        omega (arith, c.in_ok-vec.ensures.len, c.in_ok-vec.field-0.ok.0, ap (λ (d : Charted). length d.lines.rows) new ∙ length-map c.args.arenas.now _),
+        numbered-chart c.numbering.result c.args.columns c.args.arenas.now (opening_to 1 1 1 1 1) c.in_ok-new.field-0 new c.numbering.ensures,
+      ),
     )
 
 pub returns-clause-charts : goal.returns-clause-charts

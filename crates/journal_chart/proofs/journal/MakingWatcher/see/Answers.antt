@@ -1,13 +1,29 @@
-use Rattle.std.proofs.Common.{◌≡◌, List, length, drop, ◌+◌, ◌++◌, false, nat_le, nat_lt, refl, ap, ◌∙◌, arith}
+use Rattle.std.proofs.Common.{◌≡◌, List, length, drop, ◌+◌, ◌++◌, false, nat_le, nat_lt, refl, sym, ap, ◌∙◌, arith}
 use Rattle.std.proofs.lemmas.Bool.Decides.{nat_tests}
-use Rattle.std.proofs.lemmas.List.{length-append, length-drop, length-take}
+use Rattle.std.proofs.lemmas.List.{length-append, length-drop, length-map, length-take}
 use Rattle.std.specs.Vec.{with_items}
 use Rattle.journal_chart.specs.declared.row.Known.{Known}
+use Rattle.journal_chart.specs.declared.row.Row.{Row}
 use Rattle.journal_chart.specs.Numbers.{Charted}
 use Rattle.journal_chart.specs.Steps.{Making, made_more, next_chart}
+use Rattle.journal_chart.specs.Numbering.{arenas_of}
+use Rattle.journal_chart.proofs.Arenas.{next-arenas, numbered-still, passed-arenas}
 use Rattle.journal_chart.proofs.Mapped.{written-over}
 use Rattle.journal_chart.proofs.Next.{next-more}
 use Rattle.journal_chart.proofs.journal.MakingWatcher.see.Goals as goal
+
+pub invariant_of-self : goal.invariant_of-self
+invariant_of-self c =
+    let was : List Row = c.self.inside.chart.lines.rows in
+    let moments : c.pass.new.self.moments ≡ c.self.inside.chart.moments = ap (λ (d : Charted). d.moments) c.pass.ensures.step in
+    let rows : length c.pass.new.self.lines.rows ≡ length was = ap (λ (d : Charted). length d.lines.rows) c.pass.ensures.step ∙ length-map was _ in (
+      omega (arith, moments, c.self.invariant.0),
+      (
+        c.self.invariant.1.0 ∙ sym rows,
+        numbered-still c.self.inside.first was c.pass.new.self.lines.rows
+            (ap (λ (d : Charted). arenas_of d.lines.rows) c.pass.ensures.step ∙ passed-arenas c.args.cmd.now c.args.reply.now was) c.self.invariant.1.1,
+      ),
+    )
 
 pub invariant_of-self-2 : goal.invariant_of-self-2
 invariant_of-self-2 c =
@@ -17,7 +33,10 @@ invariant_of-self-2 c =
     let fresh : List Known = c.take_next.new.known in
     let rest : List Known = drop (length fresh) c.self.inside.known.items in (
       omega (arith, moments, c.self.invariant.0),
-      omega (arith, length-take c.self.inside.known.len (fresh ++ rest), length-append fresh rest, length-drop (length fresh) c.self.inside.known.items, rows, c.self.invariant.1, c.self.inside.known.ok.0),
+      (
+        omega (arith, length-take c.self.inside.known.len (fresh ++ rest), length-append fresh rest, length-drop (length fresh) c.self.inside.known.items, rows, c.self.invariant.1.0, c.self.inside.known.ok.0),
+        numbered-still c.self.inside.first c.self.inside.chart.lines.rows c.take_next.new.self.lines.rows (ap (λ (d : Charted). arenas_of d.lines.rows) c.take_next.ensures.chart ∙ next-arenas c.args.market.now c.args.cmd.now c.args.reply.now (record { chart = c.self.inside.chart; known = c.as_mut_slice.result.now; shares = c.self.inside.shares })) c.self.invariant.1.1,
+      ),
     )
 
 pub returns : goal.returns

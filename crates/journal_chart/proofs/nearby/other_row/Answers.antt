@@ -1,4 +1,4 @@
-use Rattle.std.proofs.Common.{◌≡◌, ℕ, List, Bool, false, Some, refl, sym, ap, ◌∙◌}
+use Rattle.std.proofs.Common.{◌≡◌, ℕ, List, Bool, false, Some, refl, sym, ◌∙◌}
 use Rattle.market_types.specs.Allotment.{is_just}
 use Rattle.market_types.specs.State.{State}
 use Rattle.market_types.specs.declared.command.Cmd.{Cmd}
@@ -7,7 +7,7 @@ use Rattle.journal_chart.specs.declared.row.Known.{Known}
 use Rattle.journal_chart.specs.declared.row.Row.{Row}
 use Rattle.journal_chart.specs.Shares.{Shared}
 use Rattle.journal_chart.specs.Steps.{closed_row, is_covered, near_row, share_of, stands_kept, subject}
-use Rattle.journal_chart.proofs.nearby.near_row.Goals as goal
+use Rattle.journal_chart.proofs.nearby.other_row.Goals as goal
 
 -- a row that is neither told nor left
 other-row : (place : ℕ) (s : State) (cmd : Cmd) (reply : Reply) (now : Shared) (kept : List Bool) (r : Row) (k : Known) (level : ℕ)
@@ -16,9 +16,8 @@ other-row : (place : ℕ) (s : State) (cmd : Cmd) (reply : Reply) (now : Shared)
 other-row place s cmd reply now kept r k level other moved at uncovered = rw (other, moved, at, uncovered) refl
 
 pub returns-then-not-is_covered-clause-exact : goal.returns-then-not-is_covered-clause-exact
-returns-then-not-is_covered-clause-exact g c =
-    let other = ap (λ a. is_just c.args.row.now.arena a) (sym c.requires.about) ∙ sym c.is_just.ensures ∙ c.if-is_just.false in
+returns-then-not-is_covered-clause-exact g c cmd reply other =
     let moved = sym c.stands_kept.ensures ∙ c.if-stands_kept.false in
     let uncovered = sym c.is_covered.ensures ∙ c.if-not-is_covered.true in
-    c.settle_other.ensures.exact c.args.cmd.now c.args.reply.now
-    ∙ sym (other-row c.args.place c.args.market.now c.args.cmd.now c.args.reply.now c.args.now.now c.args.kept.now c.args.row.now c.args.known.now c.in-Some.level other moved c.in-Some.is uncovered)
+    c.settle_other.ensures.exact cmd reply
+    ∙ sym (other-row c.args.place c.args.market.now cmd reply c.args.now.now c.args.kept.now c.args.row.now c.args.known.now c.in-Some.level other moved c.in-Some.is uncovered)

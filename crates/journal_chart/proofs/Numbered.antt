@@ -1,0 +1,61 @@
+-- The row of an arena among rows whose arenas are numbered one after another.
+use Rattle.std.proofs.Common.{◌≡◌, ℕ, ◌+◌, ◌-◌, ◌<◌, ◌≤◌, ◌⊎◌, zero, suc, Bool, false, eqb, List, [], ◌∷◌, Option, Some, length, drop, get_or, refl, sym, ap, ◌∙◌, subst, arith, inl, inr}
+use Rattle.std.proofs.lemmas.Bool.{cases_lt}
+use Rattle.std.proofs.lemmas.Bool.Decides.{nat_tests}
+use Rattle.std.proofs.lemmas.List.{get_or-drop, length-drop}
+use Rattle.std.proofs.lemmas.List.FromFn.{get_or-range_with_len}
+use Rattle.market_types.specs.Allotment.{is_just}
+use Rattle.market_types.specs.State.{State}
+use Rattle.market_types.specs.declared.command.Cmd.{Cmd}
+use Rattle.market_types.specs.declared.reply.Reply.{Reply}
+use Rattle.journal_chart.specs.declared.row.Row.{Row}
+use Rattle.journal_chart.specs.declared.row.Known.{Known}
+use Rattle.journal_chart.specs.Numbering.{AreNumbered, arenas_of}
+use Rattle.journal_chart.specs.Resting.{AreLeft, IsLeft}
+use Rattle.journal_chart.specs.Shares.{Shared}
+use Rattle.journal_chart.specs.Steps.{seat_row, subject}
+
+arena-of : (rows : List Row) (j : ℕ) (d : Row) → get_or (arenas_of rows) j d.arena ≡ (get_or rows j d).arena
+arena-of [] j d = refl
+arena-of (r ∷ rows) zero d = refl
+arena-of (r ∷ rows) (suc j) d = arena-of rows j d
+
+arena-at : (first : ℕ) (rows : List Row) (j : ℕ) (d : Row) → AreNumbered (Some first) rows → j < length rows → (get_or rows j d).arena ≡ first + j
+arena-at first rows j d numbered inside =
+    sym (arena-of rows j d) ∙ ap (λ ns. get_or ns j d.arena) numbered ∙ get_or-range_with_len first (length rows) j d.arena inside
+
+not-just : (a n m : ℕ) → a ≡ n → (m ≡ n → ⊥) → is_just a (Some m) ≡ false
+not-just a n m is apart = let differs : eqb m a ≡ false = grind (arith, nat_tests) in differs
+
+-- an entry about an arena is about none of the other rows
+pub apart : (first about own count : ℕ) (rows : List Row) → ((index : ℕ) → index < count → first + index ≡ about → index ≡ own) → AreNumbered (Some first) rows
+    → AreLeft count (Some about) rows → (j : ℕ) (d : Row) → j < length rows → (j < count → j ≡ own → ⊥) → is_just (get_or rows j d).arena (Some about) ≡ false
+apart first about own count rows alone numbered left j d inside other = go (cases_lt j count)
+  where
+    go : (j < count) ⊎ (count ≤ j) → is_just (get_or rows j d).arena (Some about) ≡ false
+    go (inl within) = not-just (get_or rows j d).arena (first + j) about (arena-at first rows j d numbered inside) (λ e. other within (alone j within (sym e)))
+    go (inr behind) =
+        let at : count + (j - count) ≡ j = omega (arith, behind) in
+        let is : get_or (drop count rows) (j - count) d ≡ get_or rows j d = get_or-drop count rows (j - count) d ∙ ap (λ n. get_or rows n d) at in
+        let there : j - count < length (drop count rows) = omega (arith, inside, behind, length-drop count rows) in
+        let here : IsLeft (Some about) (get_or (drop count rows) (j - count) d) = left (j - count) d there in
+        subst (λ (r : Row). is_just r.arena (Some about) ≡ false) is here.other
+
+-- the same of rows that are as they were from one on
+pub still-apart : (first about own count : ℕ) (rows0 rows : List Row) → ((index : ℕ) → index < count → first + index ≡ about → index ≡ own) → AreNumbered (Some first) rows0
+    → AreLeft count (Some about) rows0 → (j : ℕ) (d : Row) → j < length rows0 → (j ≡ own → ⊥) → drop j rows ≡ drop j rows0 → is_just (get_or rows j d).arena (Some about) ≡ false
+still-apart first about own count rows0 rows alone numbered left j d inside other rest =
+    let at : j + 0 ≡ j = omega arith in
+    let same : get_or rows0 j d ≡ get_or rows j d =
+    ap (λ n. get_or rows0 n d) (sym at) ∙ sym (get_or-drop j rows0 0 d) ∙ ap (λ (rs : List Row). get_or rs 0 d) (sym rest) ∙ get_or-drop j rows 0 d ∙ ap (λ n. get_or rows n d) at in
+    subst (λ (r : Row). is_just r.arena (Some about) ≡ false) same (apart first about own count rows0 alone numbered left j d inside (λ within e. other e))
+
+-- a command of a seat leaves the other rows as they are
+pub seat-others : (place : ℕ) (s : State) (cmd : Cmd) (reply : Reply) (more : Bool) (now : Shared) (first about own count : ℕ) (rows : List Row)
+    → ((index : ℕ) → index < count → first + index ≡ about → index ≡ own) → AreNumbered (Some first) rows → AreLeft count (subject cmd reply) rows → Some about ≡ subject cmd reply
+    → (j : ℕ) (d : Row) → j < length rows → (j < count → j ≡ own → ⊥) → (k : Known) → seat_row place s cmd reply more now (get_or rows j d) k ≡ (get_or rows j d, k)
+seat-others place s cmd reply more now first about own count rows alone numbered left is j d inside other k =
+    let left' : AreLeft count (Some about) rows = subst (λ (o : Option ℕ). AreLeft count o rows) (sym is) left in
+    let none : is_just (get_or rows j d).arena (subject cmd reply) ≡ false =
+    ap (is_just (get_or rows j d).arena) (sym is) ∙ apart first about own count rows alone numbered left' j d inside other in
+    rw none refl
