@@ -108,6 +108,22 @@ pub exact-share : (r g d n v : ℕ) → IsShare r g d n → exactly r g d ≡ So
 exact-share r g d n v share h =
     exact-share-if r g d share.carry n v (eqb r 0) (eqb g 0) (eqb g d) (eqb r d) refl refl refl refl share.less share.is h
 
+-- of a level that is given nothing nobody is allotted any
+pub share-of-nothing : (r g d n : ℕ) → IsShare r g d n → eqb g 0 ≡ true → n ≡ 0
+share-of-nothing r g d n share none = go (eqb r 0) refl share.is
+  where
+    go : (asks : Bool) → eqb r 0 ≡ asks → n ≡ cond asks 0 ((r * g + share.carry) / d) → n ≡ 0
+    go true nobody is = is
+    go false some is = is ∙ nothing-given r g d share.carry none (share.less (asks-some r some))
+
+-- of a level that is given all each is allotted what it asks for
+pub share-of-all : (r g d n : ℕ) → IsShare r g d n → eqb g d ≡ true → n ≡ r
+share-of-all r g d n share all = go (eqb r 0) refl share.is
+  where
+    go : (asks : Bool) → eqb r 0 ≡ asks → n ≡ cond asks 0 ((r * g + share.carry) / d) → n ≡ r
+    go true nobody is = let zero_ : r ≡ 0 = grind (arith, nat_tests) in is ∙ sym zero_
+    go false some is = is ∙ all-given r g d share.carry all (share.less (asks-some r some))
+
 -- ---- arenas in order
 
 -- an arena of this number is none of these

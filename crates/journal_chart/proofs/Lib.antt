@@ -5,6 +5,7 @@ pub mod Mapped
 pub mod Pairs
 pub mod AtRest
 pub mod Numbered
+pub mod Levels
 pub mod Arenas
 pub mod Charts
 pub mod Bounds

@@ -23,8 +23,8 @@ use Rattle.journal_chart.specs.Covering.{covered, covers, exactly, least_covered
 use Rattle.journal_chart.specs.Lines.{added, at}
 use Rattle.journal_chart.specs.Numbers.{level_at, line_of, row_of, shown, view_at}
 use Rattle.journal_chart.specs.Shares.{Shared, shared_of}
-use Rattle.journal_chart.specs.Steps.{after_seat, has_few, is_covered, is_covered_at, is_divided, is_idle, is_joined, is_same_share, closed_row, has_share, is_kept, keeps_order, kept_levels, known_in, known_of, limited, moves_seat, near_row, needing_row, own_row, retold, seat_row, seated, seen_row, share_of, shared_row, stands_after, stands_kept, subject}
-use Rattle.journal_chart.proofs.Bounds.{IsShare, Whole, allotment-level, at-level, both, covered-share, exact-share, same-carried}
+use Rattle.journal_chart.specs.Steps.{after_seat, has_few, is_covered, is_covered_at, is_divided, is_idle, is_joined, is_same_part, is_same_share, closed_row, has_share, is_kept, keeps_order, kept_levels, known_in, known_of, limited, moves_seat, near_row, needing_row, own_row, retold, seat_row, seated, seen_row, share_of, shared_row, stands_after, stands_kept, subject}
+use Rattle.journal_chart.proofs.Bounds.{IsShare, Whole, allotment-level, at-level, both, covered-share, exact-share, same-carried, share-of-all, share-of-nothing}
 use Rattle.journal_chart.proofs.Charts.{line-if, readied-row}
 use Rattle.journal_chart.proofs.Kept.{Fine, Stands, Steady, apart-stands, found-number, steady-step}
 use Rattle.journal_chart.proofs.Sharing.{divides, leveled, share, shared-asked, shared-given}
@@ -199,15 +199,15 @@ kept-place cmd was now levels (suc (suc (suc (suc (suc (suc zero)))))) h = h
 kept-place cmd was now levels (suc (suc (suc (suc (suc (suc (suc zero))))))) h = h
 kept-place cmd was now levels (suc (suc (suc (suc (suc (suc (suc (suc n)))))))) h = absurd (true≢false (sym h))
 
-kept-level : (cmd : Cmd) (was now : Shared) (levels level : ℕ) → stands_kept (kept_levels cmd was now levels) (Some level) ≡ true
+kept-level : (cmd : Cmd) (was now : Shared) (levels level : ℕ) → level ≤ levels → stands_kept (kept_levels cmd was now levels) (Some level) ≡ true
     → ((is_idle was && is_idle now) ≡ true) ⊎ ((keeps_order cmd && is_same_share was now level) ≡ true)
-kept-level cmd was now levels level h =
+kept-level cmd was now levels level there h =
     let g = both (nat_le 1 level) (get_or (kept_levels cmd was now levels) (level - 1) false) h in
     let low : 1 ≤ level = let e = g.0 in grind (arith, nat_tests) in
     let next : suc (level - 1) ≡ level = omega (arith, low) in
     let kept : is_kept cmd was now levels level ≡ true = ap (is_kept cmd was now levels) (sym next) ∙ kept-place cmd was now levels (level - 1) g.1 in
-    either (is_idle was && is_idle now) (keeps_order cmd && is_same_share was now level)
-    (both (nat_le level levels) ((is_idle was && is_idle now) || (keeps_order cmd && is_same_share was now level)) kept).1
+    let below : nat_lt levels level ≡ false = grind (arith, nat_tests) in
+    either (is_idle was && is_idle now) (keeps_order cmd && is_same_share was now level) (rw below at kept)
 
 -- ---- where the limit is 0
 
@@ -451,23 +451,43 @@ module _ (most : ℕ) (before : List State) (s t : State) (some : 0 < most) (on 
       let l : ℕ = x.level in
       let was : Shared = shared_of s in
       let now : Shared = shared_of t in
-      let g = both (is_divided was l && is_divided now l) ((slice_index was.given (l - 1) == slice_index now.given (l - 1)) && (slice_index was.asked (l - 1) == slice_index now.asked (l - 1))) h in
+      let wg : ℕ = slice_index was.given (l - 1) in
+      let ng : ℕ = slice_index now.given (l - 1) in
+      let wa : ℕ = slice_index was.asked (l - 1) in
+      let na : ℕ = slice_index now.asked (l - 1) in
+      let g = both (is_divided was l && is_divided now l) (is_same_part wg ng wa na) h in
       let halves = both (is_divided was l) (is_divided now l) g.0 in
       let before_ = divides s l halves.0 in
       let after = divides t l halves.1 in
-      let equal = both (slice_index was.given (l - 1) == slice_index now.given (l - 1)) (slice_index was.asked (l - 1) == slice_index now.asked (l - 1)) g.1 in
       let high : l ≤ s.levels = leveled s a x fine is in
       let high' : l ≤ t.levels = leveled t a x fine' found in
-      let given_ : slice_index was.given (l - 1) ≡ slice_index now.given (l - 1) = let e = equal.0 in grind (arith, nat_tests) in
-      let asked_ : slice_index was.asked (l - 1) ≡ slice_index now.asked (l - 1) = let e = equal.1 in grind (arith, nat_tests) in
-      let given : assigned t l ≡ assigned s l = sym (shared-given t l after.low after.few high') ∙ sym given_ ∙ shared-given s l before_.low before_.few high in
-      let asked : demand t l ≡ demand s l = sym (shared-asked t l after.low after.few high') ∙ sym asked_ ∙ shared-asked s l before_.low before_.few high in
-      let at_a : allotment_of t a ≡ allotment_of s a =
-      allotment-level whole a t x fine'.once after.any found after.low high'
-      ∙ steady (assigned t) (demand t) l 0 asked
-      ∙ same-carried a (assigned t) (demand t) (assigned s) (demand s) l 0 (at_level l s.arenas) (at-level l s.arenas) given asked
-      ∙ sym (allotment-level whole a s x fine.once before_.any is before_.low high) in
-      ap (allotment_of t) number ∙ at_a ∙ ap (allotment_of s) (sym number)
+      let was-share = share whole s a x fine is before_ in
+      let now-share = share whole t a x fine' found after in
+      elim (either ((wg == ng) && (wa == na)) (((wg == 0) && (ng == 0)) || ((wg == wa) && (ng == na))) g.1) [
+        | inl same ↦
+            let equal = both (wg == ng) (wa == na) same in
+            let given_ : wg ≡ ng = let e = equal.0 in grind (arith, nat_tests) in
+            let asked_ : wa ≡ na = let e = equal.1 in grind (arith, nat_tests) in
+            let given : assigned t l ≡ assigned s l = sym (shared-given t l after.low after.few high') ∙ sym given_ ∙ shared-given s l before_.low before_.few high in
+            let asked : demand t l ≡ demand s l = sym (shared-asked t l after.low after.few high') ∙ sym asked_ ∙ shared-asked s l before_.low before_.few high in
+            let at_a : allotment_of t a ≡ allotment_of s a =
+            allotment-level whole a t x fine'.once after.any found after.low high'
+            ∙ steady (assigned t) (demand t) l 0 asked
+            ∙ same-carried a (assigned t) (demand t) (assigned s) (demand s) l 0 (at_level l s.arenas) (at-level l s.arenas) given asked
+            ∙ sym (allotment-level whole a s x fine.once before_.any is before_.low high) in
+            ap (allotment_of t) number ∙ at_a ∙ ap (allotment_of s) (sym number)
+        | inr told ↦
+            elim (either ((wg == 0) && (ng == 0)) ((wg == wa) && (ng == na)) told) [
+              | inl nothing ↦
+                  let none = both (wg == 0) (ng == 0) nothing in
+                  share-of-nothing (request_of x.claim) ng na (allotment_of t x.number) now-share none.1
+                  ∙ sym (share-of-nothing (request_of x.claim) wg wa (allotment_of s x.number) was-share none.0)
+              | inr all ↦
+                  let whole_ = both (wg == wa) (ng == na) all in
+                  share-of-all (request_of x.claim) ng na (allotment_of t x.number) now-share whole_.1
+                  ∙ sym (share-of-all (request_of x.claim) wg wa (allotment_of s x.number) was-share whole_.0)
+            ]
+      ]
 
   -- ---- a row at the next moment
 
@@ -500,7 +520,7 @@ module _ (most : ℕ) (before : List State) (s t : State) (some : 0 < most) (on 
             → stands_kept (kept_levels cmd (shared_of s) (shared_of t) t.levels) (option_map (λ (b : Arena). b.level) o) ≡ true → SameLines a
         go None is h = absent-lines a stands is
         go (Some x) is h =
-            elim (kept-level cmd (shared_of s) (shared_of t) t.levels x.level h) [
+            elim (kept-level cmd (shared_of s) (shared_of t) t.levels x.level (leveled t a x fine' (stands.arena ∙ is)) h) [
               | inl idle ↦
                   let g = both (is_idle (shared_of s)) (is_idle (shared_of t)) idle in
                   even-lines a stands (λ y found. idle-allotted t y.number g.1 ∙ sym (idle-allotted s y.number g.0))

@@ -1,6 +1,7 @@
 -- The row of an arena among rows whose arenas are numbered one after another.
-use Rattle.std.proofs.Common.{◌≡◌, ℕ, ◌+◌, ◌-◌, ◌<◌, ◌≤◌, ◌⊎◌, zero, suc, Bool, false, eqb, List, [], ◌∷◌, Option, Some, length, drop, get_or, refl, sym, ap, ◌∙◌, subst, arith, inl, inr}
-use Rattle.std.proofs.lemmas.Bool.{cases_lt}
+use Rattle.std.proofs.Common.{◌≡◌, ℕ, ◌+◌, ◌-◌, ◌<◌, ◌≤◌, ◌⊎◌, zero, suc, Bool, false, true, eqb, List, [], ◌∷◌, Option, Some, length, drop, get_or, refl, sym, ap, ◌∙◌, subst, arith, inl, inr}
+use Rattle.std.specs.Prelude.{nat_le}
+use Rattle.std.proofs.lemmas.Bool.{cases_lt, le-leb}
 use Rattle.std.proofs.lemmas.Bool.Decides.{nat_tests}
 use Rattle.std.proofs.lemmas.List.{get_or-drop, length-drop}
 use Rattle.std.proofs.lemmas.List.FromFn.{get_or-range_with_len}
@@ -13,7 +14,8 @@ use Rattle.journal_chart.specs.declared.row.Known.{Known}
 use Rattle.journal_chart.specs.Numbering.{AreNumbered, arenas_of}
 use Rattle.journal_chart.specs.Resting.{AreLeft, IsLeft}
 use Rattle.journal_chart.specs.Shares.{Shared}
-use Rattle.journal_chart.specs.Steps.{seat_row, subject}
+use Rattle.journal_chart.specs.Unkept.{IsAlone}
+use Rattle.journal_chart.specs.Steps.{closed_row, is_covered, near_row, seat_row, share_of, stands_kept, subject}
 
 arena-of : (rows : List Row) (j : ℕ) (d : Row) → get_or (arenas_of rows) j d.arena ≡ (get_or rows j d).arena
 arena-of [] j d = refl
@@ -59,3 +61,18 @@ seat-others place s cmd reply more now first about own count rows alone numbered
     let none : is_just (get_or rows j d).arena (subject cmd reply) ≡ false =
     ap (is_just (get_or rows j d).arena) (sym is) ∙ apart first about own count rows alone numbered left' j d inside other in
     rw none refl
+
+-- a row that is neither told nor left
+pub other-row : (place : ℕ) (s : State) (cmd : Cmd) (reply : Reply) (now : Shared) (kept : List Bool) (r : Row) (k : Known) (level : ℕ)
+    → is_just r.arena (subject cmd reply) ≡ false → stands_kept kept r.stands ≡ false → r.stands ≡ Some level → is_covered now k level ≡ false
+    → near_row place s cmd reply now kept r k ≡ closed_row place s cmd reply k r r (Some (share_of s now k r.arena level))
+other-row place s cmd reply now kept r k level other moved at uncovered = rw (other, moved, at, uncovered) refl
+
+-- a row at another level than the one that alone is not kept
+pub other-level : (place : ℕ) (s : State) (cmd : Cmd) (reply : Reply) (now : Shared) (kept : List Bool) (r : Row) (k : Known) (stands level : ℕ)
+    → IsAlone kept level → is_just r.arena (subject cmd reply) ≡ false → r.stands ≡ Some stands → 1 ≤ stands → stands ≤ 8 → (stands ≡ level → ⊥)
+    → near_row place s cmd reply now kept r k ≡ (r, k)
+other-level place s cmd reply now kept r k stands level alone other at low high apart =
+    let some : nat_le 1 stands ≡ true = le-leb 1 stands low in
+    let held : get_or kept (stands - 1) false ≡ true = alone.others stands low high apart in
+    rw (other, at, some, held) refl

@@ -10,3 +10,4 @@ pub mod Highest
 pub mod Resting
 pub mod Shares
 pub mod Steps
+pub mod Unkept

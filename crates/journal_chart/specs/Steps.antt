@@ -166,20 +166,25 @@ keeps_order _ = true
 abbrev pub is_divided : Shared → ℕ → Bool
 is_divided now level = nat_lt 0 now.limit && (nat_le 1 level && nat_le level 8)
 
--- the arenas of a level are allotted what they were, but for the one that the entry is about: the level is given what it was of what it
--- asked for
+-- a level that is given this of what it asks for shares it out as it did: it is given what it was of what it asked for, or nothing each time,
+-- or each time all
+abbrev pub is_same_part : ℕ → ℕ → ℕ → ℕ → Bool
+is_same_part was_given given was_asked asked =
+    ((was_given == given) && (was_asked == asked)) || (((was_given == 0) && (given == 0)) || ((was_given == was_asked) && (given == asked)))
+
+-- the arenas of a level are allotted what they were, but for the one that the entry is about
 abbrev pub is_same_share : Shared → Shared → ℕ → Bool
 is_same_share was now level =
     (is_divided was level && is_divided now level)
-    && ((slice_index was.given (level - 1) == slice_index now.given (level - 1)) && (slice_index was.asked (level - 1) == slice_index now.asked (level - 1)))
+    && is_same_part (slice_index was.given (level - 1)) (slice_index now.given (level - 1)) (slice_index was.asked (level - 1)) (slice_index now.asked (level - 1))
 
 -- no worker may be active, not even one for enqueued work
 abbrev pub is_idle : Shared → Bool
 is_idle now = now.effective == 0
 
--- of a market of so many levels; or no arena was allotted any worker, and none is
+-- the same in a market of so many levels, where none stands at a level above them; or no arena was allotted any worker, and none is
 abbrev pub is_kept : Cmd → Shared → Shared → ℕ → ℕ → Bool
-is_kept cmd was now levels level = nat_le level levels && ((is_idle was && is_idle now) || (keeps_order cmd && is_same_share was now level))
+is_kept cmd was now levels level = nat_lt levels level || ((is_idle was && is_idle now) || (keeps_order cmd && is_same_share was now level))
 
 -- so for each of eight levels
 abbrev pub kept_levels : Cmd → Shared → Shared → ℕ → List Bool

@@ -9,6 +9,7 @@ ghost use Rattle.journal_chart.specs.Shares.{shared_of};
 ghost use Rattle.journal_chart.specs.Steps.{begun_chart, first_chart, goes_on, halved_lines, is_still, near_chart, next_chart, now_shared, passed_chart, taken_chart};
 
 use crate::lines::Lines;
+use crate::notes::Notes;
 use crate::row::Known;
 use crate::shares::Shares;
 use market_core::Market;
@@ -163,61 +164,51 @@ impl Chart {
         self.moments += 1;
     }
 
-    /// Takes the moment after an entry into the column of the last moment, which is at this place and was taken before, what is then known of
-    /// the arenas, and what the levels are given. The arenas are numbered from `first` on, as in `take_next`.
+    /// Takes the moment after an entry into the column of the last moment, which is at this place and was taken before, and what is then kept
+    /// of the market.
     #[inline(never)]
-    fn near(
-        &mut self,
-        known: &mut [Known],
-        shares: &mut Shares,
-        first: Option<u32>,
-        place: u64,
-        market: &Market,
-        cmd: &Cmd,
-        reply: &Reply,
-    )
+    fn near(&mut self, notes: &mut Notes, place: u64, market: &Market, cmd: &Cmd, reply: &Reply)
         requires few { self.old.moments + 1 < 2 ^ 63 }
         requires place { place ≡ self.old.moments / width_of self.old.most self.old.moments }
         requires on { goes_on self.old ≡ true }
-        requires each { length known.old ≡ length self.old.lines.rows }
-        requires numbered { AreNumbered first self.old.lines.rows }
-        ensures chart { self.new ≡ (near_chart market.now cmd.now reply.now (record { chart = self.old; known = known.old; shares = shares.old })).chart }
-        ensures known { known.new ≡ (near_chart market.now cmd.now reply.now (record { chart = self.old; known = known.old; shares = shares.old })).known }
-        ensures shares { shares.new ≡ now_shared cmd.now market.now shares.old }
+        requires each { length notes.old.known.items ≡ length self.old.lines.rows }
+        requires numbered { AreNumbered notes.old.first self.old.lines.rows }
+        ensures chart { self.new ≡ (near_chart market.now cmd.now reply.now (record { chart = self.old; known = notes.old.known.items; shares = notes.old.shares })).chart }
+        ensures known { notes.new.known.items ≡ (near_chart market.now cmd.now reply.now (record { chart = self.old; known = notes.old.known.items; shares = notes.old.shares })).known }
+        ensures shares { notes.new.shares ≡ now_shared cmd.now market.now notes.old.shares }
+        ensures first { notes.new.first ≡ notes.old.first }
+        ensures each { length notes.new.known.items ≡ length notes.old.known.items }
     {
+        let first = notes.first;
+        let known = notes.known.as_mut_slice();
+        let place = place as usize;
         self.lines
-            .near(known, shares, first, place as usize, market, cmd, reply);
+            .near(known, &mut notes.shares, first, place, market, cmd, reply);
         self.moments += 1;
     }
 
-    /// Takes the moment after an entry, as `take` does, where the moment before was taken last, if any was, and this was then known of the
-    /// arenas. Only what may have changed is looked at: the arena that the entry is about, and those whose allotment is not told; in the same
-    /// column nothing where the market is as it was, and else none of which it is known that it adds nothing. The arenas are numbered one
-    /// after another from `first` on, if there is such a number.
+    /// Takes the moment after an entry, as `take` does, where the moment before was taken last, if any was, and this was then kept of the
+    /// market, and what is kept then. Only what may have changed is looked at: the arena that the entry is about, and those whose allotment is
+    /// not told; in the same column nothing where the market is as it was, and else none of which it is known that it adds nothing.
     #[inline]
-    pub(crate) fn take_next(
-        &mut self,
-        known: &mut [Known],
-        shares: &mut Shares,
-        first: Option<u32>,
-        market: &Market,
-        cmd: &Cmd,
-        reply: &Reply,
-    )
+    pub(crate) fn take_next(&mut self, notes: &mut Notes, market: &Market, cmd: &Cmd, reply: &Reply)
         requires few { self.old.moments + 1 < 2 ^ 63 }
-        requires each { length known.old ≡ length self.old.lines.rows }
-        requires numbered { AreNumbered first self.old.lines.rows }
-        ensures chart { self.new ≡ (next_chart market.now cmd.now reply.now (record { chart = self.old; known = known.old; shares = shares.old })).chart }
-        ensures known { known.new ≡ (next_chart market.now cmd.now reply.now (record { chart = self.old; known = known.old; shares = shares.old })).known }
-        ensures shares { shares.new ≡ (next_chart market.now cmd.now reply.now (record { chart = self.old; known = known.old; shares = shares.old })).shares }
+        requires each { length notes.old.known.items ≡ length self.old.lines.rows }
+        requires numbered { AreNumbered notes.old.first self.old.lines.rows }
+        ensures chart { self.new ≡ (next_chart market.now cmd.now reply.now (record { chart = self.old; known = notes.old.known.items; shares = notes.old.shares })).chart }
+        ensures known { notes.new.known.items ≡ (next_chart market.now cmd.now reply.now (record { chart = self.old; known = notes.old.known.items; shares = notes.old.shares })).known }
+        ensures shares { notes.new.shares ≡ (next_chart market.now cmd.now reply.now (record { chart = self.old; known = notes.old.known.items; shares = notes.old.shares })).shares }
+        ensures first { notes.new.first ≡ notes.old.first }
+        ensures each { length notes.new.known.items ≡ length notes.old.known.items }
     {
         // Once, for both that ask for it.
         let place = self.place();
         if !self.goes_on(place) {
+            let known = notes.known.as_mut_slice();
             if self.moments == 0 {
-                self.look(known, shares, market, cmd, reply);
+                self.look(known, &mut notes.shares, market, cmd, reply);
             } else {
-                self.begin(known, shares, market, cmd, reply);
+                self.begin(known, &mut notes.shares, market, cmd, reply);
             }
             return;
         }
@@ -225,7 +216,7 @@ impl Chart {
             self.moments += 1;
             return;
         }
-        self.near(known, shares, first, place, market, cmd, reply);
+        self.near(notes, place, market, cmd, reply);
     }
 
     /// Lets the moment after an entry pass that is not drawn, by its command and its reply. It takes no memory.

@@ -1,5 +1,5 @@
 //! Which allotments add nothing to a column.
-ghost use Rattle.std.specs.Prelude.{◌≡◌, ◌*◌, ◌≤◌};
+ghost use Rattle.std.specs.Prelude.{◌≡◌, ◌*◌, ◌<◌, ◌≤◌};
 ghost use Rattle.journal_chart.specs.Covering.{covered, covered_by, covers, exactly};
 
 use crate::span::Span;
@@ -69,6 +69,17 @@ impl Covered {
         if asked == 0 {
             return self.from == 0 && self.below > 0;
         }
+        self.covers_some(request, given, asked)
+    }
+
+    /// The same where the level asks for some worker.
+    #[inline]
+    pub(crate) fn covers_some(self, request: u32, given: u64, asked: u64) -> bool
+        requires some { given ≤ 1024 * 65535 }
+        requires small { asked ≤ 1024 * 65535 }
+        requires any { 0 < asked }
+        ensures { result ≡ covers self request given asked }
+    {
         let product = u64::from(request) * given;
         u64::from(self.from) * asked <= product && product + asked <= u64::from(self.below) * asked
     }

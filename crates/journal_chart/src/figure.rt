@@ -127,30 +127,6 @@ fn write_tens(text: &mut String, number: u64) -> Result<(), AllocError>
     write_digit(text, number % 10)
 }
 
-/// Writes a number of at most three digits.
-fn write_hundreds(text: &mut String, number: u64) -> Result<(), AllocError>
-    requires { number < 1000 }
-    ensures { OnOk result (string_bytes text.new ≡ string_bytes text.old ++ decimal number) }
-{
-    if number < 100 {
-        return write_tens(text, number);
-    }
-    write_tens(text, number / 10)?;
-    write_digit(text, number % 10)
-}
-
-/// Writes a number of at most four digits.
-fn write_thousands(text: &mut String, number: u64) -> Result<(), AllocError>
-    requires { number < 10000 }
-    ensures { OnOk result (string_bytes text.new ≡ string_bytes text.old ++ decimal number) }
-{
-    if number < 1000 {
-        return write_hundreds(text, number);
-    }
-    write_hundreds(text, number / 10)?;
-    write_digit(text, number % 10)
-}
-
 /// Writes a number. Nearly all in a picture have at most two digits.
 #[inline]
 fn write_number(text: &mut String, number: u64) -> Result<(), AllocError>
@@ -162,18 +138,20 @@ fn write_number(text: &mut String, number: u64) -> Result<(), AllocError>
     write_long(text, number)
 }
 
-/// Writes a number of three digits or more. Few have more than five: the others need no buffer.
-// Apart, since each shorter number would else make room for that buffer.
+/// Writes a number of three digits or more.
+// Digit by digit, since a formatter makes room for a buffer, and writes through it. Apart, since each shorter number would else call itself.
 #[inline(never)]
 fn write_long(text: &mut String, number: u64) -> Result<(), AllocError>
     requires { 100 ≤ number }
     ensures { OnOk result (string_bytes text.new ≡ string_bytes text.old ++ decimal number) }
 {
-    if number < 100_000 {
-        write_thousands(text, number / 10)?;
-        return write_digit(text, number % 10);
+    let front = number / 10;
+    if front < 100 {
+        write_tens(text, front)?;
+    } else {
+        write_long(text, front)?;
     }
-    write!(text, "{number}")
+    write_digit(text, number % 10)
 }
 
 /// Writes the entries of columns.

@@ -6,6 +6,7 @@ ghost use Rattle.journal_chart.specs.Journals.{Charts};
 ghost use Rattle.journal_chart.specs.Numbers.{chart_of};
 
 use crate::chart::Chart;
+use crate::notes::Notes;
 use crate::numbering::numbering;
 use crate::row::Known;
 use crate::shares::Shares;
@@ -27,13 +28,9 @@ struct Making {
     to: u32,
     /// How many were seen, as far as they are drawn.
     seen: u32,
-    /// From which number on the arenas of its rows are numbered one after another, if they are.
-    first: Option<u32>,
     chart: Chart,
-    /// What is known of each arena since the last moment that was taken.
-    known: Vec<Known>,
-    /// What each level was given of what it asked for at that moment.
-    shares: Shares,
+    /// What is kept of the market since the last moment that was taken.
+    notes: Notes,
 }
 
 impl Model for Making {
@@ -43,9 +40,9 @@ impl Model for Making {
 
     ghost Value = { Making };
 
-    ghost view = { λ m. record { before = m.before; to = m.to; seen = m.seen; followed = record { chart = m.chart; known = m.known.items; shares = m.shares } } };
+    ghost view = { λ m. record { before = m.before; to = m.to; seen = m.seen; followed = record { chart = m.chart; known = m.notes.known.items; shares = m.notes.shares } } };
 
-    ghost invariant = { λ m. (m.chart.moments ≤ m.seen) × ((length m.known.items ≡ length m.chart.lines.rows) × AreNumbered m.first m.chart.lines.rows) };
+    ghost invariant = { λ m. (m.chart.moments ≤ m.seen) × ((length m.notes.known.items ≡ length m.chart.lines.rows) × AreNumbered m.notes.first m.chart.lines.rows) };
 }
 
 impl Watcher for Making {
@@ -66,14 +63,7 @@ impl Watcher for Making {
             self.seen += 1;
             return;
         }
-        self.chart.take_next(
-            self.known.as_mut_slice(),
-            &mut self.shares,
-            self.first,
-            market,
-            cmd,
-            reply,
-        );
+        self.chart.take_next(&mut self.notes, market, cmd, reply);
         self.seen += 1;
     }
 }
@@ -105,10 +95,12 @@ pub fn chart_source<R: Source>(
         before: from - 1,
         to,
         seen: 0,
-        first: numbering(arenas),
         chart: Chart::new(alloc, columns, arenas)?,
-        known: vec![in alloc; Known::nothing(); arenas.len()]?,
-        shares: Shares::none(),
+        notes: Notes {
+            known: vec![in alloc; Known::nothing(); arenas.len()]?,
+            shares: Shares::none(),
+            first: numbering(arenas),
+        },
     };
     let (found, making) = watch_source(alloc, making, source)?;
     Ok((found, making.chart))

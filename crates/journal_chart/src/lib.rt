@@ -5,6 +5,7 @@
 //! market's states alone, and over a history of calls.
 #![tactic(auto)]
 
+mod by_number;
 mod chart;
 mod column;
 mod covered;
@@ -15,6 +16,7 @@ mod law;
 mod line;
 mod lines;
 mod nearby;
+mod notes;
 mod numbering;
 mod picture;
 mod resting;
@@ -22,6 +24,7 @@ mod row;
 mod shares;
 mod sheet;
 mod span;
+mod unkept;
 
 pub use chart::Chart;
 pub use column::Column;

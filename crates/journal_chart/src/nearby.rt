@@ -6,16 +6,18 @@ ghost use Rattle.market_types.specs.declared.command.Cmd.{Cmd};
 ghost use Rattle.market_types.specs.declared.reply.Reply.{Reply};
 ghost use Rattle.market_types.specs.Step.{limits_of};
 ghost use Rattle.market_core.specs.Divided.{IsDivisionOf};
+ghost use Rattle.journal_chart.specs.Unkept.{AreUnkept};
 ghost use Rattle.journal_chart.specs.Numbering.{AreNumbered};
 ghost use Rattle.journal_chart.specs.Resting.{AreLeft};
 ghost use Rattle.journal_chart.specs.Shares.{shared_of};
 ghost use Rattle.journal_chart.specs.Steps.{after_seat, closed_row, each_row, first_row, first_rows, has_few, has_share, is_covered, is_covered_at, is_divided, is_idle, kept_levels, known_rows, near_row, needing_row, own_row, pairwise, requested, retold, seat_row, seat_rows, seated, settled_row, share_of, stands_kept, subject, taken_row};
 
+use crate::by_number::{rows_numbered, seat_row_numbered};
 use crate::covered::{Covered, exactly};
 use crate::entry::subject;
-use crate::numbering::place_of;
 use crate::row::{Known, Row};
 use crate::shares::Shares;
+use crate::unkept::Unkept;
 use market_core::{Division, Market};
 use market_types::{ArenaId, Cmd, Level, LimitView, Reply};
 
@@ -201,7 +203,7 @@ fn settle(
 /// The same in the column of the last moment, of an arena of a level, where the entry is not about it. A row whose column has what the arena is
 /// allotted is left as it is.
 #[inline(never)]
-fn settle_other<const DIVIDED: bool>(
+pub(crate) fn settle_other<const DIVIDED: bool>(
     row: &mut Row,
     known: &mut Known,
     place: usize,
@@ -359,7 +361,7 @@ fn other_row<const DIVIDED: bool>(
 /// before, and what is then known of its arena. A row to which the moment adds nothing is left as it is.
 // Always in its caller: a call for each row would have more words to hand over than most rows take.
 #[inline(always)]
-fn near_row<const DIVIDED: bool>(
+pub(crate) fn near_row<const DIVIDED: bool>(
     row: &mut Row,
     known: &mut Known,
     place: usize,
@@ -426,62 +428,7 @@ fn rows_about<const DIVIDED: bool>(
     }
 }
 
-/// The same where some worker may be active, of rows whose arenas are numbered one after another: no row asks whether the entry is about its
-/// arena.
-#[inline(always)]
-fn rows_numbered(
-    rows: &mut [Row],
-    known: &mut [Known],
-    count: usize,
-    first: u32,
-    place: usize,
-    market: &Market,
-    cmd: &Cmd,
-    reply: &Reply,
-    now: &Shares,
-    about: ArenaId,
-    kept: &[bool; 8],
-)
-    requires found { 0 < now.now.limit }
-    requires each { length known.old ≡ length rows.old }
-    requires about { Some about ≡ subject cmd.now reply.now }
-    requires within { count ≤ length rows.old }
-    requires left { AreLeft count (subject cmd.now reply.now) rows.old }
-    requires numbered { AreNumbered (Some first) rows.old }
-    ensures rows { rows.new ≡ (pairwise (near_row place market.now cmd.now reply.now now.now kept.now) rows.old known.old).0 }
-    ensures known { known.new ≡ (pairwise (near_row place market.now cmd.now reply.now now.now kept.now) rows.old known.old).1 }
-    ensures rest { drop count rows.new ≡ drop count rows.old }
-{
-    let mut division = None;
-    let own = place_of(first, count, about);
-    for index in 0..own {
-        let row = &mut rows[index];
-        let known = &mut known[index];
-        other_row::<true>(row, known, place, market, &mut division, now, kept);
-    }
-    if own == count {
-        return;
-    }
-    near_row::<true>(
-        &mut rows[own],
-        &mut known[own],
-        place,
-        market,
-        &mut division,
-        cmd,
-        reply,
-        now,
-        &Some(about),
-        kept,
-    );
-    for index in own + 1..count {
-        let row = &mut rows[index];
-        let known = &mut known[index];
-        other_row::<true>(row, known, place, market, &mut division, now, kept);
-    }
-}
-
-/// The same of whatever the entry is about.
+/// The same of whatever the entry is about, and whatever levels are kept: all but one, if there is one alone.
 // By cases, so that no row has to ask whether the entry is about any arena, nor whether any worker may be active.
 fn each_row(
     rows: &mut [Row],
@@ -495,22 +442,24 @@ fn each_row(
     now: &Shares,
     about: &Option<ArenaId>,
     kept: &[bool; 8],
+    unkept: Unkept,
 )
     requires each { length known.old ≡ length rows.old }
     requires about { about.now ≡ subject cmd.now reply.now }
     requires within { count ≤ length rows.old }
     requires left { AreLeft count (subject cmd.now reply.now) rows.old }
     requires numbered { AreNumbered first rows.old }
+    requires unkept { AreUnkept kept.now unkept }
     ensures rows { rows.new ≡ (pairwise (near_row place market.now cmd.now reply.now now.now kept.now) rows.old known.old).0 }
     ensures known { known.new ≡ (pairwise (near_row place market.now cmd.now reply.now now.now kept.now) rows.old known.old).1 }
     ensures rest { drop count rows.new ≡ drop count rows.old }
 {
     match about {
-        Some(arena) if now.limit() > 0 => match first {
-            Some(first) => rows_numbered(
-                rows, known, count, first, place, market, cmd, reply, now, *arena, kept,
+        Some(arena) if now.limit() > 0 => match (first, unkept) {
+            (Some(first), Unkept::At(level)) if now.asked(level) > 0 => rows_numbered(
+                rows, known, count, first, place, market, cmd, reply, now, *arena, kept, level,
             ),
-            None => rows_about::<true>(
+            _ => rows_about::<true>(
                 rows,
                 known,
                 count,
@@ -556,9 +505,9 @@ pub(crate) fn near_rows(
     ensures shares { shares.new ≡ shared_of market.now }
     ensures rest { drop count rows.new ≡ drop count rows.old }
 {
-    let kept = shares.renew(market, limits, cmd);
+    let (kept, unkept) = shares.renew(market, limits, cmd);
     each_row(
-        rows, known, count, first, place, market, cmd, reply, shares, about, &kept,
+        rows, known, count, first, place, market, cmd, reply, shares, about, &kept, unkept,
     );
 }
 
@@ -566,7 +515,7 @@ pub(crate) fn near_rows(
 /// moment before, and what is then known of its arena. The row of another arena is left as it is.
 // Always in its callers, as the row of an arena that an entry is about is, whether it is found by its number or looked for.
 #[inline(always)]
-fn seat_row(
+pub(crate) fn seat_row(
     row: &mut Row,
     known: &mut Known,
     place: usize,
@@ -584,47 +533,6 @@ fn seat_row(
         let told = seated(place, more, reply, known, row);
         own_row::<false>(row, known, place, market, &mut None, cmd, reply, now, told);
     }
-}
-
-/// Takes the moment into the column of the row of the arena that the entry is about, and what is then known of it, where one more seat is
-/// placed than before, or not, and the arenas of the rows are numbered one after another. The others are left as they are.
-fn seat_row_numbered(
-    rows: &mut [Row],
-    known: &mut [Known],
-    count: usize,
-    first: u32,
-    place: usize,
-    market: &Market,
-    cmd: &Cmd,
-    reply: &Reply,
-    more: bool,
-    now: &Shares,
-    moved: ArenaId,
-)
-    requires each { length known.old ≡ length rows.old }
-    requires moved { Some moved ≡ subject cmd.now reply.now }
-    requires within { count ≤ length rows.old }
-    requires left { AreLeft count (subject cmd.now reply.now) rows.old }
-    requires numbered { AreNumbered (Some first) rows.old }
-    ensures rows { rows.new ≡ (pairwise (seat_row place market.now cmd.now reply.now more now.now) rows.old known.old).0 }
-    ensures known { known.new ≡ (pairwise (seat_row place market.now cmd.now reply.now more now.now) rows.old known.old).1 }
-    ensures rest { drop count rows.new ≡ drop count rows.old }
-{
-    let own = place_of(first, count, moved);
-    if own == count {
-        return;
-    }
-    seat_row(
-        &mut rows[own],
-        &mut known[own],
-        place,
-        market,
-        cmd,
-        reply,
-        more,
-        now,
-        &Some(moved),
-    );
 }
 
 /// Takes the moment into the columns of all rows, and what is then known of their arenas, where one more seat is placed than before, or

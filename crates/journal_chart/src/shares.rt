@@ -1,10 +1,12 @@
 //! What the levels of a market are given of what they ask for.
 ghost use Rattle.std.specs.Prelude.{◌≡◌, ◌-◌, ◌*◌, ◌≤◌, ◌==◌, ◌&&◌, ◌||◌, nat_lt, slice_index};
 ghost use Rattle.market_types.specs.Step.{limits_of};
+ghost use Rattle.journal_chart.specs.Unkept.{AreUnkept};
 ghost use Rattle.journal_chart.specs.Shares.{no_shares, shared_of};
-ghost use Rattle.journal_chart.specs.Steps.{after_seat, is_joined, keeps_order, kept_levels};
+ghost use Rattle.journal_chart.specs.Steps.{after_seat, is_joined, is_same_part, keeps_order, kept_levels};
 
 use crate::entry::keeps_order;
+use crate::unkept::Unkept;
 use market_core::Market;
 use market_types::{Cmd, Level, LimitView};
 use std::marker::Model;
@@ -48,12 +50,18 @@ fn both_divided(cmd: &Cmd, was: u32, now: u32) -> bool
     keeps_order(cmd) && (was > 0 && now > 0)
 }
 
-/// A level is given what it was, and asks for what it did.
+/// A level shares out what it is given as it did: it is given what it was of what it asked for, or nothing each time, or each time all.
 #[inline(always)]
 fn is_same(was_given: u64, given: u64, was_asked: u64, asked: u64) -> bool
-    ensures { result ≡ ((was_given == given) && (was_asked == asked)) }
+    ensures { result ≡ is_same_part was_given given was_asked asked }
 {
-    was_given == given && was_asked == asked
+    if was_given == given && was_asked == asked {
+        return true;
+    }
+    if given == asked && was_given == was_asked {
+        return true;
+    }
+    given == 0 && was_given == 0
 }
 
 /// A level's arenas are allotted what they were, but for the one that a command is about.
@@ -79,18 +87,27 @@ impl Shares {
         }
     }
 
-    /// Those of a market with these limits, after a command, in place of those before it; and which levels' arenas are allotted what they were.
-    // In place: to make them anew and put them where those before were takes three copies, of words that were just written apart.
-    #[inline]
-    pub(crate) fn renew(&mut self, market: &Market, limits: &LimitView, cmd: &Cmd) -> [bool; 8]
+    /// Those of a market with these limits, after a command, in place of those before it; and which levels' arenas are allotted what they were, and
+    /// whether those of one level alone may not be.
+    // In place: to make them anew and put them where those before were takes three copies, of words that were just written apart. And always in
+    // its callers, so that what it tells stays in registers.
+    #[inline(always)]
+    pub(crate) fn renew(
+        &mut self,
+        market: &Market,
+        limits: &LimitView,
+        cmd: &Cmd,
+    ) -> ([bool; 8], Unkept)
         requires { limits.now ≡ limits_of market.now }
         ensures shares { self.new ≡ shared_of market.now }
-        ensures kept { result ≡ kept_levels cmd.now self.old (shared_of market.now) market.now.levels }
+        ensures kept { result.0 ≡ kept_levels cmd.now self.old (shared_of market.now) market.now.levels }
+        ensures unkept { AreUnkept result.0 result.1 }
     {
         let levels = market.levels() as usize;
         let idle = both_idle(self.effective, limits.effective);
         let divided = both_divided(cmd, self.limit, limits.limit);
-        let mut kept = [false; 8];
+        let mut kept = [true; 8];
+        let (mut count, mut last) = (0, 0);
         let mut left = u64::from(limits.effective);
         // No level above those of the market, whose number most often is small, takes any time.
         for place in 0..levels {
@@ -98,9 +115,14 @@ impl Shares {
             let share = demand.min(left);
             left -= share;
             let same = is_same(self.given[place], share, self.asked[place], demand);
-            kept[place] = is_kept(idle, divided, same);
             self.given[place] = share;
             self.asked[place] = demand;
+            if is_kept(idle, divided, same) {
+                continue;
+            }
+            kept[place] = false;
+            count += 1;
+            last = place;
         }
         for place in levels..self.levels {
             self.given[place] = 0;
@@ -110,7 +132,7 @@ impl Shares {
         self.effective = limits.effective;
         self.placed = market.placed();
         self.levels = levels;
-        kept
+        (kept, Unkept::of(count, last))
     }
 
     /// Those after a command of a seat, and whether one more seat is placed than before.

@@ -7,13 +7,8 @@ use Rattle.journal_chart.specs.declared.row.Known.{Known}
 use Rattle.journal_chart.specs.declared.row.Row.{Row}
 use Rattle.journal_chart.specs.Shares.{Shared}
 use Rattle.journal_chart.specs.Steps.{closed_row, is_covered, near_row, share_of, stands_kept, subject}
+use Rattle.journal_chart.proofs.Numbered.{other-row}
 use Rattle.journal_chart.proofs.nearby.other_row.Goals as goal
-
--- a row that is neither told nor left
-other-row : (place : ℕ) (s : State) (cmd : Cmd) (reply : Reply) (now : Shared) (kept : List Bool) (r : Row) (k : Known) (level : ℕ)
-    → is_just r.arena (subject cmd reply) ≡ false → stands_kept kept r.stands ≡ false → r.stands ≡ Some level → is_covered now k level ≡ false
-    → near_row place s cmd reply now kept r k ≡ closed_row place s cmd reply k r r (Some (share_of s now k r.arena level))
-other-row place s cmd reply now kept r k level other moved at uncovered = rw (other, moved, at, uncovered) refl
 
 pub returns-then-not-is_covered-clause-exact : goal.returns-then-not-is_covered-clause-exact
 returns-then-not-is_covered-clause-exact g c cmd reply other =

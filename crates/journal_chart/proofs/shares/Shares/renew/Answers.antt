@@ -1,33 +1,22 @@
 use Rattle.std.specs.Prelude.{◌==◌, ◌&&◌, ◌||◌, nat_lt, nat_le, slice_index}
 use Rattle.std.proofs.Common.{◌≡◌, ℕ, zero, suc, ◌+◌, ◌-◌, ◌<◌, Bool, true, false, List, get_or, length, set, refl, sym, ap, subst, ◌∙◌, arith, inl, inr}
-use Rattle.std.proofs.lemmas.Bool.{cases_eq, cases_lt, le-leb, lt-leb}
+use Rattle.std.proofs.lemmas.Bool.{cases_eq, cases_lt, le-leb}
+use Rattle.std.proofs.lemmas.Bool.Decides.{nat_tests}
 use Rattle.std.proofs.lemmas.List.{ext_get_or, get_or-set_same, get_or-set_other}
 use Rattle.std.proofs.Math.ListN.{length-set}
 use Rattle.market_types.specs.State.{State}
 use Rattle.market_types.specs.Allotment.{demand, effective_limit_of}
 use Rattle.market_types.specs.declared.command.Cmd.{Cmd}
 use Rattle.market_types.specs.declared.reply.LimitView.{LimitView}
+use Rattle.journal_chart.specs.Unkept.{AreUnkept, unkept_of}
 use Rattle.journal_chart.specs.Shares.{Shared, shared_of}
-use Rattle.journal_chart.specs.Steps.{is_kept, keeps_order, kept_levels}
+use Rattle.journal_chart.specs.Steps.{is_kept, is_same_part, keeps_order, kept_levels}
+use Rattle.journal_chart.proofs.Levels.{AreSoFar, kept-above, kept-at, so-far-all, so-far-kept, so-far-more}
 use Rattle.journal_chart.proofs.Assigning.{Assigning, Cleared, Renewing, asked-all, assigning-all, cleared-none, given-all, renewing-more}
 use Rattle.journal_chart.proofs.shares.Shares.renew.Goals as goal
-use Rattle.journal_chart.proofs.shares.Shares.renew.Goals.{After-loop-place-2}
+use Rattle.journal_chart.proofs.shares.Shares.renew.Goals.{After-is_kept, After-loop-place-2}
 
 -- ---- which levels are kept
-
-kept-at : (cmd : Cmd) (was now : Shared) (levels j : ℕ) → j < 8 → get_or (kept_levels cmd was now levels) j false ≡ is_kept cmd was now levels (j + 1)
-kept-at cmd was now levels zero inside = refl
-kept-at cmd was now levels (suc zero) inside = refl
-kept-at cmd was now levels (suc (suc zero)) inside = refl
-kept-at cmd was now levels (suc (suc (suc zero))) inside = refl
-kept-at cmd was now levels (suc (suc (suc (suc zero)))) inside = refl
-kept-at cmd was now levels (suc (suc (suc (suc (suc zero))))) inside = refl
-kept-at cmd was now levels (suc (suc (suc (suc (suc (suc zero)))))) inside = refl
-kept-at cmd was now levels (suc (suc (suc (suc (suc (suc (suc zero))))))) inside = refl
-kept-at cmd was now levels (suc (suc (suc (suc (suc (suc (suc (suc n)))))))) inside = absurd (omega (arith, inside))
-
-kept-above : (cmd : Cmd) (was now : Shared) (levels level : ℕ) → levels < level → is_kept cmd was now levels level ≡ false
-kept-above cmd was now levels level above = rw (lt-leb level levels above) refl
 
 -- a level that there is, by whether the limits divide workers
 tests : (idle order was now same : Bool) → (idle || ((order && (was && now)) && same)) ≡ (idle || (order && (((was && true) && (now && true)) && same)))
@@ -38,54 +27,109 @@ tests false true true false same = refl
 tests false true true true same = refl
 
 kept-form : (cmd : Cmd) (was now : Shared) (levels j : ℕ) → j < levels → j < 8
-    → (((was.effective == 0) && (now.effective == 0)) || ((keeps_order cmd && (nat_lt 0 was.limit && nat_lt 0 now.limit)) && ((slice_index was.given j == slice_index now.given j) && (slice_index was.asked j == slice_index now.asked j))))
+    → (((was.effective == 0) && (now.effective == 0)) || ((keeps_order cmd && (nat_lt 0 was.limit && nat_lt 0 now.limit)) && is_same_part (slice_index was.given j) (slice_index now.given j) (slice_index was.asked j) (slice_index now.asked j)))
     ≡ is_kept cmd was now levels (j + 1)
 kept-form cmd was now levels j inside few =
     let place : j + 1 - 1 ≡ j = omega arith in
     let low : nat_le 1 (j + 1) ≡ true = le-leb 1 (j + 1) (omega arith) in
     let high : nat_le (j + 1) 8 ≡ true = le-leb (j + 1) 8 (omega (arith, few)) in
-    let there : nat_le (j + 1) levels ≡ true = le-leb (j + 1) levels (omega (arith, inside)) in
-    rw (there, low, high, place) (tests ((was.effective == 0) && (now.effective == 0)) (keeps_order cmd) (nat_lt 0 was.limit) (nat_lt 0 now.limit) ((slice_index was.given j == slice_index now.given j) && (slice_index was.asked j == slice_index now.asked j)))
+    let there : nat_lt levels (j + 1) ≡ false = grind (arith, nat_tests) in
+    rw (there, low, high, place) (tests ((was.effective == 0) && (now.effective == 0)) (keeps_order cmd) (nat_lt 0 was.limit) (nat_lt 0 now.limit) (is_same_part (slice_index was.given j) (slice_index now.given j) (slice_index was.asked j) (slice_index now.asked j)))
 
 -- ---- a level more
 
+module _ (c : After-is_kept) where
+  abbrev place : ℕ
+  place = c.loop-place.place
+
+  abbrev share : ℕ
+  share = c.min-share.result
+
+  abbrev wanted : ℕ
+  wanted = c.demand-demand.result
+
+  abbrev new_given : List ℕ
+  new_given = set c.loop-place.self-inside.given place share
+
+  abbrev new_asked : List ℕ
+  new_asked = set c.loop-place.self-inside.asked place wanted
+
+  few : place < 8
+  few = omega (arith, c.loop-place-test.true, c.levels-levels.ensures.high)
+
+  -- whether a level is kept, by what it is then given of what it asks for
+  abbrev test : ℕ → List ℕ → List ℕ → Bool
+  test j given asked = c.both_idle-idle.result || (c.both_divided-divided.result && is_same_part (slice_index c.self.inside.given j) (slice_index given j) (slice_index c.self.inside.asked j) (slice_index asked j))
+
+  renewing : Renewing c.args.market.now (effective_limit_of c.args.market.now) c.self.inside.given c.self.inside.asked new_given new_asked (c.loop-place.left - share) (place + 1)
+  renewing =
+      let s : State = c.args.market.now in
+      let next : place + 1 ≡ 1 + place = omega arith in
+      renewing-more s (effective_limit_of s) c.self.inside.given c.self.inside.asked c.loop-place.self-inside.given c.loop-place.self-inside.asked c.loop-place.left place wanted share
+      c.loop-place.invariant.renewing few (omega (arith, c.loop-place-test.true, c.levels-levels.ensures.exact))
+      (c.demand-demand.ensures.exact ∙ ap (demand s) (c.from_index.ensures ∙ next)) c.demand-demand.ensures.small c.min-share.ensures
+
+  held : c.is_kept.result ≡ test place new_given new_asked
+  held =
+      let h = c.loop-place.invariant in
+      let given_in : place < length c.loop-place.self-inside.given = omega (arith, few, h.renewing.size_given) in
+      let asked_in : place < length c.loop-place.self-inside.asked = omega (arith, few, h.renewing.size_asked) in
+      let given_here : slice_index new_given place ≡ share = get_or-set_same c.loop-place.self-inside.given place share 0 given_in in
+      let asked_here : slice_index new_asked place ≡ wanted = get_or-set_same c.loop-place.self-inside.asked place wanted 0 asked_in in
+      let was_given : slice_index c.loop-place.self-inside.given place ≡ slice_index c.self.inside.given place = h.renewing.rest_given place (omega arith) in
+      let was_asked : slice_index c.loop-place.self-inside.asked place ≡ slice_index c.self.inside.asked place = h.renewing.rest_asked place (omega arith) in
+      let same : c.is_same-same.result ≡ is_same_part (slice_index c.self.inside.given place) (slice_index new_given place) (slice_index c.self.inside.asked place) (slice_index new_asked place) =
+      c.is_same-same.ensures ∙ (λ i. is_same_part (was_given i) (sym given_here i) (was_asked i) (sym asked_here i)) in
+      c.is_kept.ensures ∙ ap (λ b. c.both_idle-idle.result || (c.both_divided-divided.result && b)) same
+
+  -- so for each level so far
+  told_so_far : (kept : List Bool) → get_or kept place false ≡ c.is_kept.result → ((j : ℕ) → j < place → get_or kept j false ≡ get_or c.loop-place.kept j false)
+      → (j : ℕ) → j < place + 1 → get_or kept j false ≡ test j new_given new_asked
+  told_so_far kept here before j less = elim (cases_eq j place) [
+    | inl at ↦ ap (λ k. get_or kept k false) at ∙ here ∙ held ∙ ap (λ k. test k new_given new_asked) (sym at)
+    | inr other ↦
+        let first : j < place = omega (arith, less, other) in
+        before j first
+        ∙ c.loop-place.invariant.told j first
+        ∙ (λ i. c.both_idle-idle.result || (c.both_divided-divided.result && is_same_part (slice_index c.self.inside.given j) (sym (get_or-set_other c.loop-place.self-inside.given place j share 0 other) i) (slice_index c.self.inside.asked j) (sym (get_or-set_other c.loop-place.self-inside.asked place j wanted 0 other) i)))
+  ]
+
+pub loop-place-preserved-then-is_kept : goal.loop-place-preserved-then-is_kept
+loop-place-preserved-then-is_kept c =
+    let here = (goal.at.loop-place-preserved-then-is_kept c).After-is_kept in
+    let h = c.loop-place.invariant in
+    let stands : get_or c.loop-place.kept c.loop-place.place false ≡ true = h.rest c.loop-place.place (omega arith) (few here) in
+    record {
+      renewing = renewing here;
+      old = h.old;
+      size = h.size;
+      told = told_so_far here c.loop-place.kept (stands ∙ sym c.if-is_kept.true) (λ j less. refl);
+      rest = λ j past low. h.rest j (omega (arith, past)) low;
+      few = omega (arith, h.few);
+      last = h.last;
+      open_ = so-far-kept c.loop-place.kept c.loop-place.place (unkept_of c.loop-place.count c.loop-place.last) stands h.open_;
+    }
+
 pub loop-place-preserved : goal.loop-place-preserved
 loop-place-preserved c =
-    let s : State = c.args.market.now in
-    let place : ℕ = c.loop-place.place in
-    let share : ℕ = c.min-share.result in
-    let wanted : ℕ = c.demand-demand.result in
+    let here = (goal.at.loop-place-preserved c).After-is_kept in
     let h = c.loop-place.invariant in
-    let next : place + 1 ≡ 1 + place = omega arith in
-    let few : place < 8 = omega (arith, c.loop-place-test.true, c.levels-levels.ensures.high) in
-    let inside : place < length c.loop-place.kept = omega (arith, few, h.size) in
-    let given_in : place < length c.loop-place.self-inside.given = omega (arith, few, h.renewing.size_given) in
-    let asked_in : place < length c.loop-place.self-inside.asked = omega (arith, few, h.renewing.size_asked) in
-    let test : ℕ → List ℕ → List ℕ → Bool =
-    λ j given asked. c.both_idle-idle.result || (c.both_divided-divided.result && ((slice_index c.self.inside.given j == slice_index given j) && (slice_index c.self.inside.asked j == slice_index asked j))) in
-    let new_given : List ℕ = set c.loop-place.self-inside.given place share in
-    let new_asked : List ℕ = set c.loop-place.self-inside.asked place wanted in
-    let given_here : slice_index new_given place ≡ share = get_or-set_same c.loop-place.self-inside.given place share 0 given_in in
-    let asked_here : slice_index new_asked place ≡ wanted = get_or-set_same c.loop-place.self-inside.asked place wanted 0 asked_in in
-    let was_given : slice_index c.loop-place.self-inside.given place ≡ slice_index c.self.inside.given place = h.renewing.rest_given place (omega arith) in
-    let was_asked : slice_index c.loop-place.self-inside.asked place ≡ slice_index c.self.inside.asked place = h.renewing.rest_asked place (omega arith) in
-    let same : c.is_same-same.result ≡ ((slice_index c.self.inside.given place == slice_index new_given place) && (slice_index c.self.inside.asked place == slice_index new_asked place)) =
-    c.is_same-same.ensures ∙ (λ i. (was_given i == sym given_here i) && (was_asked i == sym asked_here i)) in
+    let place : ℕ = c.loop-place.place in
+    let new_kept : List Bool = set c.loop-place.kept place false in
+    let more : suc c.loop-place.count ≡ c.loop-place.count + 1 = omega arith in
+    let now : get_or new_kept place false ≡ false = get_or-set_same c.loop-place.kept place false false (omega (arith, few here, h.size)) in
     record {
-      renewing = renewing-more s (effective_limit_of s) c.self.inside.given c.self.inside.asked c.loop-place.self-inside.given c.loop-place.self-inside.asked c.loop-place.left place wanted share h.renewing
-          few (omega (arith, c.loop-place-test.true, c.levels-levels.ensures.exact))
-          (c.demand-demand.ensures.exact ∙ ap (demand s) (c.from_index.ensures ∙ next)) c.demand-demand.ensures.small c.min-share.ensures;
+      renewing = renewing here;
       old = h.old;
-      size = length-set c.loop-place.kept place c.is_kept.result ∙ h.size;
-      told = λ j less. elim (cases_eq j place) [
-        | inl at ↦
-            ap (λ k. get_or (set c.loop-place.kept place c.is_kept.result) k false) at ∙ get_or-set_same c.loop-place.kept place c.is_kept.result false inside
-            ∙ c.is_kept.ensures ∙ ap (λ b. c.both_idle-idle.result || (c.both_divided-divided.result && b)) same ∙ ap (λ k. test k new_given new_asked) (sym at)
-        | inr other ↦
-            get_or-set_other c.loop-place.kept place j c.is_kept.result false other ∙ h.told j (omega (arith, less, other))
-            ∙ (λ i. c.both_idle-idle.result || (c.both_divided-divided.result && ((slice_index c.self.inside.given j == sym (get_or-set_other c.loop-place.self-inside.given place j share 0 other) i) && (slice_index c.self.inside.asked j == sym (get_or-set_other c.loop-place.self-inside.asked place j wanted 0 other) i))))
-      ];
-      rest = λ j past. get_or-set_other c.loop-place.kept place j c.is_kept.result false (λ e. omega (arith, e, past)) ∙ h.rest j (omega (arith, past));
+      size = length-set c.loop-place.kept place false ∙ h.size;
+      told = told_so_far here new_kept (now ∙ sym c.if-is_kept.false) (λ j less. get_or-set_other c.loop-place.kept place j false false (λ e. omega (arith, e, less)));
+      rest = λ j past low. get_or-set_other c.loop-place.kept place j false false (λ e. omega (arith, e, past)) ∙ h.rest j (omega (arith, past)) low;
+      few = omega (arith, h.few);
+      last = few here;
+      open_ =
+          subst (λ n. AreSoFar new_kept (place + 1) (unkept_of n place)) more
+          (so-far-more c.loop-place.kept new_kept place c.loop-place.count c.loop-place.last
+          (λ j less. get_or-set_other c.loop-place.kept place j false false (λ e. omega (arith, e, less))) now h.open_);
     }
 
 pub loop-place-2-init : goal.loop-place-2-init
@@ -146,7 +190,7 @@ module _ (c : After-loop-place-2) where
       let given : slice_index c.loop-place.self-inside.given j ≡ slice_index now.given j = sym (c.loop-place-2.invariant.given.low j (omega (arith, inside, levels))) ∙ ap (λ xs. slice_index xs j) given_all in
       let asked : slice_index c.loop-place.self-inside.asked j ≡ slice_index now.asked j = sym (c.loop-place-2.invariant.asked.low j (omega (arith, inside, levels))) ∙ ap (λ xs. slice_index xs j) asked_all in
       c.loop-place.invariant.told j (omega (arith, inside, c.loop-place-test.false, levels))
-      ∙ (λ i. idle i || (divided i && ((was_given i == given i) && (was_asked i == asked i))))
+      ∙ (λ i. idle i || (divided i && is_same_part (was_given i) (given i) (was_asked i) (asked i)))
       ∙ kept-form cmd was now s.levels j inside few
 
 pub invariant_of-self : goal.invariant_of-self
@@ -178,6 +222,12 @@ returns-clause-kept c =
     elim (cases_lt j n) [
       | inl low ↦ told here j low few ∙ sym (kept-at cmd was now n j few)
       | inr above ↦
-          c.loop-place.invariant.rest j (omega (arith, above, c.loop-place.auto.place-end, levels here))
+          c.loop-place.invariant.rest j (omega (arith, above, c.loop-place.auto.place-end, levels here)) few
           ∙ sym (kept-at cmd was now n j few ∙ kept-above cmd was now n (j + 1) (omega (arith, above)))
     ])
+
+pub returns-clause-unkept : goal.returns-clause-unkept
+returns-clause-unkept c =
+    let here = (goal.at.returns-clause-unkept c).After-loop-place-2 in
+    subst (AreUnkept c.loop-place.kept) (sym c.of.ensures)
+    (so-far-all c.loop-place.kept c.loop-place.place (unkept_of c.loop-place.count c.loop-place.last) c.loop-place.invariant.rest c.loop-place.invariant.open_)

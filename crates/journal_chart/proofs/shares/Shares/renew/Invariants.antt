@@ -1,7 +1,10 @@
-use Rattle.std.specs.Prelude.{◌==◌, ◌&&◌, ◌||◌, slice_index}
-use Rattle.std.proofs.Common.{◌≡◌, ◌<◌, ◌≤◌, ℕ, false, get_or, length}
+use Rattle.std.specs.Prelude.{◌&&◌, ◌||◌, slice_index}
+use Rattle.std.proofs.Common.{◌≡◌, ◌<◌, ◌≤◌, ℕ, false, get_or, length, true}
 use Rattle.market_types.specs.Allotment.{effective_limit_of}
+use Rattle.journal_chart.specs.Unkept.{unkept_of}
+use Rattle.journal_chart.specs.Steps.{is_same_part}
 use Rattle.journal_chart.proofs.Assigning.{Cleared, Renewing}
+use Rattle.journal_chart.proofs.Levels.{AreSoFar}
 use Rattle.journal_chart.proofs.shares.Shares.renew.Given as goal
 
 -- the levels before a place are renewed, and it is told of them whether they are given what they were
@@ -11,8 +14,11 @@ invariant-loop-place l = record {
   old : l.self-inside.levels ≡ l.initial.self-inside.levels;
   size : length l.kept ≡ 8;
   told : (j : ℕ) → j < l.place → get_or l.kept j false
-      ≡ (l.idle || (l.divided && ((slice_index l.initial.self-inside.given j == slice_index l.self-inside.given j) && (slice_index l.initial.self-inside.asked j == slice_index l.self-inside.asked j))));
-  rest : (j : ℕ) → l.place ≤ j → get_or l.kept j false ≡ false;
+      ≡ (l.idle || (l.divided && is_same_part (slice_index l.initial.self-inside.given j) (slice_index l.self-inside.given j) (slice_index l.initial.self-inside.asked j) (slice_index l.self-inside.asked j)));
+  rest : (j : ℕ) → l.place ≤ j → j < 8 → get_or l.kept j false ≡ true;
+  few : l.count ≤ l.place;
+  last : l.last < 8;
+  open_ : AreSoFar l.kept l.place (unkept_of l.count l.last);
 }
 
 -- of the levels that the market lacks those before a place have nothing

@@ -4,7 +4,7 @@ use Rattle.journal_chart.specs.declared.row.Row.{Row}
 use Rattle.journal_chart.specs.Steps.{nothing_known, seat_row}
 use Rattle.journal_chart.proofs.Numbered.{seat-others}
 use Rattle.journal_chart.proofs.Pairs.{get-any, pairwise-one, still-all}
-use Rattle.journal_chart.proofs.nearby.seat_row_numbered.Goals as goal
+use Rattle.journal_chart.proofs.by_number.seat_row_numbered.Goals as goal
 
 pub returns-then-own-count-clause-rows : goal.returns-then-own-count-clause-rows
 returns-then-own-count-clause-rows c =

@@ -1,0 +1,152 @@
+//! The rows of a chart whose arenas are numbered one after another, at a moment that goes into the column of the last: the row of the arena that an
+//! entry is about is found by its number, so that no other asks whether it is that one.
+ghost use Rattle.std.specs.Prelude.{◌≡◌, ◌-◌, ◌*◌, ◌<◌, ◌≤◌, Bool, List, Some, drop, false, length, slice_index};
+ghost use Rattle.market_types.specs.Allotment.{is_just};
+ghost use Rattle.market_types.specs.declared.command.Cmd.{Cmd};
+ghost use Rattle.market_types.specs.declared.reply.Reply.{Reply};
+ghost use Rattle.journal_chart.specs.Unkept.{IsAlone};
+ghost use Rattle.journal_chart.specs.Numbering.{AreNumbered};
+ghost use Rattle.journal_chart.specs.Resting.{AreLeft};
+ghost use Rattle.journal_chart.specs.Steps.{near_row, pairwise, seat_row, subject};
+
+use crate::nearby::{near_row, seat_row, settle_other};
+use crate::numbering::place_of;
+use crate::row::{Known, Row};
+use crate::shares::Shares;
+use market_core::Market;
+use market_types::{ArenaId, Cmd, Level, Reply};
+
+/// Takes the moment after an entry into the column of the last moment, of the row of another arena than the one that the entry is about, and what is
+/// then known of its arena, where this level alone is not kept, some worker may be active, and this is what the level is given of what it asks
+/// for. A row to which the moment adds nothing is left as it is.
+#[inline(always)]
+fn level_row(
+    row: &mut Row,
+    known: &mut Known,
+    place: usize,
+    market: &Market,
+    now: &Shares,
+    level: Level,
+    given: u64,
+    asked: u64,
+)
+    requires found { 0 < now.now.limit }
+    requires some { 0 < asked }
+    requires given { given ≡ slice_index now.now.given (level - 1) }
+    requires asked { asked ≡ slice_index now.now.asked (level - 1) }
+    requires within { given ≤ 1024 * 65535 }
+    requires small { asked ≤ 1024 * 65535 }
+    ensures { (cmd : Cmd) (reply : Reply) (kept : List Bool) → IsAlone kept level → is_just row.old.arena (subject cmd reply) ≡ false → (row.new, known.new) ≡ near_row place market.now cmd reply now.now kept row.old known.old }
+{
+    let Some(stands) = row.stands else {
+        return;
+    };
+    // By their indices, which are below 8.
+    if stands.index() != level.index() {
+        return;
+    }
+    if !known.covered.covers_some(known.request, given, asked) {
+        settle_other::<true>(row, known, place, market, &mut None, now, level);
+    }
+}
+
+/// Takes the moment after an entry about this arena into the columns of all rows, and what is then known of their arenas, where some worker may
+/// be active, and this level alone, which asks for some worker, is not kept. No row asks whether the entry is about its arena, nor what its level
+/// is given. The rows behind the first `count` are left as they are.
+#[inline(always)]
+pub(crate) fn rows_numbered(
+    rows: &mut [Row],
+    known: &mut [Known],
+    count: usize,
+    first: u32,
+    place: usize,
+    market: &Market,
+    cmd: &Cmd,
+    reply: &Reply,
+    now: &Shares,
+    about: ArenaId,
+    kept: &[bool; 8],
+    level: Level,
+)
+    requires found { 0 < now.now.limit }
+    requires each { length known.old ≡ length rows.old }
+    requires about { Some about ≡ subject cmd.now reply.now }
+    requires within { count ≤ length rows.old }
+    requires left { AreLeft count (subject cmd.now reply.now) rows.old }
+    requires numbered { AreNumbered (Some first) rows.old }
+    requires alone { IsAlone kept.now level }
+    requires some { 0 < slice_index now.now.asked (level - 1) }
+    ensures rows { rows.new ≡ (pairwise (near_row place market.now cmd.now reply.now now.now kept.now) rows.old known.old).0 }
+    ensures known { known.new ≡ (pairwise (near_row place market.now cmd.now reply.now now.now kept.now) rows.old known.old).1 }
+    ensures rest { drop count rows.new ≡ drop count rows.old }
+{
+    let given = now.given(level);
+    let asked = now.asked(level);
+    let own = place_of(first, count, about);
+    for index in 0..own {
+        let row = &mut rows[index];
+        let known = &mut known[index];
+        level_row(row, known, place, market, now, level, given, asked);
+    }
+    if own == count {
+        return;
+    }
+    near_row::<true>(
+        &mut rows[own],
+        &mut known[own],
+        place,
+        market,
+        &mut None,
+        cmd,
+        reply,
+        now,
+        &Some(about),
+        kept,
+    );
+    for index in own + 1..count {
+        let row = &mut rows[index];
+        let known = &mut known[index];
+        level_row(row, known, place, market, now, level, given, asked);
+    }
+}
+
+/// Takes the moment into the column of the row of the arena that the entry is about, and what is then known of it, where one more seat is
+/// placed than before, or not. The others are left as they are.
+pub(crate) fn seat_row_numbered(
+    rows: &mut [Row],
+    known: &mut [Known],
+    count: usize,
+    first: u32,
+    place: usize,
+    market: &Market,
+    cmd: &Cmd,
+    reply: &Reply,
+    more: bool,
+    now: &Shares,
+    moved: ArenaId,
+)
+    requires each { length known.old ≡ length rows.old }
+    requires moved { Some moved ≡ subject cmd.now reply.now }
+    requires within { count ≤ length rows.old }
+    requires left { AreLeft count (subject cmd.now reply.now) rows.old }
+    requires numbered { AreNumbered (Some first) rows.old }
+    ensures rows { rows.new ≡ (pairwise (seat_row place market.now cmd.now reply.now more now.now) rows.old known.old).0 }
+    ensures known { known.new ≡ (pairwise (seat_row place market.now cmd.now reply.now more now.now) rows.old known.old).1 }
+    ensures rest { drop count rows.new ≡ drop count rows.old }
+{
+    let own = place_of(first, count, moved);
+    if own == count {
+        return;
+    }
+    seat_row(
+        &mut rows[own],
+        &mut known[own],
+        place,
+        market,
+        cmd,
+        reply,
+        more,
+        now,
+        &Some(moved),
+    );
+}
