@@ -32,27 +32,27 @@ closed-arena place s cmd reply k r other None is = refl
 closed-arena place s cmd reply k r other (Some allot) is =
     kept-arena (has_share k allot) (other, k) (told_row place s cmd reply k r (Some allot)) r.arena is refl
 
-own-arena : (place : ℕ) (s : State) (cmd : Cmd) (reply : Reply) (now : Shared) (r : Row) (o : Option Known) → (own_row place s cmd reply now r o).0.arena ≡ r.arena
-own-arena place s cmd reply now r None = refl
-own-arena place s cmd reply now r (Some k) =
+own-arena : (place : ℕ) (s : State) (cmd : Cmd) (reply : Reply) (now : Shared) (was : Known) (r : Row) (o : Option Known) → (own_row place s cmd reply now was r o).0.arena ≡ r.arena
+own-arena place s cmd reply now was r None = refl
+own-arena place s cmd reply now was r (Some k) =
     let share : Option ℕ = option_map (share_of s now k r.arena) r.stands in
-    kept-arena (is_covered_at now k r.stands) (needing_row place k r, k) (closed_row place s cmd reply k r (needing_row place k r) share) r.arena refl
-    (closed-arena place s cmd reply k r (needing_row place k r) share refl)
+    kept-arena (is_covered_at now k r.stands) (needing_row place was k r, k) (closed_row place s cmd reply k r (needing_row place was k r) share) r.arena refl
+    (closed-arena place s cmd reply k r (needing_row place was k r) share refl)
 
 near-arena : (place : ℕ) (s : State) (cmd : Cmd) (reply : Reply) (now : Shared) (kept : List Bool) (r : Row) (k : Known) → (near_row place s cmd reply now kept r k).0.arena ≡ r.arena
 near-arena place s cmd reply now kept r k =
     let share : Option ℕ = option_map (share_of s now k r.arena) r.stands in
     let closed : Row × Known = closed_row place s cmd reply k r r share in
     let open_ : Row × Known = cond (is_covered_at now k r.stands) (r, k) closed in
-    kept-arena (is_just r.arena (subject cmd reply)) (own_row place s cmd reply now r (retold cmd reply k)) (cond (stands_kept kept r.stands) (r, k) open_) r.arena
-    (own-arena place s cmd reply now r (retold cmd reply k))
+    kept-arena (is_just r.arena (subject cmd reply)) (own_row place s cmd reply now k r (retold cmd reply k)) (cond (stands_kept kept r.stands) (r, k) open_) r.arena
+    (own-arena place s cmd reply now k r (retold cmd reply k))
     (kept-arena (stands_kept kept r.stands) (r, k) open_ r.arena refl
     (kept-arena (is_covered_at now k r.stands) (r, k) closed r.arena refl (closed-arena place s cmd reply k r r share refl)))
 
 seat-arena : (place : ℕ) (s : State) (cmd : Cmd) (reply : Reply) (more : Bool) (now : Shared) (r : Row) (k : Known) → (seat_row place s cmd reply more now r k).0.arena ≡ r.arena
 seat-arena place s cmd reply more now r k =
-    kept-arena (is_just r.arena (subject cmd reply)) (own_row place s cmd reply now r (seated place more reply k r)) (r, k) r.arena
-    (own-arena place s cmd reply now r (seated place more reply k r)) refl
+    kept-arena (is_just r.arena (subject cmd reply)) (own_row place s cmd reply now k r (seated place more reply k r)) (r, k) r.arena
+    (own-arena place s cmd reply now k r (seated place more reply k r)) refl
 
 first-arena : (place : ℕ) (s : State) (cmd : Cmd) (reply : Reply) (now : Shared) (r : Row) (k : Known) → (first_row place s cmd reply now r k).0.arena ≡ r.arena
 first-arena place s cmd reply now r k =

@@ -23,7 +23,7 @@ use Rattle.journal_chart.specs.Covering.{covered, covers, exactly, least_covered
 use Rattle.journal_chart.specs.Lines.{added, at}
 use Rattle.journal_chart.specs.Numbers.{level_at, line_of, row_of, shown, view_at}
 use Rattle.journal_chart.specs.Shares.{Shared, shared_of}
-use Rattle.journal_chart.specs.Steps.{after_seat, has_few, is_covered, is_covered_at, is_divided, is_idle, is_joined, is_same_part, is_same_share, closed_row, has_share, is_kept, keeps_order, kept_levels, known_in, known_of, limited, moves_seat, near_row, needing_row, own_row, retold, seat_row, seated, seen_row, share_of, shared_row, stands_after, stands_kept, subject}
+use Rattle.journal_chart.specs.Steps.{after_seat, has_few, is_covered, is_covered_at, is_divided, is_idle, is_joined, is_same_part, is_same_share, changed, closed_row, has_share, is_kept, keeps_order, kept_levels, known_in, known_of, moves_seat, near_row, needing_row, own_row, retold, seat_row, seated, seen_row, share_of, shared_row, stands_after, stands_kept, subject}
 use Rattle.journal_chart.proofs.Bounds.{IsShare, Whole, allotment-level, at-level, both, covered-share, exact-share, same-carried, share-of-all, share-of-nothing}
 use Rattle.journal_chart.proofs.Charts.{line-if, readied-row}
 use Rattle.journal_chart.proofs.Kept.{Fine, Stands, Steady, apart-stands, found-number, steady-step}
@@ -300,7 +300,7 @@ module _ (most : ℕ) (before : List State) (s t : State) (some : 0 < most) (on 
       ∙ first
 
   -- it adds nothing where it is the same
-  pub limited-next : (number : State → ℕ) → limited place (number s) (number t) (line_of most (λ u. Some (number u)) moments) ≡ line_of most (λ u. Some (number u)) (moments ++ t ∷ [])
+  pub limited-next : (number : State → ℕ) → changed place (number s) (number t) (line_of most (λ u. Some (number u)) moments) ≡ line_of most (λ u. Some (number u)) (moments ++ t ∷ [])
   limited-next number = go (eqb (number s) (number t)) refl
     where
       go : (b : Bool) → eqb (number s) (number t) ≡ b
@@ -321,6 +321,14 @@ module _ (most : ℕ) (before : List State) (s t : State) (some : 0 < most) (on 
   -- the number is known
   line-told : (number : State → Option ℕ) (v : ℕ) → number t ≡ Some v → added place (Some v) (line_of most number moments) ≡ line_of most number (moments ++ t ∷ [])
   line-told number v is = ap (λ o. added place o (line_of most number moments)) (sym is) ∙ line-next number
+
+  -- it was known, and adds nothing where it did not change
+  line-changed : (number : State → Option ℕ) (m n : ℕ) → number s ≡ Some m → number t ≡ Some n → changed place m n (line_of most number moments) ≡ line_of most number (moments ++ t ∷ [])
+  line-changed number m n before_ after = go (eqb m n) refl
+    where
+      go : (b : Bool) → eqb m n ≡ b → cond b (line_of most number moments) (added place (Some n) (line_of most number moments)) ≡ line_of most number (moments ++ t ∷ [])
+      go true same = let equal : m ≡ n = grind (arith, nat_tests) in sym (line-same number (after ∙ ap (λ k. Some k) (sym equal) ∙ sym before_))
+      go false other = line-told number n after
 
   -- ---- a row
 
@@ -592,14 +600,22 @@ module _ (most : ℕ) (before : List State) (s t : State) (some : 0 < most) (on 
 
     -- ---- the arena that the entry is about
 
+    -- what was known of a living arena is what was shown of it
+    asked-before : (number : ArenaView → ℕ) (known : Known → ℕ) (x : Arena) → arena_at a s.arenas ≡ Some x
+        → known (known_of place (Some (view_of s x)) (row a)) ≡ number (view_of s x) → shown number a s ≡ Some (known was)
+    asked-before number known x is same =
+        ap (λ o. option_map number (option_map (view_of s) o)) is
+        ∙ ap (λ n. Some n) (sym same ∙ sym (ap (λ o. known (known_of place (option_map (view_of s) o) (row a))) is))
+
     -- its request and its workers are told, and the column has all that it may be allotted
-    needing : (k : Known) (y : Arena) → Tells k → arena_at a t.arenas ≡ Some y → k ≡ known_in place k.request k.active (row a) → SameLines a → (needing_row place k (row a), k) ≡ due a
-    needing k y h found known lines =
+    needing : (k : Known) (x y : Arena) → Tells k → arena_at a s.arenas ≡ Some x → arena_at a t.arenas ≡ Some y → k ≡ known_in place k.request k.active (row a) → SameLines a
+        → (needing_row place was k (row a), k) ≡ due a
+    needing k x y h is found known lines =
         let n = h.tells y found in
         let levels = sym (line-same (level_at a) h.level) in
-        let request = line-told (shown (λ (w : ArenaView). w.request) a) k.request (shown-of (λ (w : ArenaView). w.request) a y found ∙ ap (λ m. Some m) n.0) in
-        let active_ = line-told (shown (λ (w : ArenaView). w.active) a) k.active (shown-of (λ (w : ArenaView). w.active) a y found ∙ ap (λ m. Some m) n.1) in
-        let same : needing_row place k (row a) ≡ row' a =
+        let request = line-changed (shown (λ (w : ArenaView). w.request) a) was.request k.request (asked-before (λ (w : ArenaView). w.request) (λ (l : Known). l.request) x is refl) (shown-of (λ (w : ArenaView). w.request) a y found ∙ ap (λ m. Some m) n.0) in
+        let active_ = line-changed (shown (λ (w : ArenaView). w.active) a) was.active k.active (asked-before (λ (w : ArenaView). w.active) (λ (l : Known). l.active) x is refl) (shown-of (λ (w : ArenaView). w.active) a y found ∙ ap (λ m. Some m) n.1) in
+        let same : needing_row place was k (row a) ≡ row' a =
         λ i. record {
           arena = a;
           stands = sym h.level i;
@@ -622,14 +638,14 @@ module _ (most : ℕ) (before : List State) (s t : State) (some : 0 < most) (on 
 
     -- what is told of it is so
     own : (o : Option Known) → ((x : Arena) (k : Known) → arena_at a s.arenas ≡ Some x → o ≡ Some k → Retold t a x.level place (row a) k)
-        → own_row place t cmd reply (shared_of t) (row a) o ≡ due a
+        → own_row place t cmd reply (shared_of t) was (row a) o ≡ due a
     own None told = seen
     own (Some k) told = at_arena (arena_at a s.arenas) refl
       where
         -- the arena lived
         living : (x : Arena) → arena_at a s.arenas ≡ Some x → Retold t a x.level place (row a) k
-            → cond (is_covered (shared_of t) k x.level) (needing_row place k (row a), k)
-            (closed_row place t cmd reply k (row a) (needing_row place k (row a)) (option_map (share_of t (shared_of t) k a) (level_at a s)))
+            → cond (is_covered (shared_of t) k x.level) (needing_row place was k (row a), k)
+            (closed_row place t cmd reply k (row a) (needing_row place was k (row a)) (option_map (share_of t (shared_of t) k a) (level_at a s)))
             ≡ due a
         living x is r =
             let level : level_at a t ≡ level_at a s =
@@ -647,19 +663,19 @@ module _ (most : ℕ) (before : List State) (s t : State) (some : 0 < most) (on 
               | inl cover ↦
                   let cover' : is_covered (shared_of t) k r.arena.level ≡ true = ap (is_covered (shared_of t) k) r.stands ∙ cover in
                   let lines = cover-lines whole a r.arena k fine' r.found r.request (ap (active t) number ∙ r.active_is) r.known cover' in
-                  rw cover (needing k r.arena tells r.found r.known lines)
-              | inr other ↦ rw other (closed k (needing_row place k (row a)) tells r.known (λ y found lines. needing k y tells found r.known lines))
+                  rw cover (needing k x r.arena tells is r.found r.known lines)
+              | inr other ↦ rw other (closed k (needing_row place was k (row a)) tells r.known (λ y found lines. needing k x y tells is found r.known lines))
             ]
 
-        at_arena : (o : Option Arena) → arena_at a s.arenas ≡ o → own_row place t cmd reply (shared_of t) (row a) (Some k) ≡ due a
+        at_arena : (o : Option Arena) → arena_at a s.arenas ≡ o → own_row place t cmd reply (shared_of t) was (row a) (Some k) ≡ due a
         at_arena None none =
             let nowhere : level_at a s ≡ None = ap (λ o. option_map (λ (b : Arena). b.level) o) none in
-            (λ i. cond (is_covered_at (shared_of t) k (nowhere i)) (needing_row place k (row a), k)
-            (closed_row place t cmd reply k (row a) (needing_row place k (row a)) (option_map (share_of t (shared_of t) k a) (nowhere i))))
+            (λ i. cond (is_covered_at (shared_of t) k (nowhere i)) (needing_row place was k (row a), k)
+            (closed_row place t cmd reply k (row a) (needing_row place was k (row a)) (option_map (share_of t (shared_of t) k a) (nowhere i))))
             ∙ seen
         at_arena (Some x) is =
-            ap (λ o. cond (is_covered_at (shared_of t) k o) (needing_row place k (row a), k)
-            (closed_row place t cmd reply k (row a) (needing_row place k (row a)) (option_map (share_of t (shared_of t) k a) (level_at a s))))
+            ap (λ o. cond (is_covered_at (shared_of t) k o) (needing_row place was k (row a), k)
+            (closed_row place t cmd reply k (row a) (needing_row place was k (row a)) (option_map (share_of t (shared_of t) k a) (level_at a s))))
             (ap (λ o. option_map (λ (b : Arena). b.level) o) is)
             ∙ living x is (told x k is refl)
 
@@ -669,7 +685,7 @@ module _ (most : ℕ) (before : List State) (s t : State) (some : 0 < most) (on 
         ap (λ o. known_of place (option_map (view_of s) o) (row a)) is
         ∙ ap (λ n. known_in place (request_of x.claim) (active s n) (row a)) (found-number a s.arenas x is)
 
-    own-near : is_just a (subject cmd reply) ≡ true → own_row place t cmd reply (shared_of t) (row a) (retold cmd reply was) ≡ due a
+    own-near : is_just a (subject cmd reply) ≡ true → own_row place t cmd reply (shared_of t) was (row a) (retold cmd reply was) ≡ due a
     own-near about =
         own (retold cmd reply was)
         (λ x k is tells. told-step s a place (row a) x is t seat cmd reply k answered about (ap (retold cmd reply) (sym (was-known x is)) ∙ tells))
@@ -677,7 +693,7 @@ module _ (most : ℕ) (before : List State) (s t : State) (some : 0 < most) (on 
     abbrev more : Bool
     more = is_joined (shared_of s) (shared_of t)
 
-    own-seat : moves_seat cmd ≡ true → is_just a (subject cmd reply) ≡ true → own_row place t cmd reply (shared_of t) (row a) (seated place more reply was (row a)) ≡ due a
+    own-seat : moves_seat cmd ≡ true → is_just a (subject cmd reply) ≡ true → own_row place t cmd reply (shared_of t) was (row a) (seated place more reply was (row a)) ≡ due a
     own-seat moves about =
         own (seated place more reply was (row a))
         (λ x k is tells. seated-step s a place (row a) x is t seat cmd reply k answered moves about (ap (λ (w : Known). seated place more reply w (row a)) (sym (was-known x is)) ∙ tells))

@@ -14,7 +14,7 @@ use Rattle.journal_chart.specs.Columns.{width_of}
 use Rattle.journal_chart.specs.Lines.{added}
 use Rattle.journal_chart.specs.Numbers.{Charted, Drawn, chart_of, drawn_of, level_at, line_of, row_of, view_at}
 use Rattle.journal_chart.specs.Shares.{Shared, shared_of}
-use Rattle.journal_chart.specs.Steps.{Followed, after_seat, begun_chart, counted_chart, each_row, first_chart, first_row, first_rows, goes_on, halved_lines, halved_row, is_joined, is_still, kept_levels, known_of, known_rows, limited, moves_seat, near_chart, near_lines, near_row, near_rows, next_chart, now_shared, pairwise, roomed_lines, seat_row, seat_rows, seen_row, stands_after, taken_row}
+use Rattle.journal_chart.specs.Steps.{Followed, after_seat, begun_chart, counted_chart, each_row, first_chart, first_row, first_rows, goes_on, halved_lines, halved_row, is_joined, is_still, kept_levels, known_of, known_rows, changed, moves_seat, near_chart, near_lines, near_row, near_rows, next_chart, now_shared, pairwise, roomed_lines, seat_row, seat_rows, seen_row, stands_after, taken_row}
 use Rattle.journal_chart.proofs.Bounds.{Whole}
 use Rattle.journal_chart.proofs.Charts.{chart-taken, readied-row, stood-after}
 use Rattle.journal_chart.proofs.First.{first-row}
@@ -208,9 +208,9 @@ module _ (whole : Whole) (most : ℕ) (before : List State) (s t : State) (seat 
       let next : length moments + 1 ≡ suc (length moments) = omega arith in
       let where_ : length moments / width_of most (length moments + 1) ≡ place = ap (λ k. length moments / width_of most k) next in
       let count : length moments + 1 ≡ length (moments ++ t ∷ []) = omega (arith, length_push moments t) in
-      let limit = ap (λ (g : Shared). limited place (limit_of s) g.limit (line_of most (λ u. Some (limit_of u)) moments)) given-now ∙ limited-next most before s t some on limit_of in
+      let limit = ap (λ (g : Shared). changed place (limit_of s) g.limit (line_of most (λ u. Some (limit_of u)) moments)) given-now ∙ limited-next most before s t some on limit_of in
       let effective =
-      ap (λ (g : Shared). limited place (effective_limit_of s) g.effective (line_of most (λ u. Some (effective_limit_of u)) moments)) given-now
+      ap (λ (g : Shared). changed place (effective_limit_of s) g.effective (line_of most (λ u. Some (effective_limit_of u)) moments)) given-now
       ∙ limited-next most before s t some on effective_limit_of in
       let rows = rows-next arenas in
       (λ i. record {

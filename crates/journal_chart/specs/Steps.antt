@@ -214,11 +214,15 @@ share_of s now k a level =
     else if is_idle now then 0
     else allotment_of s a
 
--- in a column what an arena asks for and has
-abbrev pub needing_row : ℕ → Known → Row → Row
-needing_row place k r = record r { request = added place (Some k.request) r.request; active = added place (Some k.active) r.active }
+-- a number in the column of the last moment, at which it was this: it adds something only where it changed
+abbrev pub changed : ℕ → ℕ → ℕ → List (Option Span) → List (Option Span)
+changed place was now columns = if was == now then columns else added place (Some now) columns
 
--- and its level, and what it is allotted
+-- in the column of the last moment, at which this was known of an arena, what it asks for and has now
+abbrev pub needing_row : ℕ → Known → Known → Row → Row
+needing_row place was k r = record r { request = changed place was.request k.request r.request; active = changed place was.active k.active r.active }
+
+-- in a column the level of an arena, what it asks for and has, and what it is allotted
 abbrev pub shared_row : ℕ → Known → ℕ → Row → Row
 shared_row place k allot r =
     record r {
@@ -256,17 +260,17 @@ abbrev pub is_covered_at : Shared → Known → Option ℕ → Bool
 is_covered_at now k None = false
 is_covered_at now k (Some level) = is_covered now k level
 
--- the row of the arena that an entry is about, by what is then known of it
-abbrev pub own_row : ℕ → State → Cmd → Reply → Shared → Row → Option Known → Row × Known
-own_row place s cmd reply now r None = seen_row place s cmd reply r
-own_row place s cmd reply now r (Some k) =
-    if is_covered_at now k r.stands then (needing_row place k r, k)
-    else closed_row place s cmd reply k r (needing_row place k r) (option_map (share_of s now k r.arena) r.stands)
+-- the row of the arena that an entry is about, by what was known of it and what is then
+abbrev pub own_row : ℕ → State → Cmd → Reply → Shared → Known → Row → Option Known → Row × Known
+own_row place s cmd reply now was r None = seen_row place s cmd reply r
+own_row place s cmd reply now was r (Some k) =
+    if is_covered_at now k r.stands then (needing_row place was k r, k)
+    else closed_row place s cmd reply k r (needing_row place was k r) (option_map (share_of s now k r.arena) r.stands)
 
 -- a row that has the moment before in the same column
 abbrev pub near_row : ℕ → State → Cmd → Reply → Shared → List Bool → Row → Known → Row × Known
 near_row place s cmd reply now kept r k =
-    if is_just r.arena (subject cmd reply) then own_row place s cmd reply now r (retold cmd reply k)
+    if is_just r.arena (subject cmd reply) then own_row place s cmd reply now k r (retold cmd reply k)
     else if stands_kept kept r.stands then (r, k)
     else if is_covered_at now k r.stands then (r, k)
     else closed_row place s cmd reply k r r (option_map (share_of s now k r.arena) r.stands)
@@ -274,7 +278,7 @@ near_row place s cmd reply now kept r k =
 -- such a row after a command of a seat
 abbrev pub seat_row : ℕ → State → Cmd → Reply → Bool → Shared → Row → Known → Row × Known
 seat_row place s cmd reply more now r k =
-    if is_just r.arena (subject cmd reply) then own_row place s cmd reply now r (seated place more reply k r) else (r, k)
+    if is_just r.arena (subject cmd reply) then own_row place s cmd reply now k r (seated place more reply k r) else (r, k)
 
 -- a row at the first moment of a column, by what is known of its arena at the moment before
 abbrev pub first_row : ℕ → State → Cmd → Reply → Shared → Row → Known → Row × Known
@@ -336,15 +340,11 @@ first_rows place s cmd reply rows ks = pairwise (first_row place s cmd reply (sh
 abbrev pub known_rows : ℕ → State → Cmd → Reply → List Row → List Known
 known_rows place s cmd reply rows = map (λ (r : Row). (seen_row place s cmd reply r).1) rows
 
--- a limit in the column of the last moment, at which it was this: it adds something only where it changed
-abbrev pub limited : ℕ → ℕ → ℕ → List (Option Span) → List (Option Span)
-limited place was now columns = if was == now then columns else added place (Some now) columns
-
 abbrev pub near_lines : ℕ → State → Cmd → Reply → Shared → List Known → Drawn → Drawn
 near_lines place s cmd reply was ks d =
     record {
-      limit = limited place was.limit (now_shared cmd s was).limit d.limit;
-      effective = limited place was.effective (now_shared cmd s was).effective d.effective;
+      limit = changed place was.limit (now_shared cmd s was).limit d.limit;
+      effective = changed place was.effective (now_shared cmd s was).effective d.effective;
       rows = (near_rows place s cmd reply was d.rows ks).0;
     }
 
@@ -352,8 +352,8 @@ near_lines place s cmd reply was ks d =
 abbrev pub arena_lines : ℕ → State → Cmd → Reply → Shared → List Known → Drawn → Drawn
 arena_lines place s cmd reply was ks d =
     record {
-      limit = limited place was.limit (limit_of s) d.limit;
-      effective = limited place was.effective (effective_limit_of s) d.effective;
+      limit = changed place was.limit (limit_of s) d.limit;
+      effective = changed place was.effective (effective_limit_of s) d.effective;
       rows = (each_row place s cmd reply was d.rows ks).0;
     }
 

@@ -4,7 +4,7 @@ ghost use Rattle.market_types.specs.State.{State};
 ghost use Rattle.market_types.specs.Step.{limits_of};
 ghost use Rattle.journal_chart.specs.Numbering.{AreNumbered};
 ghost use Rattle.journal_chart.specs.Shares.{shared_of};
-ghost use Rattle.journal_chart.specs.Steps.{after_seat, arena_lines, begun_lines, each_row, empty_lines, empty_row, first_rows, halved_lines, known_rows, limited, limited_lines, near_lines, near_rows, now_shared, passed_lines, seat_rows, subject, taken_lines};
+ghost use Rattle.journal_chart.specs.Steps.{after_seat, arena_lines, begun_lines, each_row, empty_lines, empty_row, first_rows, changed, halved_lines, known_rows, limited_lines, near_lines, near_rows, now_shared, passed_lines, seat_rows, subject, taken_lines};
 
 use crate::entry::{moves_seat, subject};
 use crate::line::Line;
@@ -97,7 +97,7 @@ impl Lines {
 
     /// Puts the limits into the column at a place which has the moment before, where they are not what they were then.
     fn add_changed(&mut self, place: usize, was: &Shares, now: &LimitView)
-        ensures { self.new ≡ record self.old { limit = limited place was.now.limit now.now.limit self.old.limit; effective = limited place was.now.effective now.now.effective self.old.effective } }
+        ensures { self.new ≡ record self.old { limit = changed place was.now.limit now.now.limit self.old.limit; effective = changed place was.now.effective now.now.effective self.old.effective } }
     {
         if was.limit() != now.limit {
             self.limit.add(place, now.limit);

@@ -223,10 +223,12 @@ pub(crate) fn settle_other<const DIVIDED: bool>(
     }
 }
 
-/// The same where the entry is about the arena: what it asks for and has is put into the column.
+/// The same where the entry is about the arena, of which this was known before it: what it asks for and has is put into the column, where that
+/// changed.
 #[inline(never)]
 fn settle_own<const DIVIDED: bool>(
     row: &mut Row,
+    was: &Known,
     known: &mut Known,
     place: usize,
     market: &Market,
@@ -237,14 +239,14 @@ fn settle_own<const DIVIDED: bool>(
 )
     requires found { DIVIDED ≡ true → 0 < now.now.limit }
     requires divided { IfSome division.old (IsDivisionOf market.now) }
-    ensures exact { (row.new, known.new) ≡ closed_row place market.now cmd.now reply.now known.old row.old (needing_row place known.old row.old) (option_map (share_of market.now now.now known.old row.old.arena) row.old.stands) }
+    ensures exact { (row.new, known.new) ≡ closed_row place market.now cmd.now reply.now known.old row.old (needing_row place was.now known.old row.old) (option_map (share_of market.now now.now known.old row.old.arena) row.old.stands) }
     ensures divided { IfSome division.new (IsDivisionOf market.now) }
 {
     match row.stands {
         Some(level) => {
             let share = share_of::<DIVIDED>(market, division, now, known, row.arena, level);
             if has_share(known, share) {
-                row.add_needs(place, known);
+                row.add_needs(place, was, known);
             } else {
                 *known = row.tell(place, known, share);
             }
@@ -299,7 +301,7 @@ fn seated(place: usize, more: bool, reply: &Reply, known: &Known, row: &Row) -> 
 }
 
 /// Takes the moment after an entry into the column of the row of the arena that it is about, which has the moment before, where this is
-/// told of it, and what is then known of the arena.
+/// told of it, and what is then known of the arena: what was known of it before is at hand.
 #[inline(always)]
 fn own_row<const DIVIDED: bool>(
     row: &mut Row,
@@ -314,19 +316,20 @@ fn own_row<const DIVIDED: bool>(
 )
     requires found { DIVIDED ≡ true → 0 < now.now.limit }
     requires divided { IfSome division.old (IsDivisionOf market.now) }
-    ensures exact { (row.new, known.new) ≡ own_row place market.now cmd.now reply.now now.now row.old told }
+    ensures exact { (row.new, known.new) ≡ own_row place market.now cmd.now reply.now now.now known.old row.old told }
     ensures divided { IfSome division.new (IsDivisionOf market.now) }
 {
     let Some(told) = told else {
         *known = row.look(place, market, cmd, reply);
         return;
     };
+    let was = *known;
     *known = told;
     if is_covered_at::<DIVIDED>(now, known, row.stands) {
-        row.add_needs(place, known);
+        row.add_needs(place, &was, known);
         return;
     }
-    settle_own::<DIVIDED>(row, known, place, market, division, cmd, reply, now);
+    settle_own::<DIVIDED>(row, &was, known, place, market, division, cmd, reply, now);
 }
 
 /// The same of another arena than the one that the entry is about. A row to which the moment adds nothing is left as it is.

@@ -127,7 +127,8 @@ impl Row {
         ensures { self.new ≡ shared_row place known.now allot self.old }
     {
         self.add_level(place);
-        self.add_needs(place, known);
+        self.request.add(place, known.request);
+        self.active.add(place, known.active);
         self.allot.add(place, allot);
         self.recall.add(place, known.active.saturating_sub(allot));
         self.hire.add(place, allot.saturating_sub(known.active));
@@ -142,13 +143,17 @@ impl Row {
         self.known(place, known.request, known.active)
     }
 
-    /// Puts into the column at a place what the arena asks for and has.
+    /// Puts into the column of the last moment, at which this was known of the arena, what it asks for and has now, where that changed.
     #[inline(always)]
-    pub(crate) fn add_needs(&mut self, place: usize, known: &Known)
-        ensures { self.new ≡ needing_row place known.now self.old }
+    pub(crate) fn add_needs(&mut self, place: usize, was: &Known, known: &Known)
+        ensures { self.new ≡ needing_row place was.now known.now self.old }
     {
-        self.request.add(place, known.request);
-        self.active.add(place, known.active);
+        if was.request != known.request {
+            self.request.add(place, known.request);
+        }
+        if was.active != known.active {
+            self.active.add(place, known.active);
+        }
     }
 
     /// Lets the moment after a command and its reply pass: nothing is drawn, but where the arena stands is known after it.

@@ -2,7 +2,7 @@ use Rattle.std.proofs.Common.{◌≡◌, length, drop, ap, ◌∙◌, arith}
 use Rattle.std.specs.Vec.{with_items}
 use Rattle.market_types.specs.declared.reply.LimitView.{LimitView}
 use Rattle.journal_chart.specs.Numbers.{Drawn}
-use Rattle.journal_chart.specs.Steps.{each_row, limited}
+use Rattle.journal_chart.specs.Steps.{changed, each_row}
 use Rattle.journal_chart.proofs.AtRest.{still-at-rest}
 use Rattle.journal_chart.proofs.Mapped.{written-over}
 use Rattle.journal_chart.proofs.lines.Lines.near_arena.Goals as goal
@@ -22,17 +22,17 @@ renewed-self-inside-requires-clause-rest c low =
 pub returns-clause-lines : goal.returns-clause-lines
 returns-clause-lines c =
     let at = (goal.at.returns-clause-lines c).After-near_rows in
-    let changed = c.self.view_is ∙ c.add_changed.ensures in
+    let limited = c.self.view_is ∙ c.add_changed.ensures in
     let limits = c.limits-limits.ensures.exact in
     let limit =
-    ap (λ (d : Drawn). d.limit) changed
-    ∙ ap (λ (v : LimitView). limited c.args.place c.args.shares.now.limit v.limit c.args.self.now.limit) limits in
+    ap (λ (d : Drawn). d.limit) limited
+    ∙ ap (λ (v : LimitView). changed c.args.place c.args.shares.now.limit v.limit c.args.self.now.limit) limits in
     let effective =
-    ap (λ (d : Drawn). d.effective) changed
-    ∙ ap (λ (v : LimitView). limited c.args.place c.args.shares.now.effective v.effective c.args.self.now.effective) limits in
+    ap (λ (d : Drawn). d.effective) limited
+    ∙ ap (λ (v : LimitView). changed c.args.place c.args.shares.now.effective v.effective c.args.self.now.effective) limits in
     let rows =
     whole at
     ∙ c.near_rows.ensures.rows
     ∙ ap (λ rs. (each_row c.args.place c.args.market.now c.args.cmd.now c.args.reply.now c.args.shares.now rs c.args.known.now).0)
-    (c.deref_mut.ensures.value ∙ ap (λ (d : Drawn). d.rows) changed) in
+    (c.deref_mut.ensures.value ∙ ap (λ (d : Drawn). d.rows) limited) in
     λ i. record { limit = limit i; effective = effective i; rows = rows i }
