@@ -6,7 +6,7 @@ use Rattle.std.proofs.lemmas.Bool.Decides.{nat_tests}
 use Rattle.market_types.specs.declared.command.Cmd.{Cmd}
 use Rattle.journal_chart.specs.declared.unkept.Unkept.{Unkept}
 use Rattle.journal_chart.specs.declared.unkept.Unkept.TheVariants.{Nowhere, At, Anywhere}
-use Rattle.journal_chart.specs.Unkept.{AreUnkept, IsAlone, unkept_of}
+use Rattle.journal_chart.specs.Unkept.{AreUnkept, unkept_of}
 use Rattle.journal_chart.specs.Shares.{Shared}
 use Rattle.journal_chart.specs.Steps.{is_kept, kept_levels}
 

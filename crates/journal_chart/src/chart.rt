@@ -12,6 +12,7 @@ use crate::lines::Lines;
 use crate::notes::Notes;
 use crate::row::Known;
 use crate::shares::Shares;
+use crate::width::Width;
 use market_core::Market;
 use market_types::{ArenaId, Cmd, Reply};
 use std::alloc::{AllocError, Global};
@@ -24,7 +25,7 @@ pub struct Chart {
     columns: u32,
     moments: u64,
     /// How many moments a column holds.
-    width: u64,
+    width: Width,
     lines: Lines,
 }
 
@@ -50,7 +51,7 @@ impl Chart {
         Ok(Chart {
             columns,
             moments: 0,
-            width: 1,
+            width: Width::one(),
             lines: Lines::new(alloc, columns as usize, arenas)?,
         })
     }
@@ -74,7 +75,7 @@ impl Chart {
         ensures exact { result ≡ width_of self.now.most self.now.moments }
         ensures some { 0 < result }
     {
-        self.width
+        self.width.number()
     }
 
     /// All lines.
@@ -93,10 +94,9 @@ impl Chart {
             → self.new ≡ chart_of self.old.most arenas (moments ++ market.now ∷ []) market.now }
         ensures step { self.new ≡ taken_chart market.now cmd.now reply.now self.old }
     {
-        let width = make_room(&mut self.lines, self.columns, self.moments, self.width);
-        let place = (self.moments / width) as usize;
+        make_room(&mut self.lines, self.columns, self.moments, &mut self.width);
+        let place = self.width.place_of(self.moments) as usize;
         self.lines.take(place, market, cmd, reply);
-        self.width = width;
         self.moments += 1;
     }
 
@@ -104,7 +104,7 @@ impl Chart {
     fn place(&self) -> u64
         ensures { result ≡ self.now.moments / width_of self.now.most self.now.moments }
     {
-        place_of(self.moments, self.width)
+        self.width.place_of(self.moments)
     }
 
     /// The next moment goes into the column of the last, which is at this place.
@@ -113,7 +113,7 @@ impl Chart {
         requires place { place ≡ self.now.moments / width_of self.now.most self.now.moments }
         ensures { result ≡ goes_on self.now }
     {
-        place * self.width < self.moments
+        self.width.moments_before(place) < self.moments
     }
 
     /// Takes the first moment, as `take` does, what is then known of the arenas, and what the levels are given.
@@ -133,10 +133,9 @@ impl Chart {
         ensures known { known.new ≡ (first_chart market.now cmd.now reply.now self.old).known }
         ensures shares { shares.new ≡ shared_of market.now }
     {
-        let width = make_room(&mut self.lines, self.columns, self.moments, self.width);
-        let place = (self.moments / width) as usize;
+        make_room(&mut self.lines, self.columns, self.moments, &mut self.width);
+        let place = self.width.place_of(self.moments) as usize;
         self.lines.look(known, shares, place, market, cmd, reply);
-        self.width = width;
         self.moments += 1;
     }
 
@@ -157,10 +156,9 @@ impl Chart {
         ensures known { known.new ≡ (begun_chart market.now cmd.now reply.now (record { chart = self.old; known = known.old; shares = shares.old })).known }
         ensures shares { shares.new ≡ shared_of market.now }
     {
-        let width = make_room(&mut self.lines, self.columns, self.moments, self.width);
-        let place = (self.moments / width) as usize;
+        make_room(&mut self.lines, self.columns, self.moments, &mut self.width);
+        let place = self.width.place_of(self.moments) as usize;
         self.lines.begin(known, shares, place, market, cmd, reply);
-        self.width = width;
         self.moments += 1;
     }
 
@@ -229,20 +227,6 @@ impl Chart {
     }
 }
 
-/// In which column of this width a moment is, that so many come before.
-// By a shift, since a column's width is a power of 2: a division takes as long as most moments do in all.
-#[inline]
-fn place_of(moments: u64, width: u64) -> u64
-    requires { 0 < width }
-    ensures { result ≡ moments / width }
-{
-    let shift = width.trailing_zeros();
-    if width == 1 << shift {
-        return moments >> shift;
-    }
-    moments / width
-}
-
 /// The market is as it was before an entry with this reply.
 #[inline]
 fn is_still(reply: &Reply) -> bool
@@ -259,17 +243,16 @@ fn is_still(reply: &Reply) -> bool
     )
 }
 
-/// How many moments a column then holds, if so many were taken before the next: where all columns are full, each two become one.
-fn make_room(lines: &mut Lines, columns: u32, moments: u64, width: u64) -> u64
-    requires wide { 0 < width }
+/// Makes room for a moment more, where so many were taken: where all columns are full, each two become one, which holds twice as many.
+fn make_room(lines: &mut Lines, columns: u32, moments: u64, width: &mut Width)
     requires some { 0 < columns }
     requires few { moments < 2 ^ 63 }
-    ensures width { result ≡ (if nat_le (columns * width) moments then width + width else width) }
-    ensures lines { lines.new ≡ (if nat_le (columns * width) moments then halved_lines lines.old else lines.old) }
+    ensures width { width.new ≡ (if nat_le (columns * width.old) moments then width.old + width.old else width.old) }
+    ensures lines { lines.new ≡ (if nat_le (columns * width.old) moments then halved_lines lines.old else lines.old) }
 {
-    if moments / width < u64::from(columns) {
-        return width;
+    if width.place_of(moments) < u64::from(columns) {
+        return;
     }
     lines.halve();
-    2 * width
+    width.double();
 }

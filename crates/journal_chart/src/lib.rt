@@ -25,6 +25,7 @@ mod shares;
 mod sheet;
 mod span;
 mod unkept;
+mod width;
 
 pub use chart::Chart;
 pub use column::Column;

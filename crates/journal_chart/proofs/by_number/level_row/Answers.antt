@@ -1,9 +1,9 @@
-use Rattle.std.specs.Prelude.{◌&&◌, nat_le, nat_lt, slice_index}
-use Rattle.std.proofs.Common.{◌≡◌, ◌-◌, ◌≤◌, ◌<◌, Some, true, false, get_or, refl, sym, ap, ◌∙◌, arith}
+use Rattle.std.specs.Prelude.{nat_le, nat_lt}
+use Rattle.std.proofs.Common.{◌≡◌, Some, true, false, refl, sym, ap, ◌∙◌, arith}
 use Rattle.std.proofs.lemmas.Bool.{le-leb}
 use Rattle.std.proofs.lemmas.Bool.Decides.{nat_tests}
 use Rattle.journal_chart.specs.Covering.{covers}
-use Rattle.journal_chart.specs.Steps.{is_covered, is_divided, stands_kept}
+use Rattle.journal_chart.specs.Steps.{is_covered, stands_kept}
 use Rattle.journal_chart.proofs.Numbered.{other-level, other-row}
 use Rattle.journal_chart.proofs.by_number.level_row.Goals as goal
 

@@ -1,4 +1,4 @@
-use Rattle.std.proofs.Common.{◌≡◌, ◌/◌, ◌++◌, arith, ap, decimal, string_bytes, sym, ◌∙◌}
+use Rattle.std.proofs.Common.{◌≡◌, ◌/◌, ◌++◌, arith, ap, decimal, string_bytes, ◌∙◌}
 use Rattle.journal_chart.proofs.Texts.{last-digit}
 use Rattle.journal_chart.proofs.figure.+write_long.Goals as goal
 use Rattle.journal_chart.proofs.figure.+write_long.Goals.{then-front-lt100+in_ok-write_tens, else-front-lt100+in_ok-write_long}

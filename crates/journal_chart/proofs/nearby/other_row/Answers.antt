@@ -1,12 +1,4 @@
-use Rattle.std.proofs.Common.{◌≡◌, ℕ, List, Bool, false, Some, refl, sym, ◌∙◌}
-use Rattle.market_types.specs.Allotment.{is_just}
-use Rattle.market_types.specs.State.{State}
-use Rattle.market_types.specs.declared.command.Cmd.{Cmd}
-use Rattle.market_types.specs.declared.reply.Reply.{Reply}
-use Rattle.journal_chart.specs.declared.row.Known.{Known}
-use Rattle.journal_chart.specs.declared.row.Row.{Row}
-use Rattle.journal_chart.specs.Shares.{Shared}
-use Rattle.journal_chart.specs.Steps.{closed_row, is_covered, near_row, share_of, stands_kept, subject}
+use Rattle.std.proofs.Common.{sym, ◌∙◌}
 use Rattle.journal_chart.proofs.Numbered.{other-row}
 use Rattle.journal_chart.proofs.nearby.other_row.Goals as goal
 

@@ -1,7 +1,6 @@
 use Rattle.std.proofs.Common.{rules, ◌≡◌, ◌==◌, List, true, false, length, ap, ◌∙◌, refl, arith}
-use Rattle.std.proofs.lemmas.Bool.Decides.{nat_tests}
 use Rattle.journal_chart.specs.declared.row.Known.{Known}
-use Rattle.journal_chart.specs.Steps.{begun_chart, goes_on, next_chart}
+use Rattle.journal_chart.specs.Steps.{begun_chart, goes_on}
 use Rattle.journal_chart.proofs.Mapped.{written-over}
 use Rattle.journal_chart.proofs.Still.{width-still}
 use Rattle.journal_chart.proofs.chart.Chart.take_next.Goals as goal
