@@ -14,7 +14,7 @@ use Rattle.journal_chart.specs.Columns.{width_of}
 use Rattle.journal_chart.specs.Numbers.{Charted, Drawn, chart_of, row_of}
 use Rattle.journal_chart.specs.Numbering.{AreNumbered, arenas_of}
 use Rattle.journal_chart.specs.Shares.{Shared, shared_of}
-use Rattle.journal_chart.specs.Steps.{Followed, after_seat, begun_chart, closed_row, counted_chart, each_row, first_chart, first_row, goes_on, halved_lines, halved_row, has_share, is_covered_at, is_joined, is_still, kept_levels, moves_seat, near_chart, near_row, near_rows, needing_row, next_chart, own_row, pairwise, passed_row, retold, roomed_lines, seat_row, seat_rows, seated, seen_row, settled_row, share_of, stands_kept, subject, taken_row, told_row}
+use Rattle.journal_chart.specs.Steps.{Followed, after_seat, begun_chart, closed_row, counted_chart, each_row, first_chart, first_row, goes_on, halved_lines, halved_row, has_share, is_covered_at, is_joined, is_still, kept_levels, moves_seat, near_chart, near_row, near_rows, needing_row, next_chart, own_row, pairwise, passed_row, retold, roomed_lines, seat_row, seat_rows, seated, seen_row, settled_at, settled_row, share_of, stands_kept, subject, taken_row, told_row}
 
 -- ---- a row
 
@@ -54,10 +54,14 @@ seat-arena place s cmd reply more now r k =
     kept-arena (is_just r.arena (subject cmd reply)) (own_row place s cmd reply now k r (seated place more reply k r)) (r, k) r.arena
     (own-arena place s cmd reply now k r (seated place more reply k r)) refl
 
+settled-arena : (place : ℕ) (s : State) (cmd : Cmd) (reply : Reply) (now : Shared) (k : Known) (r : Row) (o : Option ℕ) → (settled_at place s cmd reply now k r o).0.arena ≡ r.arena
+settled-arena place s cmd reply now k r None = refl
+settled-arena place s cmd reply now k r (Some level) = refl
+
 first-arena : (place : ℕ) (s : State) (cmd : Cmd) (reply : Reply) (now : Shared) (r : Row) (k : Known) → (first_row place s cmd reply now r k).0.arena ≡ r.arena
 first-arena place s cmd reply now r k =
     kept-arena (is_just r.arena (subject cmd reply)) (seen_row place s cmd reply r) (settled_row place s cmd reply now k r) r.arena refl
-    (told-arena place s cmd reply k r (option_map (share_of s now k r.arena) r.stands))
+    (settled-arena place s cmd reply now k r r.stands)
 
 -- ---- all rows
 

@@ -1,10 +1,8 @@
 -- Rows at the end of a chart whose arenas do not live are left as they are by a moment that is about none of them.
 use Rattle.std.specs.List.{All}
-use Rattle.std.proofs.Common.{◌≡◌, ℕ, zero, suc, ◌+◌, ◌<◌, ◌≤◌, Bool, false, Option, List, length, drop, get_or, refl, sym, ap, ◌∙◌, subst, arith}
-use Rattle.std.proofs.lemmas.List.{get_or-drop, length-drop, drop_all}
-use Rattle.std.proofs.lemmas.List.Elements.{All-nil}
+use Rattle.std.proofs.Common.{◌≡◌, ℕ, zero, suc, ◌+◌, ◌<◌, ◌≤◌, Bool, List, length, drop, get_or, refl, sym, ap, ◌∙◌, subst, arith}
+use Rattle.std.proofs.lemmas.List.{get_or-drop, length-drop}
 use Rattle.market_types.specs.State.{State}
-use Rattle.market_types.specs.Allotment.{is_just}
 use Rattle.market_types.specs.declared.command.Cmd.{Cmd}
 use Rattle.market_types.specs.declared.reply.Reply.{Reply}
 use Rattle.journal_chart.specs.declared.row.Row.{Row}
@@ -12,7 +10,7 @@ use Rattle.journal_chart.specs.declared.row.Known.{Known}
 use Rattle.journal_chart.specs.declared.resting.Resting.{Resting}
 use Rattle.journal_chart.specs.Resting.{AreLeft, AreResting, IsLeft, IsResting}
 use Rattle.journal_chart.specs.Shares.{Shared}
-use Rattle.journal_chart.specs.Steps.{near_row, pairwise, seat_row, subject}
+use Rattle.journal_chart.specs.Steps.{first_row, near_row, pairwise, seat_row, subject}
 use Rattle.journal_chart.proofs.Pairs.{Paired, get-any, paired-part}
 
 near-left : (place : ℕ) (s : State) (cmd : Cmd) (reply : Reply) (now : Shared) (kept : List Bool) (r : Row) → IsLeft (subject cmd reply) r
@@ -31,24 +29,28 @@ pub seat-rest : (place : ℕ) (s : State) (cmd : Cmd) (reply : Reply) (more : Bo
     → All (λ (r : Row). (k : Known) → seat_row place s cmd reply more now r k ≡ (r, k)) rows
 seat-rest place s cmd reply more now rows h i d inside = seat-left place s cmd reply more now (get_or rows i d) (h i d inside)
 
+first-left : (place : ℕ) (s : State) (cmd : Cmd) (reply : Reply) (now : Shared) (r : Row) → IsLeft (subject cmd reply) r
+    → (k : Known) → first_row place s cmd reply now r k ≡ (r, k)
+first-left place s cmd reply now r h k = rw (h.other, h.nowhere) refl
+
+first-rest : (place : ℕ) (s : State) (cmd : Cmd) (reply : Reply) (now : Shared) (rows : List Row) → All (IsLeft (subject cmd reply)) rows
+    → All (λ (r : Row). (k : Known) → first_row place s cmd reply now r k ≡ (r, k)) rows
+first-rest place s cmd reply now rows h i d inside = first-left place s cmd reply now (get_or rows i d) (h i d inside)
+
 -- what becomes of all rows, of which those from one on are left
+pub first-made : (place : ℕ) (s : State) (cmd : Cmd) (reply : Reply) (now : Shared) (rows0 : List Row) (ks0 : List Known) (rows : List Row) (ks : List Known) (i count : ℕ)
+    → Paired (first_row place s cmd reply now) rows0 ks0 rows ks i → count ≡ i → AreLeft count (subject cmd reply) rows0
+    → (rows ≡ (pairwise (first_row place s cmd reply now) rows0 ks0).0) × (ks ≡ (pairwise (first_row place s cmd reply now) rows0 ks0).1)
+first-made place s cmd reply now rows0 ks0 rows ks i count h all left =
+    paired-part (first_row place s cmd reply now) rows0 ks0 rows ks i h
+    (first-rest place s cmd reply now (drop i rows0) (subst (λ n. AreLeft n (subject cmd reply) rows0) all left))
+
 pub near-made : (place : ℕ) (s : State) (cmd : Cmd) (reply : Reply) (now : Shared) (kept : List Bool) (rows0 : List Row) (ks0 : List Known) (rows : List Row) (ks : List Known) (i count : ℕ)
     → Paired (near_row place s cmd reply now kept) rows0 ks0 rows ks i → count ≡ i → AreLeft count (subject cmd reply) rows0
     → (rows ≡ (pairwise (near_row place s cmd reply now kept) rows0 ks0).0) × (ks ≡ (pairwise (near_row place s cmd reply now kept) rows0 ks0).1)
 near-made place s cmd reply now kept rows0 ks0 rows ks i count h all left =
     paired-part (near_row place s cmd reply now kept) rows0 ks0 rows ks i h
     (near-rest place s cmd reply now kept (drop i rows0) (subst (λ n. AreLeft n (subject cmd reply) rows0) all left))
-
--- behind the last row there is none
-pub none-left : (P : Row → Type 0) (rows : List Row) (count : ℕ) → length rows ≤ count → All P (drop count rows)
-none-left P rows count all = subst (All P) (sym (drop_all count rows all)) (All-nil P)
-
--- an entry is about none of these rows
-pub left-of : (resting : Resting) (about : Option ℕ) (rows : List Row) → ((number : ℕ) → resting.least ≤ number → number ≤ resting.most → is_just number about ≡ false)
-    → AreResting resting rows → AreLeft resting.before about rows
-left-of resting about rows other h i d inside =
-    let here : IsResting resting (get_or (drop resting.before rows) i d) = h i d inside in
-    record { nowhere = here.nowhere; other = other _ here.least here.most }
 
 widened : (was now : Resting) (r : Row) → now.least ≤ was.least → was.most ≤ now.most → IsResting was r → IsResting now r
 widened was now r least most h = record { nowhere = h.nowhere; least = omega (arith, least, h.least); most = omega (arith, most, h.most) }

@@ -1,6 +1,7 @@
--- The first moment of a column after one that was taken: what is told of an arena that the entry is not about needs no look at the market.
+-- The first moment of a column after one that was taken: what is told of an arena that the entry is not about needs no look at the market, and
+-- nothing is told of one that does not live.
 use Rattle.std.specs.Option.{option_map}
-use Rattle.std.proofs.Common.{◌≡◌, ℕ, ◌-◌, false, Option, None, Some, refl, sym, ap, ◌∙◌, inl, inr}
+use Rattle.std.proofs.Common.{◌≡◌, ℕ, ◌-◌, false, List, Option, None, Some, refl, sym, ap, ◌∙◌, inl, inr}
 use Rattle.std.proofs.lemmas.Bool.{cases_Bool}
 use Rattle.market_types.specs.declared.command.Cmd.{Cmd}
 use Rattle.market_types.specs.declared.reply.ArenaView.{ArenaView}
@@ -11,19 +12,22 @@ use Rattle.market_types.specs.Allotment.{active, allotment_of, is_just}
 use Rattle.market_types.specs.Step.{arena_at, step, view_of}
 use Rattle.journal_chart.specs.declared.row.Known.{Known}
 use Rattle.journal_chart.specs.declared.row.Row.{Row}
+use Rattle.journal_chart.specs.declared.span.Span.{Span}
 use Rattle.journal_chart.specs.Lines.{added}
 use Rattle.journal_chart.specs.Numbers.{level_at, view_at}
 use Rattle.journal_chart.specs.Shares.{shared_of}
-use Rattle.journal_chart.specs.Steps.{first_row, known_in, known_of, seen_row, settled_row, share_of, shared_row, stands_after, subject, taken_row, told_row}
+use Rattle.journal_chart.specs.Steps.{first_row, known_in, known_of, nothing_known, seen_row, settled_at, settled_row, share_of, shared_row, stands_after, subject, taken_row, told_row}
 use Rattle.journal_chart.proofs.Bounds.{Whole}
 use Rattle.journal_chart.proofs.Kept.{Fine, Stands, apart-stands, found-number}
 use Rattle.journal_chart.proofs.Near.{share-is}
+use Rattle.journal_chart.proofs.Thinned.{added-none}
 
 module _ (whole : Whole) (place : ℕ) (s t : State) (seat : ℕ) (cmd : Cmd) (reply : Reply) (answered : step s seat cmd ≡ (reply, t)) (fine' : Fine t) (a : ℕ)
     (stood : stands_after a (level_at a s) cmd reply ≡ level_at a t) (r : Row) (arena_is : r.arena ≡ a) (stands_is : r.stands ≡ level_at a s) where
   -- of an arena that stands where it stood this is known
   record Tells (k : Known) : Type 0 where
     tells : (y : Arena) → arena_at a t.arenas ≡ Some y → (request_of y.claim ≡ k.request) × (active t y.number ≡ k.active)
+    nowhere : arena_at a t.arenas ≡ None → k ≡ nothing_known
     level : level_at a t ≡ level_at a s
 
   -- its allotment is told
@@ -52,14 +56,42 @@ module _ (whole : Whole) (place : ℕ) (s t : State) (seat : ℕ) (cmd : Cmd) (r
       } in
       (λ i. (same i, known_in place (sym n.0 i) (sym n.1 i) (same i))) ∙ (λ i. (taken_row place t cmd reply r, known_of place (view i) (taken_row place t cmd reply r)))
 
+  -- nothing is told of one that does not live
+  untold-first : (k : Known) → Tells k → arena_at a t.arenas ≡ None → (r, k) ≡ seen_row place t cmd reply r
+  untold-first k h none =
+      let view : None ≡ view_at r.arena t = sym (ap (λ o. option_map (view_of t) o) (ap (λ m. arena_at m t.arenas) arena_is ∙ none)) in
+      let nowhere : level_at a t ≡ None = ap (λ o. option_map (λ (b : Arena). b.level) o) none in
+      let was : r.stands ≡ None = stands_is ∙ sym h.level ∙ nowhere in
+      let now : None ≡ stands_after r.arena r.stands cmd reply =
+      sym nowhere ∙ sym stood ∙ (λ i. stands_after (sym arena_is i) (sym stands_is i) cmd reply) in
+      let line : (number : ArenaView → ℕ) (columns : List (Option Span)) → columns ≡ added place (option_map number (view_at r.arena t)) columns =
+      λ number columns. sym (added-none place columns) ∙ ap (λ o. added place (option_map number o) columns) view in
+      let level : r.level ≡ added place (stands_after r.arena r.stands cmd reply) r.level = sym (added-none place r.level) ∙ ap (λ o. added place o r.level) now in
+      let same : r ≡ taken_row place t cmd reply r =
+      λ i. record {
+        arena = r.arena;
+        stands = (was ∙ now) i;
+        level = level i;
+        request = line (λ (w : ArenaView). w.request) r.request i;
+        allot = line (λ (w : ArenaView). w.allot) r.allot i;
+        active = line (λ (w : ArenaView). w.active) r.active i;
+        recall = line (λ (w : ArenaView). w.recall) r.recall i;
+        hire = line (λ (w : ArenaView). w.hire) r.hire i;
+      } in
+      let known : k ≡ known_of place (view_at r.arena t) (taken_row place t cmd reply r) =
+      h.nowhere none ∙ ap (λ o. known_of place o (taken_row place t cmd reply r)) view in
+      λ i. (same i, known i)
+
   settled-first : (k : Known) → Tells k → settled_row place t cmd reply (shared_of t) k r ≡ seen_row place t cmd reply r
   settled-first k h =
-      (λ i. told_row place t cmd reply k r (option_map (share_of t (shared_of t) k (arena_is i)) ((stands_is ∙ sym h.level) i))) ∙ at_arena (arena_at a t.arenas) refl
+      (λ i. settled_at place t cmd reply (shared_of t) k r ((stands_is ∙ sym h.level) i)) ∙ at_arena (arena_at a t.arenas) refl
     where
       at_arena : (o : Option Arena) → arena_at a t.arenas ≡ o
-          → told_row place t cmd reply k r (option_map (share_of t (shared_of t) k a) (option_map (λ (b : Arena). b.level) o)) ≡ seen_row place t cmd reply r
-      at_arena None none = refl
-      at_arena (Some y) found = told-first k y (share_of t (shared_of t) k a y.level) h found (share-is whole t a y k fine' found (h.tells y found).0)
+          → settled_at place t cmd reply (shared_of t) k r (option_map (λ (b : Arena). b.level) o) ≡ seen_row place t cmd reply r
+      at_arena None none = untold-first k h none
+      at_arena (Some y) found =
+          told-first k y (share_of t (shared_of t) k r.arena y.level) h found
+          (share-is whole t a y k fine' found (h.tells y found).0 ∙ ap (λ m. share_of t (shared_of t) k m y.level) (sym arena_is))
 
   -- whatever was the column of the moment before
   pub first-row : (p : ℕ) (before : Row) → first_row place t cmd reply (shared_of t) r (known_of p (view_at a s) before) ≡ seen_row place t cmd reply r
@@ -78,6 +110,7 @@ module _ (whole : Whole) (place : ℕ) (s t : State) (seat : ℕ) (cmd : Cmd) (r
                     ap (λ (k : Known). k.request) known,
                     ap (active t) number ∙ stands.active ∙ ap (active s) (sym number) ∙ ap (λ (k : Known). k.active) known,
                   );
+              nowhere = λ none. ap (λ o. known_of p (option_map (view_of s) o) before) (sym stands.arena ∙ none);
               level = ap (λ o. option_map (λ (b : Arena). b.level) o) stands.arena;
             } in
             rw apart (settled-first (known_of p (view_at a s) before) tells)

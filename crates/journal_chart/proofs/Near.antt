@@ -384,7 +384,7 @@ module _ (most : ℕ) (before : List State) (s t : State) (some : 0 < most) (on 
   known-same a stands same = go (arena_at a s.arenas) refl ∙ ap (λ o. known_of place (option_map (view_of t) o) (row' a)) (sym stands.arena)
     where
       go : (o : Option Arena) → arena_at a s.arenas ≡ o → known_of place (option_map (view_of s) o) (row a) ≡ known_of place (option_map (view_of t) o) (row' a)
-      go None is = ap (known_in place 0 0) same
+      go None is = refl
       go (Some x) is = λ i. known_in place (request_of x.claim) (sym (active-same a stands x is) i) (same i)
 
   -- an arena is allotted what it was
@@ -703,9 +703,10 @@ module _ (most : ℕ) (before : List State) (s t : State) (some : 0 < most) (on 
     abbrev kept : List Bool
     kept = kept_levels cmd (shared_of s) (shared_of t) t.levels
 
-    was-own : (o : Option Arena) → arena_at a s.arenas ≡ o → was ≡ known_in place was.request was.active (row a)
-    was-own None is = refl
-    was-own (Some x) is = refl
+    -- one that stands nowhere is not looked at
+    was-own : (o : Option Arena) → arena_at a s.arenas ≡ o → stands_kept kept (option_map (λ (b : Arena). b.level) o) ≡ false → was ≡ known_in place was.request was.active (row a)
+    was-own None is not = absurd (cc)
+    was-own (Some x) is not = was-known x is ∙ (λ i. known_in place ((sym (was-known x is) i).request) ((sym (was-known x is) i).active) (row a))
 
     other : is_just a (subject cmd reply) ≡ false
         → cond (stands_kept kept (level_at a s)) (row a, was)
@@ -733,7 +734,7 @@ module _ (most : ℕ) (before : List State) (s t : State) (some : 0 < most) (on 
               rw not
               (elim (cases_Bool (is_covered_at (shared_of t) was (level_at a s))) [
                 | inl cover ↦ rw cover (same (spanned-lines stands cover))
-                | inr more ↦ rw more (closed was (row a) tells (was-own (arena_at a s.arenas) refl) (λ y found lines. same lines))
+                | inr more ↦ rw more (closed was (row a) tells (was-own (arena_at a s.arenas) refl not) (λ y found lines. same lines))
               ])
         ]
 

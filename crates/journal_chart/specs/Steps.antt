@@ -125,17 +125,14 @@ known_in place request active r =
       covered = covered (at r.allot place) (at r.recall place) (at r.hire place) active;
     }
 
--- the same of an arena that is seen so
-abbrev pub seen_number : (ArenaView → ℕ) → Option ArenaView → ℕ
-seen_number number None = 0
-seen_number number (Some v) = number v
-
-abbrev pub known_of : ℕ → Option ArenaView → Row → Known
-known_of place view r = known_in place (seen_number (λ (v : ArenaView). v.request) view) (seen_number (λ (v : ArenaView). v.active) view) r
-
--- before it is looked at
+-- before it is looked at, and of one that does not live
 abbrev pub nothing_known : Known
 nothing_known = record { request = 0; active = 0; covered = none_covered }
+
+-- the same of an arena that is seen so
+abbrev pub known_of : ℕ → Option ArenaView → Row → Known
+known_of place None r = nothing_known
+known_of place (Some v) r = known_in place v.request v.active r
 
 -- what is known after an entry that is about the arena, where its reply tells that
 abbrev pub requested : Reply → Known → Option Known
@@ -243,8 +240,13 @@ abbrev pub told_row : ℕ → State → Cmd → Reply → Known → Row → Opti
 told_row place s cmd reply k r None = seen_row place s cmd reply r
 told_row place s cmd reply k r (Some allot) = (shared_row place k allot r, known_in place k.request k.active (shared_row place k allot r))
 
+-- the same of an arena that stands at a level; one that stands nowhere has none to tell
+abbrev pub settled_at : ℕ → State → Cmd → Reply → Shared → Known → Row → Option ℕ → Row × Known
+settled_at place s cmd reply now k r None = (r, k)
+settled_at place s cmd reply now k r (Some level) = told_row place s cmd reply k r (Some (share_of s now k r.arena level))
+
 abbrev pub settled_row : ℕ → State → Cmd → Reply → Shared → Known → Row → Row × Known
-settled_row place s cmd reply now k r = told_row place s cmd reply k r (option_map (share_of s now k r.arena) r.stands)
+settled_row place s cmd reply now k r = settled_at place s cmd reply now k r r.stands
 
 -- nothing is added to the column of an arena of which this is known, if it is allotted so many workers
 abbrev pub has_share : Known → ℕ → Bool

@@ -157,7 +157,19 @@ impl Lines {
         let limits = market.limits();
         self.add_limits(place, &limits);
         shares.renew(market, &limits, cmd);
-        first_rows(&mut self.rows, known, place, market, cmd, reply, shares);
+        let about = subject(cmd, reply);
+        let count = self.resting.awake(&self.rows, &about);
+        first_rows(
+            &mut self.rows,
+            known,
+            count,
+            place,
+            market,
+            cmd,
+            reply,
+            shares,
+            &about,
+        );
         self.resting = Resting::of(&self.rows);
     }
 

@@ -14,7 +14,6 @@ ghost use Rattle.journal_chart.specs.Steps.{after_seat, closed_row, each_row, fi
 
 use crate::by_number::{rows_numbered, seat_row_numbered};
 use crate::covered::{Covered, exactly};
-use crate::entry::subject;
 use crate::row::{Known, Row};
 use crate::shares::Shares;
 use crate::unkept::Unkept;
@@ -174,8 +173,8 @@ fn share_among(
     }
 }
 
-/// Takes the moment after a command and its reply into the column of a row at a place, where this is known of its arena, and what is then
-/// known.
+/// Takes the moment after a command and its reply, which are about another arena, into the column of a row at a place, where this is known of its
+/// arena, and what is then known. A row whose arena stands nowhere is left as it is.
 #[inline(never)]
 fn settle(
     row: &mut Row,
@@ -183,20 +182,15 @@ fn settle(
     place: usize,
     market: &Market,
     division: &mut Option<Division>,
-    cmd: &Cmd,
-    reply: &Reply,
     now: &Shares,
 )
     requires divided { IfSome division.old (IsDivisionOf market.now) }
-    ensures exact { (row.new, known.new) ≡ settled_row place market.now cmd.now reply.now now.now known.old row.old }
+    ensures exact { (cmd : Cmd) (reply : Reply) → (row.new, known.new) ≡ settled_row place market.now cmd reply now.now known.old row.old }
     ensures divided { IfSome division.new (IsDivisionOf market.now) }
 {
-    match row.stands {
-        Some(level) => {
-            let share = share_among(market, division, now, known, row.arena, level);
-            *known = row.tell(place, known, share);
-        }
-        None => *known = row.look(place, market, cmd, reply),
+    if let Some(level) = row.stands {
+        let share = share_among(market, division, now, known, row.arena, level);
+        *known = row.tell(place, known, share);
     }
 }
 
@@ -634,27 +628,32 @@ fn first_row(
         *known = row.look(place, market, cmd, reply);
         return;
     }
-    settle(row, known, place, market, division, cmd, reply, now);
+    settle(row, known, place, market, division, now);
 }
 
-/// Takes the first moment of a column into all rows, where this is known of their arenas at the moment before, and what is then known.
+/// Takes the first moment of a column into all rows, where this is known of their arenas at the moment before, and what is then known. The rows behind
+/// the first `count` are left as they are.
 pub(crate) fn first_rows(
     rows: &mut [Row],
     known: &mut [Known],
+    count: usize,
     place: usize,
     market: &Market,
     cmd: &Cmd,
     reply: &Reply,
     now: &Shares,
+    own: &Option<ArenaId>,
 )
     requires each { length known.old ≡ length rows.old }
     requires shares { now.now ≡ shared_of market.now }
+    requires own { own.now ≡ subject cmd.now reply.now }
+    requires within { count ≤ length rows.old }
+    requires left { AreLeft count (subject cmd.now reply.now) rows.old }
     ensures rows { rows.new ≡ (first_rows place market.now cmd.now reply.now rows.old known.old).0 }
     ensures known { known.new ≡ (first_rows place market.now cmd.now reply.now rows.old known.old).1 }
 {
-    let own = subject(cmd, reply);
     let mut division = None;
-    for index in 0..rows.len() {
+    for index in 0..count {
         first_row(
             &mut rows[index],
             &mut known[index],
@@ -664,7 +663,7 @@ pub(crate) fn first_rows(
             cmd,
             reply,
             now,
-            &own,
+            own,
         );
     }
 }

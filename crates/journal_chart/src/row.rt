@@ -100,7 +100,7 @@ impl Row {
         self.add_view(place, &view);
         match view {
             Some(view) => self.known(place, view.request, view.active),
-            None => self.known(place, 0, 0),
+            None => Known::nothing(),
         }
     }
 
