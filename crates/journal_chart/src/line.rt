@@ -70,8 +70,22 @@ impl Line {
     pub(crate) fn add(&mut self, place: usize, number: u32)
         ensures { self.new ≡ added place (Some number) self.old }
     {
-        if let Some(column) = self.columns.get_mut(place) {
-            *column = column.with(number);
+        self.put(place, number);
+    }
+
+    /// The same: what the column then says, which need not be read again.
+    #[inline(always)]
+    pub(crate) fn put(&mut self, place: usize, number: u32) -> Column
+        ensures line { self.new ≡ added place (Some number) self.old }
+        ensures column { result ≡ at (added place (Some number) self.old) place }
+    {
+        match self.columns.get_mut(place) {
+            Some(column) => {
+                let joined = column.with(number);
+                *column = joined;
+                joined
+            }
+            None => Column::none(),
         }
     }
 

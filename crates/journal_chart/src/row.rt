@@ -122,25 +122,23 @@ impl Row {
         }
     }
 
-    /// Puts into the column at a place what the arena asks for and has, and what it is allotted.
-    pub(crate) fn add_share(&mut self, place: usize, known: &Known, allot: u32)
-        ensures { self.new ≡ shared_row place known.now allot self.old }
-    {
-        self.add_level(place);
-        self.request.add(place, known.request);
-        self.active.add(place, known.active);
-        self.allot.add(place, allot);
-        self.recall.add(place, known.active.saturating_sub(allot));
-        self.hire.add(place, allot.saturating_sub(known.active));
-    }
-
     /// Puts into the column at a place what the arena asks for and has, and what it is allotted: what is then known of it.
     pub(crate) fn tell(&mut self, place: usize, known: &Known, allot: u32) -> Known
         ensures row { self.new ≡ shared_row place known.now allot self.old }
         ensures known { result ≡ known_in place known.now.request known.now.active (shared_row place known.now allot self.old) }
     {
-        self.add_share(place, known, allot);
-        self.known(place, known.request, known.active)
+        let (request, active) = (known.request, known.active);
+        self.add_level(place);
+        self.request.add(place, request);
+        self.active.add(place, active);
+        let allotted = self.allot.put(place, allot).span();
+        let recalled = self.recall.put(place, active.saturating_sub(allot)).span();
+        let hired = self.hire.put(place, allot.saturating_sub(active)).span();
+        Known {
+            request,
+            active,
+            covered: Covered::of(allotted, recalled, hired, active),
+        }
     }
 
     /// Puts into the column of the last moment, at which this was known of the arena, what it asks for and has now, where that changed.
