@@ -15,7 +15,7 @@ use Rattle.journal_chart.specs.Numbering.{AreNumbered, arenas_of}
 use Rattle.journal_chart.specs.Resting.{AreLeft, IsLeft}
 use Rattle.journal_chart.specs.Shares.{Shared}
 use Rattle.journal_chart.specs.Unkept.{IsAlone}
-use Rattle.journal_chart.specs.Steps.{closed_row, is_covered, near_row, seat_row, share_of, stands_kept, subject}
+use Rattle.journal_chart.specs.Steps.{closed_row, is_covered, near_row, own_row, retold, seat_row, share_of, stands_kept, subject}
 
 arena-of : (rows : List Row) (j : ℕ) (d : Row) → get_or (arenas_of rows) j d.arena ≡ (get_or rows j d).arena
 arena-of [] j d = refl
@@ -43,14 +43,26 @@ apart first about own count rows alone numbered left j d inside other = go (case
         let here : IsLeft (Some about) (get_or (drop count rows) (j - count) d) = left (j - count) d there in
         subst (λ (r : Row). is_just r.arena (Some about) ≡ false) is here.other
 
+same-at : (j : ℕ) (rows0 rows : List Row) (d : Row) → drop j rows ≡ drop j rows0 → get_or rows0 j d ≡ get_or rows j d
+same-at j rows0 rows d rest =
+    let at : j + 0 ≡ j = omega arith in
+    ap (λ n. get_or rows0 n d) (sym at) ∙ sym (get_or-drop j rows0 0 d) ∙ ap (λ (rs : List Row). get_or rs 0 d) (sym rest) ∙ get_or-drop j rows 0 d ∙ ap (λ n. get_or rows n d) at
+
 -- the same of rows that are as they were from one on
 pub still-apart : (first about own count : ℕ) (rows0 rows : List Row) → ((index : ℕ) → index < count → first + index ≡ about → index ≡ own) → AreNumbered (Some first) rows0
     → AreLeft count (Some about) rows0 → (j : ℕ) (d : Row) → j < length rows0 → (j ≡ own → ⊥) → drop j rows ≡ drop j rows0 → is_just (get_or rows j d).arena (Some about) ≡ false
 still-apart first about own count rows0 rows alone numbered left j d inside other rest =
-    let at : j + 0 ≡ j = omega arith in
-    let same : get_or rows0 j d ≡ get_or rows j d =
-    ap (λ n. get_or rows0 n d) (sym at) ∙ sym (get_or-drop j rows0 0 d) ∙ ap (λ (rs : List Row). get_or rs 0 d) (sym rest) ∙ get_or-drop j rows 0 d ∙ ap (λ n. get_or rows n d) at in
-    subst (λ (r : Row). is_just r.arena (Some about) ≡ false) same (apart first about own count rows0 alone numbered left j d inside (λ within e. other e))
+    subst (λ (r : Row). is_just r.arena (Some about) ≡ false) (same-at j rows0 rows d rest) (apart first about own count rows0 alone numbered left j d inside (λ within e. other e))
+
+-- the row that is found is told, among rows that are as they were from it on
+pub own-told : (place : ℕ) (s : State) (cmd : Cmd) (reply : Reply) (now : Shared) (kept : List Bool) (first about own : ℕ) (rows0 rows : List Row) (k : Known) → AreNumbered (Some first) rows0
+    → first + own ≡ about → Some about ≡ subject cmd reply → (d : Row) → own < length rows0 → drop own rows ≡ drop own rows0
+    → near_row place s cmd reply now kept (get_or rows own d) k ≡ own_row place s cmd reply now k (get_or rows own d) (retold cmd reply k)
+own-told place s cmd reply now kept first about own rows0 rows k numbered there is d inside rest =
+    let number : (get_or rows own d).arena ≡ about = ap (λ (r : Row). r.arena) (sym (same-at own rows0 rows d rest)) ∙ arena-at first rows0 own d numbered inside ∙ there in
+    let just : is_just (get_or rows own d).arena (Some about) ≡ true = let same : eqb about (get_or rows own d).arena ≡ true = grind (arith, nat_tests) in same in
+    let about_it : is_just (get_or rows own d).arena (subject cmd reply) ≡ true = ap (is_just (get_or rows own d).arena) (sym is) ∙ just in
+    rw about_it refl
 
 -- a command of a seat leaves the other rows as they are
 pub seat-others : (place : ℕ) (s : State) (cmd : Cmd) (reply : Reply) (more : Bool) (now : Shared) (first about own count : ℕ) (rows : List Row)

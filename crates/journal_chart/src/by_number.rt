@@ -9,7 +9,7 @@ ghost use Rattle.journal_chart.specs.Numbering.{AreNumbered};
 ghost use Rattle.journal_chart.specs.Resting.{AreLeft};
 ghost use Rattle.journal_chart.specs.Steps.{near_row, pairwise, seat_row, subject};
 
-use crate::nearby::{near_row, seat_row, settle_other};
+use crate::nearby::{own_row, retold, seat_row, settle_other};
 use crate::numbering::place_of;
 use crate::row::{Known, Row};
 use crate::shares::Shares;
@@ -91,7 +91,8 @@ pub(crate) fn rows_numbered(
     if own == count {
         return;
     }
-    near_row::<true>(
+    let told = retold(cmd, reply, &known[own]);
+    own_row::<true>(
         &mut rows[own],
         &mut known[own],
         place,
@@ -100,8 +101,7 @@ pub(crate) fn rows_numbered(
         cmd,
         reply,
         now,
-        &Some(about),
-        kept,
+        told,
     );
     for index in own + 1..count {
         let row = &mut rows[index];

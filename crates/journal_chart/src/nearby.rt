@@ -264,7 +264,7 @@ fn requested(reply: &Reply, known: &Known) -> Option<Known>
 }
 
 /// What is known of an arena after an entry that is about it, where the reply tells that.
-fn retold(cmd: &Cmd, reply: &Reply, known: &Known) -> Option<Known>
+pub(crate) fn retold(cmd: &Cmd, reply: &Reply, known: &Known) -> Option<Known>
     ensures { result ≡ retold cmd.now reply.now known.now }
 {
     match cmd {
@@ -297,7 +297,7 @@ fn seated(place: usize, more: bool, reply: &Reply, known: &Known, row: &Row) -> 
 /// Takes the moment after an entry into the column of the row of the arena that it is about, which has the moment before, where this is
 /// told of it, and what is then known of the arena: what was known of it before is at hand.
 #[inline(always)]
-fn own_row<const DIVIDED: bool>(
+pub(crate) fn own_row<const DIVIDED: bool>(
     row: &mut Row,
     known: &mut Known,
     place: usize,
@@ -319,8 +319,9 @@ fn own_row<const DIVIDED: bool>(
     };
     let was = *known;
     *known = told;
-    if is_covered_at::<DIVIDED>(now, known, row.stands) {
-        row.add_needs(place, &was, known);
+    // By the copy, of which it is plain that what was not told did not change.
+    if is_covered_at::<DIVIDED>(now, &told, row.stands) {
+        row.add_needs(place, &was, &told);
         return;
     }
     settle_own::<DIVIDED>(row, &was, known, place, market, division, cmd, reply, now);
@@ -358,7 +359,7 @@ fn other_row<const DIVIDED: bool>(
 /// before, and what is then known of its arena. A row to which the moment adds nothing is left as it is.
 // Always in its caller: a call for each row would have more words to hand over than most rows take.
 #[inline(always)]
-pub(crate) fn near_row<const DIVIDED: bool>(
+fn near_row<const DIVIDED: bool>(
     row: &mut Row,
     known: &mut Known,
     place: usize,
