@@ -169,6 +169,8 @@ fn write_entries(text: &mut String, entries: Entries) -> Result<(), AllocError>
 }
 
 /// Writes a number, or the least and the most of several, behind its name.
+// Always in its callers, as what writes a bar is, so that a name of known length is put by a few moves, and not by a call.
+#[inline(always)]
 fn write_range(text: &mut String, name: &str, range: Span) -> Result<(), AllocError>
     ensures { OnOk result (string_bytes text.new ≡ string_bytes text.old ++ (name.now ++ range_text range)) }
 {
@@ -183,6 +185,7 @@ fn write_range(text: &mut String, name: &str, range: Span) -> Result<(), AllocEr
 
 /// Writes a bar behind what closes the path before it and begins its own. What is written behind it closes its own.
 // All that stands between two numbers is one text, since each that is put is a call: a picture has four or five bars a cell.
+#[inline(always)]
 fn write_bar(text: &mut String, head: &str, bar: Bar) -> Result<(), AllocError>
     ensures { OnOk result (string_bytes text.new ≡ string_bytes text.old ++ (head.now ++ bar_text bar)) }
 {
@@ -193,6 +196,7 @@ fn write_bar(text: &mut String, head: &str, bar: Bar) -> Result<(), AllocError>
 }
 
 /// Writes the bar of numbers in the same way.
+#[inline(always)]
 fn write_span(text: &mut String, head: &str, scale: u64, span: Span) -> Result<(), AllocError>
     requires { 0 < scale }
     ensures { OnOk result (string_bytes text.new ≡ string_bytes text.old ++ (head.now ++ bar_text (bar_of scale span))) }
@@ -229,6 +233,7 @@ fn write_ground(text: &mut String, level: Span) -> Result<(), AllocError>
 }
 
 /// Writes an area from the foot of the row to a number.
+#[inline(always)]
 fn write_foot(text: &mut String, head: &str, scale: u64, number: u32) -> Result<(), AllocError>
     requires { 0 < scale }
     ensures { OnOk result (string_bytes text.new ≡ string_bytes text.old ++ (head.now ++ foot_text scale number)) }
@@ -262,6 +267,7 @@ fn write_bars(text: &mut String, scale: u64, request: Span, active: Span) -> Res
 }
 
 /// Writes a mark at a height, where there are some.
+#[inline(always)]
 fn write_mark(text: &mut String, head: &str, y: u64, some: u32) -> Result<(), AllocError>
     ensures { OnOk result (string_bytes text.new ≡ string_bytes text.old ++ mark_text head.now y some) }
 {

@@ -109,19 +109,21 @@ fn write_row(
     text.push_str("</g>\n")
 }
 
-/// Writes the rows at a level, one below the other.
+/// Writes the rows at a level, one below the other: where they end.
 fn write_rows(
     text: &mut String,
     sheet: Sheet,
     level: u32,
     y: u64,
     rows: &[Row],
-) -> Result<(), AllocError>
+) -> Result<u64, AllocError>
     requires wide { 0 < sheet.width }
     requires countable { sheet.before + sheet.moments < 2 ^ 64 }
     requires few { length rows.now < 2 ^ 32 }
     requires low { y < 2 ^ 48 }
-    ensures { OnOk result (string_bytes text.new ≡ string_bytes text.old ++ rows_text sheet level y rows.now) }
+    ensures written { OnOk result (string_bytes text.new ≡ string_bytes text.old ++ rows_text sheet level y rows.now) }
+    ensures end { IfOk result (λ end. end ≡ rows_end level y rows.now) }
+    ensures low { IfOk result (λ end. end ≤ y + 40 * 2 ^ 32) }
 {
     let mut below = y;
     for row in rows {
@@ -131,7 +133,7 @@ fn write_rows(
         write_row(text, sheet, level, below, row)?;
         below += 40;
     }
-    Ok(())
+    Ok(below)
 }
 
 /// How many rows there are at a level.
@@ -182,8 +184,7 @@ fn write_levels(text: &mut String, sheet: Sheet, rows: &[Row]) -> Result<(), All
         if level >= top {
             continue;
         }
-        write_rows(text, sheet, level + 1, y, rows)?;
-        y = rows_end(rows, level + 1, y);
+        y = write_rows(text, sheet, level + 1, y, rows)?;
     }
     Ok(())
 }

@@ -25,7 +25,7 @@ pub loop-level-preserved : goal.loop-level-preserved
 loop-level-preserved c =
     record {
       written =
-          levels_text-more c.args.sheet c.args.rows.now c.loop-level.level _ _ _ _ c.loop-level.invariant.height c.loop-level.invariant.written c.in_ok-write_rows.ensures;
-      height = c.rows_end-y.ensures.exact ∙ levels_end-more c.args.rows.now c.loop-level.level _ c.loop-level.invariant.height;
-      low = omega (arith, c.rows_end-y.ensures.low, c.loop-level.invariant.low);
+          levels_text-more c.args.sheet c.args.rows.now c.loop-level.level _ _ _ _ c.loop-level.invariant.height c.loop-level.invariant.written c.in_ok-y.ensures.written;
+      height = c.in_ok-y.ensures.end ∙ levels_end-more c.args.rows.now c.loop-level.level _ c.loop-level.invariant.height;
+      low = omega (arith, c.in_ok-y.ensures.low, c.loop-level.invariant.low);
     }
