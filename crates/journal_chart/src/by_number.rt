@@ -1,20 +1,52 @@
 //! The rows of a chart whose arenas are numbered one after another, at a moment that goes into the column of the last: the row of the arena that an
 //! entry is about is found by its number, so that no other asks whether it is that one.
-ghost use Rattle.std.specs.Prelude.{◌≡◌, ◌-◌, ◌*◌, ◌<◌, ◌≤◌, Bool, List, Some, drop, false, length, slice_index};
-ghost use Rattle.market_types.specs.Allotment.{is_just};
+ghost use Rattle.std.specs.Prelude.{◌≡◌, ◌-◌, ◌*◌, ◌<◌, ◌≤◌, Bool, List, Some, drop, false, length, slice_index, unwrap_or};
+ghost use Rattle.market_types.specs.Allotment.{allotment_of, assigned, demand, is_just, limit_of};
 ghost use Rattle.market_types.specs.declared.command.Cmd.{Cmd};
 ghost use Rattle.market_types.specs.declared.reply.Reply.{Reply};
 ghost use Rattle.journal_chart.specs.Unkept.{IsAlone};
 ghost use Rattle.journal_chart.specs.Numbering.{AreNumbered};
 ghost use Rattle.journal_chart.specs.Resting.{AreLeft};
-ghost use Rattle.journal_chart.specs.Steps.{near_row, pairwise, seat_row, subject};
+ghost use Rattle.journal_chart.specs.Shares.{shared_of};
+ghost use Rattle.journal_chart.specs.Covering.{exactly};
+ghost use Rattle.journal_chart.specs.Steps.{closed_row, near_row, pairwise, seat_row, subject};
 
-use crate::nearby::{own_row, retold, seat_row, settle_other};
+use crate::covered::exactly;
+use crate::nearby::{has_share, own_row, retold, seat_row};
 use crate::numbering::place_of;
 use crate::row::{Known, Row};
 use crate::shares::Shares;
 use market_core::Market;
 use market_types::{ArenaId, Cmd, Level, Reply};
+
+/// Takes the moment after an entry, which is about another arena, into the column of the last moment, of an arena of a level that is given this of
+/// what it asks for. A row whose column has what the arena is allotted is left as it is.
+// By what the level is given, so that the market need not reckon that anew for each arena that it is asked about.
+#[inline(never)]
+fn settle_given(
+    row: &mut Row,
+    known: &mut Known,
+    place: usize,
+    market: &Market,
+    level: Level,
+    given: u64,
+    asked: u64,
+)
+    requires some { 0 < limit_of market.now }
+    requires within { given ≤ asked }
+    requires small { asked ≤ 1024 * 65535 }
+    requires given { level ≤ market.now.levels → given ≡ assigned market.now level }
+    requires asked { level ≤ market.now.levels → asked ≡ demand market.now level }
+    ensures { (cmd : Cmd) (reply : Reply) → (row.new, known.new) ≡ closed_row place market.now cmd reply known.old row.old row.old (Some (unwrap_or (exactly known.old.request given asked) (allotment_of market.now row.old.arena))) }
+{
+    let share = match exactly(known.request, given, asked) {
+        Some(share) => share,
+        None => market.allotment_at(row.arena, level, given, asked),
+    };
+    if !has_share(known, share) {
+        *known = row.tell(place, known, share);
+    }
+}
 
 /// Takes the moment after an entry into the column of the last moment, of the row of another arena than the one that the entry is about, and what is
 /// then known of its arena, where this level alone is not kept, some worker may be active, and this is what the level is given of what it asks
@@ -31,10 +63,11 @@ fn level_row(
     asked: u64,
 )
     requires found { 0 < now.now.limit }
+    requires shares { now.now ≡ shared_of market.now }
     requires some { 0 < asked }
     requires given { given ≡ slice_index now.now.given (level - 1) }
     requires asked { asked ≡ slice_index now.now.asked (level - 1) }
-    requires within { given ≤ 1024 * 65535 }
+    requires within { given ≤ asked }
     requires small { asked ≤ 1024 * 65535 }
     ensures { (cmd : Cmd) (reply : Reply) (kept : List Bool) → IsAlone kept level → is_just row.old.arena (subject cmd reply) ≡ false → (row.new, known.new) ≡ near_row place market.now cmd reply now.now kept row.old known.old }
 {
@@ -46,7 +79,7 @@ fn level_row(
         return;
     }
     if !known.covered.covers_some(known.request, given, asked) {
-        settle_other::<true>(row, known, place, market, &mut None, now, level);
+        settle_given(row, known, place, market, level, given, asked);
     }
 }
 
@@ -69,6 +102,7 @@ pub(crate) fn rows_numbered(
     level: Level,
 )
     requires found { 0 < now.now.limit }
+    requires shares { now.now ≡ shared_of market.now }
     requires each { length known.old ≡ length rows.old }
     requires about { Some about ≡ subject cmd.now reply.now }
     requires within { count ≤ length rows.old }

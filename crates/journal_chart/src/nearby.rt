@@ -43,7 +43,7 @@ fn is_divided<const DIVIDED: bool>(now: &Shares, level: Level) -> bool
 
 /// Nothing is added to the column of an arena of which this is known, if it is allotted so many workers.
 #[inline]
-fn has_share(known: &Known, share: u32) -> bool
+pub(crate) fn has_share(known: &Known, share: u32) -> bool
     ensures { result ≡ has_share known.now share }
 {
     known.covered.from <= share && share < known.covered.below
@@ -102,8 +102,8 @@ fn stands_kept(kept: &[bool; 8], stands: Option<Level>) -> bool
     }
 }
 
-/// What the market allots an arena, where many are asked about at a moment, or no worker may be active, since each division then looks for the
-/// arena whose enqueued work is served. The workers are divided once for all.
+/// What the market allots an arena where no worker may be active, since each division then looks for the arena whose enqueued work is served. The
+/// workers are divided once for all that are asked about at a moment.
 fn allotted(market: &Market, division: &mut Option<Division>, arena: ArenaId) -> u32
     requires { IfSome division.old (IsDivisionOf market.now) }
     ensures exact { result ≡ allotment_of market.now arena }
@@ -133,7 +133,8 @@ fn told_share<const DIVIDED: bool>(now: &Shares, known: &Known, level: Level) ->
 }
 
 /// What an arena of a level is allotted, of which this is known. The market is asked where it is told neither by what the level is given, nor
-/// by that none is given any: of the arena alone where some worker may be active, since most often one is asked about at a moment.
+/// by that none is given any: of the arena alone where some worker may be active, since most often one is asked about at a moment. Where whoever
+/// calls knows that what the levels are given is what this market gives them (`DIVIDED`), it need not reckon that anew.
 fn share_of<const DIVIDED: bool>(
     market: &Market,
     division: &mut Option<Division>,
@@ -143,18 +144,20 @@ fn share_of<const DIVIDED: bool>(
     level: Level,
 ) -> u32
     requires found { DIVIDED ≡ true → 0 < now.now.limit }
+    requires shares { DIVIDED ≡ true → now.now ≡ shared_of market.now }
     requires divided { IfSome division.old (IsDivisionOf market.now) }
     ensures exact { result ≡ share_of market.now now.now known.now arena level }
     ensures divided { IfSome division.new (IsDivisionOf market.now) }
 {
     match told_share::<DIVIDED>(now, known, level) {
         Some(share) => share,
-        None if DIVIDED || now.limit() > 0 => market.allotment(arena),
+        None if DIVIDED => market.allotment_at(arena, level, now.given(level), now.asked(level)),
+        None if now.limit() > 0 => market.allotment(arena),
         None => allotted(market, division, arena),
     }
 }
 
-/// The same where all arenas are asked about at a moment.
+/// The same where what the levels are given is what this market gives them, whether any worker may be active or not.
 fn share_among(
     market: &Market,
     division: &mut Option<Division>,
@@ -163,12 +166,19 @@ fn share_among(
     arena: ArenaId,
     level: Level,
 ) -> u32
-    requires { IfSome division.old (IsDivisionOf market.now) }
+    requires shares { now.now ≡ shared_of market.now }
+    requires divided { IfSome division.old (IsDivisionOf market.now) }
     ensures exact { result ≡ share_of market.now now.now known.now arena level }
     ensures divided { IfSome division.new (IsDivisionOf market.now) }
 {
     match told_share::<false>(now, known, level) {
         Some(share) => share,
+        None if now.limit() > 0 => market.allotment_at(
+            arena,
+            level,
+            now.given(level),
+            now.asked(level),
+        ),
         None => allotted(market, division, arena),
     }
 }
@@ -184,6 +194,7 @@ fn settle(
     division: &mut Option<Division>,
     now: &Shares,
 )
+    requires shares { now.now ≡ shared_of market.now }
     requires divided { IfSome division.old (IsDivisionOf market.now) }
     ensures exact { (cmd : Cmd) (reply : Reply) → (row.new, known.new) ≡ settled_row place market.now cmd reply now.now known.old row.old }
     ensures divided { IfSome division.new (IsDivisionOf market.now) }
@@ -197,7 +208,7 @@ fn settle(
 /// The same in the column of the last moment, of an arena of a level, where the entry is not about it. A row whose column has what the arena is
 /// allotted is left as it is.
 #[inline(never)]
-pub(crate) fn settle_other<const DIVIDED: bool>(
+fn settle_other<const DIVIDED: bool>(
     row: &mut Row,
     known: &mut Known,
     place: usize,
@@ -207,6 +218,7 @@ pub(crate) fn settle_other<const DIVIDED: bool>(
     level: Level,
 )
     requires found { DIVIDED ≡ true → 0 < now.now.limit }
+    requires shares { DIVIDED ≡ true → now.now ≡ shared_of market.now }
     requires divided { IfSome division.old (IsDivisionOf market.now) }
     ensures exact { (cmd : Cmd) (reply : Reply) → (row.new, known.new) ≡ closed_row place market.now cmd reply known.old row.old row.old (Some (share_of market.now now.now known.old row.old.arena level)) }
     ensures divided { IfSome division.new (IsDivisionOf market.now) }
@@ -232,6 +244,7 @@ fn settle_own<const DIVIDED: bool>(
     now: &Shares,
 )
     requires found { DIVIDED ≡ true → 0 < now.now.limit }
+    requires shares { DIVIDED ≡ true → now.now ≡ shared_of market.now }
     requires divided { IfSome division.old (IsDivisionOf market.now) }
     ensures exact { (row.new, known.new) ≡ closed_row place market.now cmd.now reply.now known.old row.old (needing_row place was.now known.old row.old) (option_map (share_of market.now now.now known.old row.old.arena) row.old.stands) }
     ensures divided { IfSome division.new (IsDivisionOf market.now) }
@@ -309,6 +322,7 @@ pub(crate) fn own_row<const DIVIDED: bool>(
     told: Option<Known>,
 )
     requires found { DIVIDED ≡ true → 0 < now.now.limit }
+    requires shares { DIVIDED ≡ true → now.now ≡ shared_of market.now }
     requires divided { IfSome division.old (IsDivisionOf market.now) }
     ensures exact { (row.new, known.new) ≡ own_row place market.now cmd.now reply.now now.now known.old row.old told }
     ensures divided { IfSome division.new (IsDivisionOf market.now) }
@@ -339,6 +353,7 @@ fn other_row<const DIVIDED: bool>(
     kept: &[bool; 8],
 )
     requires found { DIVIDED ≡ true → 0 < now.now.limit }
+    requires shares { DIVIDED ≡ true → now.now ≡ shared_of market.now }
     requires divided { IfSome division.old (IsDivisionOf market.now) }
     ensures exact { (cmd : Cmd) (reply : Reply) → is_just row.old.arena (subject cmd reply) ≡ false → (row.new, known.new) ≡ near_row place market.now cmd reply now.now kept.now row.old known.old }
     ensures divided { IfSome division.new (IsDivisionOf market.now) }
@@ -372,6 +387,7 @@ fn near_row<const DIVIDED: bool>(
     kept: &[bool; 8],
 )
     requires found { DIVIDED ≡ true → 0 < now.now.limit }
+    requires shares { DIVIDED ≡ true → now.now ≡ shared_of market.now }
     requires divided { IfSome division.old (IsDivisionOf market.now) }
     requires about { about.now ≡ subject cmd.now reply.now }
     ensures exact { (row.new, known.new) ≡ near_row place market.now cmd.now reply.now now.now kept.now row.old known.old }
@@ -401,6 +417,7 @@ fn rows_about<const DIVIDED: bool>(
     kept: &[bool; 8],
 )
     requires found { DIVIDED ≡ true → 0 < now.now.limit }
+    requires shares { DIVIDED ≡ true → now.now ≡ shared_of market.now }
     requires each { length known.old ≡ length rows.old }
     requires about { about.now ≡ subject cmd.now reply.now }
     requires within { count ≤ length rows.old }
@@ -448,6 +465,7 @@ fn each_row(
     requires left { AreLeft count (subject cmd.now reply.now) rows.old }
     requires numbered { AreNumbered first rows.old }
     requires unkept { AreUnkept kept.now unkept }
+    requires shares { now.now ≡ shared_of market.now }
     ensures rows { rows.new ≡ (pairwise (near_row place market.now cmd.now reply.now now.now kept.now) rows.old known.old).0 }
     ensures known { known.new ≡ (pairwise (near_row place market.now cmd.now reply.now now.now kept.now) rows.old known.old).1 }
     ensures rest { drop count rows.new ≡ drop count rows.old }
@@ -620,6 +638,7 @@ fn first_row(
     now: &Shares,
     own: &Option<ArenaId>,
 )
+    requires shares { now.now ≡ shared_of market.now }
     requires divided { IfSome division.old (IsDivisionOf market.now) }
     requires own { own.now ≡ subject cmd.now reply.now }
     ensures exact { (row.new, known.new) ≡ first_row place market.now cmd.now reply.now now.now row.old known.old }

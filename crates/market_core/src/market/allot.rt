@@ -316,6 +316,35 @@ impl Market {
         self.carried_to(stored, division.share_at(stored.level()), &mut visits)
     }
 
+    /// How many workers an arena is allotted, where some worker may be active and a level is assigned `given` of the `asked` workers that it asks
+    /// for, as `assigned` and `demand` tell; none where no living arena has this number. It is what `allotment` tells, which looks at the limit and
+    /// at the other levels for it: where the arena is at this level, it takes half the time. It takes no memory.
+    // Always in its callers, which ask for nothing else: a call would save and restore a tenth of what it does.
+    #[inline(always)]
+    pub fn allotment_at(&self, arena: ArenaId, level: Level, given: u64, asked: u64) -> u32
+        requires some { 0 < limit_of self.now }
+        requires given { level ≤ self.now.levels → given ≡ assigned self.now level }
+        requires asked { level ≤ self.now.levels → asked ≡ demand self.now level }
+        ensures { result ≡ allotment_of self.now arena }
+    {
+        self.arenas.stand_once();
+        match self.arenas.get(arena) {
+            Some(stored) if stored.level() == level => {
+                self.arenas_are_leveled();
+                bound_is_given_out();
+                // That a level asks for few workers is what this call promises.
+                let _ = self.demand(level);
+                let part = LevelShare {
+                    assigned: given,
+                    demand: asked,
+                };
+                let mut visits = 0;
+                self.carried_to(stored, part, &mut visits)
+            }
+            _ => self.allotment(arena),
+        }
+    }
+
     /// How many workers an arena is allotted; none where no living arena has this number. It is what `view` tells of it, in less time, and
     /// takes no memory.
     pub fn allotment(&self, arena: ArenaId) -> u32

@@ -1,10 +1,13 @@
-use Rattle.std.specs.Prelude.{nat_le, nat_lt}
-use Rattle.std.proofs.Common.{◌≡◌, Some, true, false, refl, sym, ap, ◌∙◌, arith}
+use Rattle.std.specs.Prelude.{nat_le, nat_lt, slice_index, unwrap_or}
+use Rattle.std.proofs.Common.{◌≡◌, ◌-◌, ◌<◌, Some, true, false, refl, sym, ap, ◌∙◌, arith, subst}
 use Rattle.std.proofs.lemmas.Bool.{le-leb}
 use Rattle.std.proofs.lemmas.Bool.Decides.{nat_tests}
-use Rattle.journal_chart.specs.Covering.{covers}
-use Rattle.journal_chart.specs.Steps.{is_covered, stands_kept}
+use Rattle.market_types.specs.Allotment.{allotment_of}
+use Rattle.journal_chart.specs.Covering.{covers, exactly}
+use Rattle.journal_chart.specs.Shares.{Shared}
+use Rattle.journal_chart.specs.Steps.{closed_row, is_covered, share_of, stands_kept}
 use Rattle.journal_chart.proofs.Numbered.{other-level, other-row}
+use Rattle.journal_chart.proofs.Sharing.{shared-asked, shared-given}
 use Rattle.journal_chart.proofs.by_number.level_row.Goals as goal
 
 pub returns-then-index : goal.returns-then-index
@@ -26,5 +29,22 @@ returns-then-not-covers_some c cmd reply kept alone other =
     let moved : stands_kept kept c.args.row.now.stands ≡ false = ap (stands_kept kept) at ∙ rw (low, alone.open_) refl in
     let uncovered : is_covered now known level ≡ false =
     rw (any, low, high) ((λ i. covers known.covered known.request (sym c.requires.given i) (sym c.requires.asked i)) ∙ sym c.covers_some.ensures ∙ c.if-not-covers_some.true) in
-    c.settle_other.ensures.exact cmd reply
+    let told : unwrap_or (exactly known.request c.args.given c.args.asked) (allotment_of c.args.market.now c.args.row.now.arena) ≡ share_of c.args.market.now now known c.args.row.now.arena level =
+    (λ i. unwrap_or (exactly known.request (c.requires.given i) (c.requires.asked i)) (allotment_of c.args.market.now c.args.row.now.arena)) ∙ sym (rw (any, low, high) refl) in
+    c.settle_given.ensures cmd reply
+    ∙ ap (λ share. closed_row c.args.place c.args.market.now cmd reply known c.args.row.now c.args.row.now (Some share)) told
     ∙ sym (other-row c.args.place c.args.market.now cmd reply now kept c.args.row.now known level other moved at uncovered)
+
+-- what the level is given is what the market gives it
+pub settle_given-requires-clause-some : goal.settle_given-requires-clause-some
+settle_given-requires-clause-some c = subst (λ (n : Shared). 0 < n.limit) c.requires.shares c.requires.found
+
+pub settle_given-requires-clause-given : goal.settle_given-requires-clause-given
+settle_given-requires-clause-given c = λ within.
+    c.requires.given ∙ ap (λ (n : Shared). slice_index n.given (c.args.level - 1)) c.requires.shares
+    ∙ shared-given c.args.market.now c.args.level (omega (arith, c.index-2.ensures.exact)) (omega (arith, c.index-2.ensures.exact, c.index-2.ensures.high)) within
+
+pub settle_given-requires-clause-asked : goal.settle_given-requires-clause-asked
+settle_given-requires-clause-asked c = λ within.
+    c.requires.asked ∙ ap (λ (n : Shared). slice_index n.asked (c.args.level - 1)) c.requires.shares
+    ∙ shared-asked c.args.market.now c.args.level (omega (arith, c.index-2.ensures.exact)) (omega (arith, c.index-2.ensures.exact, c.index-2.ensures.high)) within
