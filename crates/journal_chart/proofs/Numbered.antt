@@ -1,5 +1,5 @@
 -- The row of an arena among rows whose arenas are numbered one after another.
-use Rattle.std.proofs.Common.{◌≡◌, ℕ, ◌+◌, ◌-◌, ◌<◌, ◌≤◌, ◌⊎◌, zero, suc, Bool, false, true, eqb, List, [], ◌∷◌, Option, Some, length, drop, get_or, refl, sym, ap, ◌∙◌, subst, arith, inl, inr}
+use Rattle.std.proofs.Common.{◌≡◌, ℕ, ◌+◌, ◌-◌, ◌<◌, ◌≤◌, ◌⊎◌, zero, suc, Bool, false, true, eqb, List, [], ◌∷◌, Option, None, Some, length, drop, get_or, refl, sym, ap, ◌∙◌, subst, arith, inl, inr}
 use Rattle.std.specs.Prelude.{nat_le}
 use Rattle.std.proofs.lemmas.Bool.{cases_lt, le-leb}
 use Rattle.std.proofs.lemmas.Bool.Decides.{nat_tests}
@@ -14,7 +14,8 @@ use Rattle.journal_chart.specs.declared.row.Known.{Known}
 use Rattle.journal_chart.specs.Numbering.{AreNumbered, arenas_of}
 use Rattle.journal_chart.specs.Resting.{AreLeft, IsLeft}
 use Rattle.journal_chart.specs.Shares.{Shared}
-use Rattle.journal_chart.specs.Unkept.{IsAlone}
+use Rattle.journal_chart.specs.declared.unkept.Unkept.TheVariants.{Nowhere}
+use Rattle.journal_chart.specs.Unkept.{AreAtLevels, AreUnkept, IsAlone, IsAtLevel}
 use Rattle.journal_chart.specs.Steps.{closed_row, is_covered, near_row, own_row, retold, seat_row, share_of, stands_kept, subject}
 
 arena-of : (rows : List Row) (j : ℕ) (d : Row) → get_or (arenas_of rows) j d.arena ≡ (get_or rows j d).arena
@@ -73,6 +74,26 @@ seat-others place s cmd reply more now first about own count rows alone numbered
     let none : is_just (get_or rows j d).arena (subject cmd reply) ≡ false =
     ap (is_just (get_or rows j d).arena) (sym is) ∙ apart first about own count rows alone numbered left' j d inside other in
     rw none refl
+
+-- an arena that stands at a level, or nowhere, is allotted what it was where all levels are kept
+stands-kept : (kept : List Bool) → AreUnkept kept Nowhere → (o : Option ℕ) → IsAtLevel o → stands_kept kept o ≡ true
+stands-kept kept all None h = refl
+stands-kept kept all (Some level) h =
+    let some : nat_le 1 level ≡ true = le-leb 1 level h.0 in
+    let held : get_or kept (level - 1) false ≡ true = all (level - 1) (omega (arith, h.0, h.1)) in
+    rw (some, held) refl
+
+-- a moment after which all levels are kept leaves the other rows as they are
+pub kept-others : (place : ℕ) (s : State) (cmd : Cmd) (reply : Reply) (now : Shared) (kept : List Bool) (first about own count : ℕ) (rows : List Row)
+    → ((index : ℕ) → index < count → first + index ≡ about → index ≡ own) → AreNumbered (Some first) rows → AreLeft count (subject cmd reply) rows → Some about ≡ subject cmd reply
+    → AreUnkept kept Nowhere → AreAtLevels rows
+    → (j : ℕ) (d : Row) → j < length rows → (j < count → j ≡ own → ⊥) → (k : Known) → near_row place s cmd reply now kept (get_or rows j d) k ≡ (get_or rows j d, k)
+kept-others place s cmd reply now kept first about own count rows alone numbered left is all levels j d inside other k =
+    let left' : AreLeft count (Some about) rows = subst (λ (o : Option ℕ). AreLeft count o rows) (sym is) left in
+    let none : is_just (get_or rows j d).arena (subject cmd reply) ≡ false =
+    ap (is_just (get_or rows j d).arena) (sym is) ∙ apart first about own count rows alone numbered left' j d inside other in
+    let held : stands_kept kept (get_or rows j d).stands ≡ true = stands-kept kept all (get_or rows j d).stands (levels j d inside) in
+    rw (none, held) refl
 
 -- a row that is neither told nor left
 pub other-row : (place : ℕ) (s : State) (cmd : Cmd) (reply : Reply) (now : Shared) (kept : List Bool) (r : Row) (k : Known) (level : ℕ)

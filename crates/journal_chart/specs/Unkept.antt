@@ -1,5 +1,7 @@
 -- Of which levels the arenas may be allotted something else. Private functions alone cite these words.
-use Rattle.std.specs.Prelude.{◌≡◌, ℕ, zero, suc, ◌+◌, ◌-◌, ◌<◌, ◌≤◌, Bool, List, false, get_or, true}
+use Rattle.std.specs.Prelude.{◌≡◌, ℕ, zero, suc, ◌+◌, ◌-◌, ◌<◌, ◌≤◌, Bool, List, false, get_or, true, Option, None, Some}
+use Rattle.std.specs.List.{All}
+use Rattle.journal_chart.specs.declared.row.Row.{Row}
 use Rattle.journal_chart.specs.declared.unkept.Unkept.{Unkept}
 use Rattle.journal_chart.specs.declared.unkept.Unkept.TheVariants.{Nowhere, At, Anywhere}
 
@@ -19,3 +21,12 @@ abbrev pub unkept_of : ℕ → ℕ → Unkept
 unkept_of zero last = Nowhere
 unkept_of (suc zero) last = At (last + 1)
 unkept_of (suc (suc more)) last = Anywhere
+
+-- an arena stands at one of eight levels, or nowhere
+abbrev pub IsAtLevel : Option ℕ → Type 0
+IsAtLevel None = Unit {0}
+IsAtLevel (Some level) = (1 ≤ level) × (level ≤ 8)
+
+-- so do those of all rows
+abbrev pub AreAtLevels : List Row → Type 0
+AreAtLevels rows = All (λ (r : Row). IsAtLevel r.stands) rows

@@ -1,10 +1,12 @@
 //! The rows of a chart whose arenas are numbered one after another, at a moment that goes into the column of the last: the row of the arena that an
-//! entry is about is found by its number, so that no other asks whether it is that one.
+//! entry is about is found by its number, so that no other asks whether it is that one, and none is looked at where no level's arenas are allotted
+//! anything else.
 ghost use Rattle.std.specs.Prelude.{◌≡◌, ◌-◌, ◌*◌, ◌<◌, ◌≤◌, Bool, List, Some, drop, false, length, slice_index, unwrap_or};
 ghost use Rattle.market_types.specs.Allotment.{allotment_of, assigned, demand, is_just, limit_of};
 ghost use Rattle.market_types.specs.declared.command.Cmd.{Cmd};
 ghost use Rattle.market_types.specs.declared.reply.Reply.{Reply};
-ghost use Rattle.journal_chart.specs.Unkept.{IsAlone};
+ghost use Rattle.journal_chart.specs.Unkept.{AreAtLevels, AreUnkept, IsAlone, IsAtLevel};
+ghost use Rattle.journal_chart.specs.declared.unkept.Unkept.{Unkept};
 ghost use Rattle.journal_chart.specs.Numbering.{AreNumbered};
 ghost use Rattle.journal_chart.specs.Resting.{AreLeft};
 ghost use Rattle.journal_chart.specs.Shares.{shared_of};
@@ -142,6 +144,75 @@ pub(crate) fn rows_numbered(
         let known = &mut known[index];
         level_row(row, known, place, market, now, level, given, asked);
     }
+}
+
+/// An arena stands at one of eight levels, or nowhere. This does nothing: what it ensures holds wherever it is called.
+#[inline(always)]
+fn is_at_level(stands: Option<Level>)
+    ensures { IsAtLevel stands }
+{
+    if let Some(level) = stands {
+        // That there are 8 levels at most is what this call promises.
+        let _ = level.index();
+    }
+}
+
+/// So do the arenas of all rows. This does nothing, too.
+// Nothing is left of the loop once it is compiled.
+#[inline(always)]
+fn are_at_levels(rows: &[Row])
+    ensures { AreAtLevels rows.now }
+{
+    for index in 0..rows.len() {
+        is_at_level(rows[index].stands);
+    }
+}
+
+/// Takes the moment after an entry about this arena into the column of its row, and what is then known of it, where some worker may be active, and
+/// all levels are kept. The other rows are left as they are, and none of them is looked at.
+#[inline(always)]
+pub(crate) fn own_row_numbered(
+    rows: &mut [Row],
+    known: &mut [Known],
+    count: usize,
+    first: u32,
+    place: usize,
+    market: &Market,
+    cmd: &Cmd,
+    reply: &Reply,
+    now: &Shares,
+    about: ArenaId,
+    kept: &[bool; 8],
+)
+    requires found { 0 < now.now.limit }
+    requires shares { now.now ≡ shared_of market.now }
+    requires each { length known.old ≡ length rows.old }
+    requires about { Some about ≡ subject cmd.now reply.now }
+    requires within { count ≤ length rows.old }
+    requires left { AreLeft count (subject cmd.now reply.now) rows.old }
+    requires numbered { AreNumbered (Some first) rows.old }
+    requires kept { AreUnkept kept.now Unkept.Nowhere }
+    ensures rows { rows.new ≡ (pairwise (near_row place market.now cmd.now reply.now now.now kept.now) rows.old known.old).0 }
+    ensures known { known.new ≡ (pairwise (near_row place market.now cmd.now reply.now now.now kept.now) rows.old known.old).1 }
+    ensures rest { drop count rows.new ≡ drop count rows.old }
+{
+    are_at_levels(rows);
+    let own = place_of(first, count, about);
+    if own == count {
+        return;
+    }
+    let told = retold(cmd, reply, &known[own]);
+    own_row::<true>(
+        &mut rows[own],
+        &mut known[own],
+        place,
+        market,
+        &mut None,
+        cmd,
+        reply,
+        now,
+        told,
+    );
 }
 
 /// Takes the moment into the column of the row of the arena that the entry is about, and what is then known of it, where one more seat is

@@ -12,7 +12,7 @@ ghost use Rattle.journal_chart.specs.Resting.{AreLeft};
 ghost use Rattle.journal_chart.specs.Shares.{shared_of};
 ghost use Rattle.journal_chart.specs.Steps.{after_seat, closed_row, each_row, first_row, first_rows, has_few, has_share, is_covered, is_covered_at, is_divided, is_idle, kept_levels, known_rows, near_row, needing_row, own_row, pairwise, requested, retold, seat_row, seat_rows, seated, settled_row, share_of, stands_kept, subject, taken_row};
 
-use crate::by_number::{rows_numbered, seat_row_numbered};
+use crate::by_number::{own_row_numbered, rows_numbered, seat_row_numbered};
 use crate::covered::{Covered, exactly};
 use crate::row::{Known, Row};
 use crate::shares::Shares;
@@ -443,8 +443,51 @@ fn rows_about<const DIVIDED: bool>(
     }
 }
 
-/// The same of whatever the entry is about, and whatever levels are kept: all but one, if there is one alone.
+/// The same of whatever the entry is about.
 // By cases, so that no row has to ask whether the entry is about any arena, nor whether any worker may be active.
+#[inline(always)]
+fn rows_of_any_level(
+    rows: &mut [Row],
+    known: &mut [Known],
+    count: usize,
+    place: usize,
+    market: &Market,
+    cmd: &Cmd,
+    reply: &Reply,
+    now: &Shares,
+    about: &Option<ArenaId>,
+    kept: &[bool; 8],
+)
+    requires each { length known.old ≡ length rows.old }
+    requires about { about.now ≡ subject cmd.now reply.now }
+    requires within { count ≤ length rows.old }
+    requires left { AreLeft count (subject cmd.now reply.now) rows.old }
+    requires shares { now.now ≡ shared_of market.now }
+    ensures rows { rows.new ≡ (pairwise (near_row place market.now cmd.now reply.now now.now kept.now) rows.old known.old).0 }
+    ensures known { known.new ≡ (pairwise (near_row place market.now cmd.now reply.now now.now kept.now) rows.old known.old).1 }
+    ensures rest { drop count rows.new ≡ drop count rows.old }
+{
+    match about {
+        Some(arena) if now.limit() > 0 => rows_about::<true>(
+            rows,
+            known,
+            count,
+            place,
+            market,
+            cmd,
+            reply,
+            now,
+            &Some(*arena),
+            kept,
+        ),
+        _ => rows_about::<false>(
+            rows, known, count, place, market, cmd, reply, now, about, kept,
+        ),
+    }
+}
+
+/// The same of whatever levels are kept: where all are, or all but one, the row of an arena is found by its number, if that is to be had.
+// By what is not kept before all else, since the last step has just told it.
 fn each_row(
     rows: &mut [Row],
     known: &mut [Known],
@@ -470,28 +513,31 @@ fn each_row(
     ensures known { known.new ≡ (pairwise (near_row place market.now cmd.now reply.now now.now kept.now) rows.old known.old).1 }
     ensures rest { drop count rows.new ≡ drop count rows.old }
 {
-    match about {
-        Some(arena) if now.limit() > 0 => match (first, unkept) {
-            (Some(first), Unkept::At(level)) if now.asked(level) > 0 => rows_numbered(
-                rows, known, count, first, place, market, cmd, reply, now, *arena, kept, level,
-            ),
-            _ => rows_about::<true>(
-                rows,
-                known,
-                count,
-                place,
-                market,
-                cmd,
-                reply,
-                now,
-                &Some(*arena),
-                kept,
-            ),
-        },
-        _ => rows_about::<false>(
-            rows, known, count, place, market, cmd, reply, now, about, kept,
-        ),
+    match unkept {
+        Unkept::Nowhere => {
+            if let (Some(first), Some(arena)) = (first, about) {
+                if now.limit() > 0 {
+                    return own_row_numbered(
+                        rows, known, count, first, place, market, cmd, reply, now, *arena, kept,
+                    );
+                }
+            }
+        }
+        Unkept::At(level) => {
+            if let (Some(first), Some(arena)) = (first, about) {
+                if now.limit() > 0 && now.asked(level) > 0 {
+                    return rows_numbered(
+                        rows, known, count, first, place, market, cmd, reply, now, *arena, kept,
+                        level,
+                    );
+                }
+            }
+        }
+        Unkept::Anywhere => {}
     }
+    rows_of_any_level(
+        rows, known, count, place, market, cmd, reply, now, about, kept,
+    );
 }
 
 /// Takes the moment after a command and its reply, which are about one arena, into the column of all rows at a place, which has the moment
