@@ -317,9 +317,9 @@ impl Market {
     }
 
     /// How many workers an arena is allotted, where some worker may be active and a level is assigned `given` of the `asked` workers that it asks
-    /// for, as `assigned` and `demand` tell; none where no living arena has this number. It is what `allotment` tells, which looks at the limit and
-    /// at the other levels for it: where the arena is at this level, it takes half the time. It takes no memory.
-    // Always in its callers, which ask for nothing else: a call would save and restore a tenth of what it does.
+    /// for, as `assigned` and `demand` tell; none where no living arena has this number. It is what `allotment` tells, in less time where the arena
+    /// is at this level, since `allotment` looks at the limit and at the other levels for it. It takes no memory.
+    // Always in its callers, which ask for nothing else: to save and to restore registers is a tenth of what a call would take.
     #[inline(always)]
     pub fn allotment_at(&self, arena: ArenaId, level: Level, given: u64, asked: u64) -> u32
         requires some { 0 < limit_of self.now }
