@@ -1,4 +1,5 @@
 pub mod Texts
+pub mod Going
 pub mod Thinned
 pub mod Standing
 pub mod Mapped

@@ -1,39 +1,32 @@
 -- Texts that are put one behind the other.
-use Rattle.std.proofs.Common.{◌≡◌, ℕ, ◌+◌, ◌<◌, ◌≤◌, ◌/◌, ◌%◌, ◌^◌, decimal, if◌then◌else◌, Bool, true, false, cond, eqb, Option, None, Some, List, [], ◌∷◌, ◌++◌, drop, length, get_or, Result, Ok, Err, OnOk, is_ok, subst, codes, refl, sym, ap, ◌∙◌, append_assoc, append-nil, arith}
+use Rattle.std.proofs.Common.{◌≡◌, ℕ, zero, suc, ◌+◌, ◌<◌, ◌≤◌, ◌/◌, ◌%◌, ◌^◌, decimal, if◌then◌else◌, Bool, true, false, cond, eqb, Option, None, Some, List, [], ◌∷◌, ◌++◌, drop, length, get_or, codes, refl, sym, ap, ◌∙◌, append_assoc, append-nil, arith}
 use Rattle.std.specs.List.{count_by, flat_map, list_any, range_with_len}
 use Rattle.std.proofs.lemmas.Bool.Decides.{nat_tests}
 use Rattle.std.proofs.lemmas.List.Sums.{sum_by-cons}
-use Rattle.std.proofs.lemmas.List.{flat_map_more, map-id, at_drop_more}
+use Rattle.std.proofs.lemmas.List.{flat_map_more, length-append, map-id, at_drop_more}
 use Rattle.std.proofs.Math.Numerals.{suc-eq-add-one}
-use Rattle.std.proofs.lemmas.Fmt.{decimal_digit, decimal_step}
+use Rattle.std.proofs.lemmas.Fmt.{decimal_digit, decimal_step, length-decimal-le}
 use Rattle.std.proofs.lemmas.List.FromFn.{map-range_with_len_more}
 use Rattle.journal_chart.specs.declared.row.Row.{Row}
 use Rattle.journal_chart.specs.declared.span.Span.{Span}
 use Rattle.journal_chart.specs.Highest.{highest, highest_in, highest_of}
 use Rattle.journal_chart.specs.declared.sheet.Sheet.{Sheet}
-use Rattle.journal_chart.specs.Numbers.{Drawn}
-use Rattle.journal_chart.specs.Picture.{axis_text, head_text, is_at, levels_end, levels_text, limits_text, row_text, rows_end, rows_text, run_first, sheet_text, stands_at, wide_of}
+use Rattle.journal_chart.specs.Columns.{width_of}
+use Rattle.journal_chart.specs.Numbers.{Charted, Drawn}
+use Rattle.journal_chart.specs.Picture.{axis_text, head_text, is_at, levels_end, levels_text, limits_text, picture_text, row_text, rows_end, rows_text, run_first, sheet_text, stands_at, wide_of}
 
--- one text more in front of those that are put
-pub behind : {T E : Type 0} (r : Result T E) (o a b x y : List ℕ) → a ≡ o ++ x → OnOk r (b ≡ a ++ y) → OnOk r (b ≡ o ++ (x ++ y))
-behind (Ok v) o a b x y e f = f ∙ ap (λ t. t ++ y) e ∙ append_assoc o x y
-behind (Err v) o a b x y e f = tt
+-- texts that are put one behind the other
+pub behind : (o a b x y : List ℕ) → a ≡ o ++ x → b ≡ a ++ y → b ≡ o ++ (x ++ y)
+behind o a b x y e f = f ∙ ap (λ t. t ++ y) e ∙ append_assoc o x y
 
--- what std says of a text that is pushed
-pub pushed : {T E : Type 0} (r : Result T E) (a b y : List ℕ) → b ≡ (if is_ok r then a ++ y else a) → OnOk r (b ≡ a ++ y)
-pushed (Ok v) a b y e = e
-pushed (Err v) a b y e = tt
+pub three : (o a b c u v w : List ℕ) → a ≡ o ++ u → b ≡ a ++ v → c ≡ b ++ w → c ≡ o ++ (u ++ (v ++ w))
+three o a b c u v w p q l = behind o a c u _ p (behind a b c v w q l)
 
-pub three : {T E : Type 0} (r : Result T E) (o a b c u v w : List ℕ) → a ≡ o ++ u → b ≡ a ++ v → OnOk r (c ≡ b ++ w) → OnOk r (c ≡ o ++ (u ++ (v ++ w)))
-three r o a b c u v w p q l = behind r o a c u _ p (behind r a b c v w q l)
+pub four : (o a b c d u v w x : List ℕ) → a ≡ o ++ u → b ≡ a ++ v → c ≡ b ++ w → d ≡ c ++ x → d ≡ o ++ (u ++ (v ++ (w ++ x)))
+four o a b c d u v w x p q s l = behind o a d u _ p (three a b c d v w x q s l)
 
-pub four : {T E : Type 0} (r : Result T E) (o a b c d u v w x : List ℕ) → a ≡ o ++ u → b ≡ a ++ v → c ≡ b ++ w → OnOk r (d ≡ c ++ x)
-    → OnOk r (d ≡ o ++ (u ++ (v ++ (w ++ x))))
-four r o a b c d u v w x p q s l = behind r o a d u _ p (behind r a b d v _ q (behind r b c d w x s l))
-
-pub five : {T E : Type 0} (r : Result T E) (o a b c d e u v w x y : List ℕ) → a ≡ o ++ u → b ≡ a ++ v → c ≡ b ++ w → d ≡ c ++ x → OnOk r (e ≡ d ++ y)
-    → OnOk r (e ≡ o ++ (u ++ (v ++ (w ++ (x ++ y)))))
-five r o a b c d e u v w x y p q s t l = behind r o a e u _ p (behind r a b e v _ q (behind r b c e w _ s (behind r c d e x y t l)))
+pub five : (o a b c d e u v w x y : List ℕ) → a ≡ o ++ u → b ≡ a ++ v → c ≡ b ++ w → d ≡ c ++ x → e ≡ d ++ y → e ≡ o ++ (u ++ (v ++ (w ++ (x ++ y))))
+five o a b c d e u v w x y p q s t l = behind o a e u _ p (four a b c d e v w x y q s t l)
 
 -- texts of numbers from 0 on, and one more
 pub next-text : (text : ℕ → List ℕ) (n : ℕ) (o a b : List ℕ) → a ≡ o ++ flat_map text (range_with_len 0 n) → b ≡ a ++ text n
@@ -112,59 +105,88 @@ above-count level (r ∷ rows) above =
 pub above-end : (level y : ℕ) (rows : List Row) → highest rows < level → rows_end level y rows ≡ y
 above-end level y rows above = omega (arith, above-count level rows above)
 
-pub levels_text-none : (sheet : Sheet) (rows : List Row) (o : List ℕ) → o ≡ o ++ levels_text sheet rows 0
+pub levels_text-none : (sheet : Sheet) (rows : List Row) → [] ≡ levels_text sheet rows 0
 unfolding levels_text
-levels_text-none sheet rows o = sym (append-nil o)
+levels_text-none sheet rows = refl
 
-pub levels_text-more : (sheet : Sheet) (rows : List Row) (n y : ℕ) (o a b : List ℕ) → y ≡ levels_end rows n → a ≡ o ++ levels_text sheet rows n
-    → b ≡ a ++ rows_text sheet (n + 1) y rows → b ≡ o ++ levels_text sheet rows (n + 1)
+pub levels_text-more : (sheet : Sheet) (rows : List Row) (n y : ℕ) → y ≡ levels_end rows n
+    → levels_text sheet rows n ++ rows_text sheet (n + 1) y rows ≡ levels_text sheet rows (n + 1)
 unfolding levels_text
-levels_text-more sheet rows n y o a b e f g =
-    g ∙ ap (λ t. t ++ rows_text sheet (n + 1) y rows) f ∙ append_assoc o (levels_text sheet rows n) (rows_text sheet (n + 1) y rows)
-    ∙ ap (λ k. o ++ (levels_text sheet rows n ++ rows_text sheet (n + 1) k rows)) e ∙ ap (λ k. o ++ levels_text sheet rows k) (suc-eq-add-one n)
+levels_text-more sheet rows n y e =
+    ap (λ k. levels_text sheet rows n ++ rows_text sheet (n + 1) k rows) e ∙ ap (λ k. levels_text sheet rows k) (suc-eq-add-one n)
+
+-- the levels from one on are behind those below it
+pub levels_text-rest : (sheet : Sheet) (rows : List Row) (n k : ℕ) → (rest : List ℕ) × (levels_text sheet rows (n + k) ≡ levels_text sheet rows n ++ rest)
+unfolding levels_text
+levels_text-rest sheet rows n zero =
+    let same : n + zero ≡ n = omega arith in
+    ([], ap (λ m. levels_text sheet rows m) same ∙ sym (append-nil (levels_text sheet rows n)))
+levels_text-rest sheet rows n (suc k) =
+    let before = levels_text-rest sheet rows n k in
+    let more : List ℕ = rows_text sheet (n + k + 1) (levels_end rows (n + k)) rows in
+    let next : n + suc k ≡ suc (n + k) = omega arith in (
+      before.0 ++ more,
+      ap (λ m. levels_text sheet rows m) next ∙ ap (λ t. t ++ more) before.1 ∙ append_assoc (levels_text sheet rows n) before.0 more,
+    )
 
 -- ---- rows, one below the other
 
 -- a row that is put
-pub row-put : (sheet : Sheet) (level y : ℕ) (rows : List Row) (i : ℕ) (r : Row) (a b whole : List ℕ) → i < length rows → r ≡ get_or rows i r → is_at level r ≡ true
-    → a ++ rows_text sheet level y (drop i rows) ≡ whole → b ≡ a ++ row_text sheet level y r → b ++ rows_text sheet level (y + 40) (drop (i + 1) rows) ≡ whole
-row-put sheet level y rows i r a b whole inside is stands before put =
+pub row-taken : (sheet : Sheet) (level y : ℕ) (rows : List Row) (i : ℕ) (r : Row) → i < length rows → r ≡ get_or rows i r → is_at level r ≡ true
+    → rows_text sheet level y (drop i rows) ≡ row_text sheet level y r ++ rows_text sheet level (y + 40) (drop (i + 1) rows)
+row-taken sheet level y rows i r inside is stands =
     let rest : List ℕ = rows_text sheet level (y + 40) (drop (i + 1) rows) in
     let other : List ℕ = rows_text sheet level y (drop (i + 1) rows) in
-    let taken : rows_text sheet level y (drop i rows) ≡ row_text sheet level y r ++ rest =
     at_drop_more (rows_text sheet level y) rows i r inside ∙ ap (λ q. rows_text sheet level y (q ∷ drop (i + 1) rows)) (sym is)
-    ∙ ap (λ b. if b then row_text sheet level y r ++ rest else other) stands in
-    ap (λ t. t ++ rest) put ∙ append_assoc a (row_text sheet level y r) rest ∙ ap (λ t. a ++ t) (sym taken) ∙ before
+    ∙ ap (λ b. if b then row_text sheet level y r ++ rest else other) stands
 
 -- a row that stands elsewhere
-pub row-elsewhere : (sheet : Sheet) (level y : ℕ) (rows : List Row) (i : ℕ) (r : Row) (a whole : List ℕ) → i < length rows → r ≡ get_or rows i r → is_at level r ≡ false
-    → a ++ rows_text sheet level y (drop i rows) ≡ whole → a ++ rows_text sheet level y (drop (i + 1) rows) ≡ whole
-row-elsewhere sheet level y rows i r a whole inside is stands before =
+pub row-passed : (sheet : Sheet) (level y : ℕ) (rows : List Row) (i : ℕ) (r : Row) → i < length rows → r ≡ get_or rows i r → is_at level r ≡ false
+    → rows_text sheet level y (drop i rows) ≡ rows_text sheet level y (drop (i + 1) rows)
+row-passed sheet level y rows i r inside is stands =
     let rest : List ℕ = rows_text sheet level (y + 40) (drop (i + 1) rows) in
     let other : List ℕ = rows_text sheet level y (drop (i + 1) rows) in
-    let taken : rows_text sheet level y (drop i rows) ≡ other =
     at_drop_more (rows_text sheet level y) rows i r inside ∙ ap (λ q. rows_text sheet level y (q ∷ drop (i + 1) rows)) (sym is)
-    ∙ ap (λ b. if b then row_text sheet level y r ++ rest else other) stands in
-    ap (λ t. a ++ t) (sym taken) ∙ before
+    ∙ ap (λ b. if b then row_text sheet level y r ++ rest else other) stands
 
 -- ---- the whole picture
 
--- its five texts, at what the calls before them returned
-pub sheet-written : {T E : Type 0} (r : Result T E) (o a b c d e : List ℕ) (sheet : Sheet) (lines : Drawn) (rows : List Row) (wide y : ℕ) → rows ≡ lines.rows
-    → wide ≡ wide_of sheet → y ≡ levels_end rows 8 → a ≡ o ++ head_text wide (y + 32) → b ≡ a ++ limits_text sheet lines → c ≡ b ++ levels_text sheet rows 8
-    → d ≡ c ++ axis_text sheet (y + 20) → OnOk r (e ≡ d ++ codes "</svg>\n") → OnOk r (e ≡ o ++ sheet_text sheet lines)
-sheet-written r o a b c d e sheet lines rows wide y same broad end p q s t l =
+-- its three parts, at what the calls before them returned
+pub sheet-parts : (sheet : Sheet) (lines : Drawn) (rows : List Row) (wide y : ℕ) → rows ≡ lines.rows → wide ≡ wide_of sheet → y ≡ levels_end rows 8
+    → sheet_text sheet lines ≡ (head_text wide (y + 32) ++ limits_text sheet lines) ++ (levels_text sheet rows 8 ++ (axis_text sheet (y + 20) ++ codes "</svg>\n"))
+sheet-parts sheet lines rows wide y same broad end =
     let text : ℕ → ℕ → List Row → List ℕ =
     λ w z rs. head_text w (z + 32) ++ (limits_text sheet lines ++ (levels_text sheet rs 8 ++ (axis_text sheet (z + 20) ++ codes "</svg>\n"))) in
-    subst (λ rs. OnOk r (e ≡ o ++ text (wide_of sheet) (levels_end rs 8) rs)) same
-    (subst (λ z. OnOk r (e ≡ o ++ text (wide_of sheet) z rows)) end (subst (λ w. OnOk r (e ≡ o ++ text w y rows)) broad (five r o a b c d e _ _ _ _ _ p q s t l)))
+    sym (
+    append_assoc (head_text wide (y + 32)) (limits_text sheet lines) (levels_text sheet rows 8 ++ (axis_text sheet (y + 20) ++ codes "</svg>\n"))
+    ∙ ap (λ w. text w y rows) broad ∙ ap (λ z. text (wide_of sheet) z rows) end ∙ ap (λ rs. text (wide_of sheet) (levels_end rs 8) rs) same)
+
+-- it is that of a chart with these numbers
+pub picture-is : (before width moments columns : ℕ) (lines : Drawn) (chart : Charted) → width ≡ width_of chart.most chart.moments → moments ≡ chart.moments
+    → columns ≡ chart.most → lines ≡ chart.lines
+    → sheet_text (record { before = before; width = width; moments = moments; columns = columns }) lines ≡ picture_text before chart
+picture-is before width moments columns lines chart w m k l =
+    let sheet : ℕ → ℕ → ℕ → Sheet = λ w m k. record { before = before; width = w; moments = m; columns = k } in
+    ap (λ w. sheet_text (sheet w moments columns) lines) w ∙ ap (λ m. sheet_text (sheet (width_of chart.most chart.moments) m columns) lines) m
+    ∙ ap (λ k. sheet_text (sheet (width_of chart.most chart.moments) chart.moments k) lines) k
+    ∙ ap (λ l. sheet_text (sheet (width_of chart.most chart.moments) chart.moments chart.most) l) l
 
 -- ---- digits
 
 -- the last digit of a number behind the others
-pub last-digit : {T E : Type 0} (r : Result T E) (n : ℕ) (old front bytes : List ℕ) → 10 ≤ n → n < 2 ^ 64 → front ≡ old ++ decimal (n / 10)
-    → OnOk r (bytes ≡ front ++ decimal (n % 10)) → OnOk r (bytes ≡ old ++ decimal n)
-last-digit r n old front bytes two fits first h =
+pub last-digit : (n : ℕ) (old front bytes : List ℕ) → 10 ≤ n → n < 2 ^ 64 → front ≡ old ++ decimal (n / 10) → bytes ≡ front ++ decimal (n % 10)
+    → bytes ≡ old ++ decimal n
+last-digit n old front bytes two fits first h =
     let both : decimal n ≡ decimal (n / 10) ++ decimal (n % 10) =
     decimal_step n two (omega (arith, fits)) ∙ ap (λ ones. decimal (n / 10) ++ ones) (sym (decimal_digit (n % 10) (omega arith))) in
-    subst (λ bs. OnOk r (bytes ≡ bs)) (ap (λ f. f ++ decimal (n % 10)) first ∙ append_assoc old (decimal (n / 10)) (decimal (n % 10)) ∙ ap (λ d. old ++ d) (sym both)) h
+    h ∙ ap (λ f. f ++ decimal (n % 10)) first ∙ append_assoc old (decimal (n / 10)) (decimal (n % 10)) ∙ ap (λ d. old ++ d) (sym both)
+
+-- how many digits a number has
+pub digits-one : (n : ℕ) → n < 10 → length (decimal n) ≡ 1
+digits-one n one = ap length (decimal_digit n one)
+
+pub digits-more : (n : ℕ) → 10 ≤ n → n < 2 ^ 64 → length (decimal n) ≡ length (decimal (n / 10)) + 1
+digits-more n two fits = ap length (decimal_step n two fits) ∙ length-append (decimal (n / 10)) _
+
+pub digits-most : (n : ℕ) → n < 2 ^ 64 → length (decimal n) ≤ 20
+digits-most n fits = length-decimal-le 20 n (omega arith) (omega (arith, fits)) fits

@@ -7,6 +7,7 @@ pub mod Numbers
 pub mod Numbering
 pub mod Picture
 pub mod Highest
+pub mod Pages
 pub mod Resting
 pub mod Shares
 pub mod Steps

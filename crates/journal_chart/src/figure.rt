@@ -1,10 +1,11 @@
 //! Columns of a row, as text: those beside each other that say the same are drawn as one.
-ghost use Rattle.std.specs.Prelude.{◌≡◌, ◌+◌, ◌*◌, ◌++◌, ◌<◌, ◌≤◌, OnOk, codes, decimal, string_bytes};
+ghost use Rattle.std.specs.Prelude.{◌≡◌, ◌+◌, ◌*◌, ◌++◌, ◌<◌, ◌≤◌, codes, decimal, length};
+ghost use Rattle.journal_chart.specs.Pages.{cell_room};
 ghost use Rattle.journal_chart.specs.Picture.{area_text, bar_of, bar_text, bars_text, cell_text, entries_text, figure_at, foot_text, ground_text, limits_cell, limits_title, mark_text, marks_text, place_text, placed_limits, placed_text, range_text, rise_of, row_goes_on, row_says_next, shapes_text, stands_at, title_text};
 
+use crate::page::Page;
 use crate::row::Row;
 use crate::span::Span;
-use std::alloc::AllocError;
 
 /// What a row says in a column.
 #[derive(Clone, Copy)]
@@ -107,302 +108,356 @@ fn bar_of(scale: u64, span: Span) -> Bar
 
 /// Writes a digit.
 #[inline(always)]
-fn write_digit(text: &mut String, digit: u64) -> Result<(), AllocError>
-    requires { digit < 10 }
-    ensures { OnOk result (string_bytes text.new ≡ string_bytes text.old ++ decimal digit) }
+fn write_digit(page: &mut Page, digit: u64)
+    requires digit { digit < 10 }
+    requires room { 1 ≤ page.old.room }
+    ensures text { page.new.text ≡ page.old.text ++ decimal digit }
+    ensures room { page.old.room ≤ page.new.room + 1 }
+    ensures size { page.new.size ≡ page.old.size }
 {
-    text.push((b'0' + digit as u8) as char)
+    page.put_byte(b'0' + digit as u8);
 }
 
 /// Writes a number of at most two digits.
 #[inline]
-fn write_tens(text: &mut String, number: u64) -> Result<(), AllocError>
-    requires { number < 100 }
-    ensures { OnOk result (string_bytes text.new ≡ string_bytes text.old ++ decimal number) }
+fn write_tens(page: &mut Page, number: u64)
+    requires small { number < 100 }
+    requires room { length (decimal number) ≤ page.old.room }
+    ensures text { page.new.text ≡ page.old.text ++ decimal number }
+    ensures room { page.old.room ≤ page.new.room + length (decimal number) }
+    ensures size { page.new.size ≡ page.old.size }
 {
     if number < 10 {
-        return write_digit(text, number);
+        write_digit(page, number);
+        return;
     }
-    write_digit(text, number / 10)?;
-    write_digit(text, number % 10)
+    write_digit(page, number / 10);
+    write_digit(page, number % 10);
 }
 
 /// Writes a number. Nearly all in a picture have at most two digits.
 #[inline]
-fn write_number(text: &mut String, number: u64) -> Result<(), AllocError>
-    ensures { OnOk result (string_bytes text.new ≡ string_bytes text.old ++ decimal number) }
+pub(crate) fn write_number(page: &mut Page, number: u64)
+    requires room { 20 ≤ page.old.room }
+    ensures text { page.new.text ≡ page.old.text ++ decimal number }
+    ensures room { page.old.room ≤ page.new.room + 20 }
+    ensures size { page.new.size ≡ page.old.size }
 {
     if number < 100 {
-        return write_tens(text, number);
+        write_tens(page, number);
+        return;
     }
-    write_long(text, number)
+    write_long(page, number);
 }
 
 /// Writes a number of three digits or more.
 // Digit by digit, since a formatter makes room for a buffer, and writes through it. Apart, since each shorter number would else call itself.
 #[inline(never)]
-fn write_long(text: &mut String, number: u64) -> Result<(), AllocError>
-    requires { 100 ≤ number }
-    ensures { OnOk result (string_bytes text.new ≡ string_bytes text.old ++ decimal number) }
+fn write_long(page: &mut Page, number: u64)
+    requires long { 100 ≤ number }
+    requires room { length (decimal number) ≤ page.old.room }
+    ensures text { page.new.text ≡ page.old.text ++ decimal number }
+    ensures room { page.old.room ≤ page.new.room + length (decimal number) }
+    ensures size { page.new.size ≡ page.old.size }
 {
     let front = number / 10;
     if front < 100 {
-        write_tens(text, front)?;
+        write_tens(page, front);
     } else {
-        write_long(text, front)?;
+        write_long(page, front);
     }
-    write_digit(text, number % 10)
+    write_digit(page, number % 10);
 }
 
 /// Writes the entries of columns.
-fn write_entries(text: &mut String, entries: Entries) -> Result<(), AllocError>
-    ensures { OnOk result (string_bytes text.new ≡ string_bytes text.old ++ entries_text entries) }
+fn write_entries(page: &mut Page, entries: Entries)
+    requires room { 52 ≤ page.old.room }
+    ensures text { page.new.text ≡ page.old.text ++ entries_text entries }
+    ensures room { page.old.room ≤ page.new.room + 52 }
+    ensures size { page.new.size ≡ page.old.size }
 {
     if entries.first == entries.last {
-        text.push_str("entry ")?;
-        return write_number(text, entries.first);
+        page.put("entry ");
+        write_number(page, entries.first);
+        return;
     }
-    text.push_str("entries ")?;
-    write_number(text, entries.first)?;
-    text.push_str(" to ")?;
-    write_number(text, entries.last)
+    page.put("entries ");
+    write_number(page, entries.first);
+    page.put(" to ");
+    write_number(page, entries.last);
 }
 
 /// Writes a number, or the least and the most of several, behind its name.
 // Always in its callers, as what writes a bar is, so that a name of known length is put by a few moves, and not by a call.
 #[inline(always)]
-fn write_range(text: &mut String, name: &str, range: Span) -> Result<(), AllocError>
-    ensures { OnOk result (string_bytes text.new ≡ string_bytes text.old ++ (name.now ++ range_text range)) }
+fn write_range(page: &mut Page, name: &str, range: Span)
+    requires room { length name.now + 44 ≤ page.old.room }
+    ensures text { page.new.text ≡ page.old.text ++ (name.now ++ range_text range) }
+    ensures room { page.old.room ≤ page.new.room + length name.now + 44 }
+    ensures size { page.new.size ≡ page.old.size }
 {
-    text.push_str(name)?;
-    write_number(text, u64::from(range.least))?;
+    page.put(name);
+    write_number(page, u64::from(range.least));
     if range.least == range.most {
-        return Ok(());
+        return;
     }
-    text.push_str(" to ")?;
-    write_number(text, u64::from(range.most))
+    page.put(" to ");
+    write_number(page, u64::from(range.most));
 }
 
 /// Writes a bar behind what closes the path before it and begins its own. What is written behind it closes its own.
-// All that stands between two numbers is one text, since each that is put is a call: a picture has four or five bars a cell.
+// All that stands between two numbers is one text, since each that is put asks for its length: a picture has four or five bars a cell.
 #[inline(always)]
-fn write_bar(text: &mut String, head: &str, bar: Bar) -> Result<(), AllocError>
-    ensures { OnOk result (string_bytes text.new ≡ string_bytes text.old ++ (head.now ++ bar_text bar)) }
+fn write_bar(page: &mut Page, head: &str, bar: Bar)
+    requires room { length head.now + 41 ≤ page.old.room }
+    ensures text { page.new.text ≡ page.old.text ++ (head.now ++ bar_text bar) }
+    ensures room { page.old.room ≤ page.new.room + length head.now + 41 }
+    ensures size { page.new.size ≡ page.old.size }
 {
-    text.push_str(head)?;
-    write_number(text, bar.y)?;
-    text.push('v')?;
-    write_number(text, bar.height)
+    page.put(head);
+    write_number(page, bar.y);
+    page.put_byte(b'v');
+    write_number(page, bar.height);
 }
 
 /// Writes the bar of numbers in the same way.
 #[inline(always)]
-fn write_span(text: &mut String, head: &str, scale: u64, span: Span) -> Result<(), AllocError>
-    requires { 0 < scale }
-    ensures { OnOk result (string_bytes text.new ≡ string_bytes text.old ++ (head.now ++ bar_text (bar_of scale span))) }
+fn write_span(page: &mut Page, head: &str, scale: u64, span: Span)
+    requires high { 0 < scale }
+    requires room { length head.now + 41 ≤ page.old.room }
+    ensures text { page.new.text ≡ page.old.text ++ (head.now ++ bar_text (bar_of scale span)) }
+    ensures room { page.old.room ≤ page.new.room + length head.now + 41 }
+    ensures size { page.new.size ≡ page.old.size }
 {
-    write_bar(text, head, bar_of(scale, span))
+    write_bar(page, head, bar_of(scale, span));
 }
 
 /// Writes what a pointer over columns is told, between what begins and what ends that.
-fn write_title(
-    text: &mut String,
-    entries: Entries,
-    arena: u32,
-    figure: Figure,
-) -> Result<(), AllocError>
-    ensures { OnOk result (string_bytes text.new ≡ string_bytes text.old ++ title_text entries arena figure) }
+fn write_title(page: &mut Page, entries: Entries, arena: u32, figure: Figure)
+    requires room { 295 ≤ page.old.room }
+    ensures text { page.new.text ≡ page.old.text ++ title_text entries arena figure }
+    ensures room { page.old.room ≤ page.new.room + 295 }
+    ensures size { page.new.size ≡ page.old.size }
 {
-    write_entries(text, entries)?;
-    text.push_str(": arena ")?;
-    write_number(text, u64::from(arena))?;
-    write_range(text, ", level ", figure.level)?;
-    write_range(text, ", request ", figure.request)?;
-    write_range(text, ", allotment ", figure.allot)?;
-    write_range(text, ", active ", figure.active)
+    write_entries(page, entries);
+    page.put(": arena ");
+    write_number(page, u64::from(arena));
+    write_range(page, ", level ", figure.level);
+    write_range(page, ", request ", figure.request);
+    write_range(page, ", allotment ", figure.allot);
+    write_range(page, ", active ", figure.active);
 }
 
 /// Writes the end of what a pointer is told, and the ground.
-fn write_ground(text: &mut String, level: Span) -> Result<(), AllocError>
-    ensures { OnOk result (string_bytes text.new ≡ string_bytes text.old ++ ground_text level) }
+fn write_ground(page: &mut Page, level: Span)
+    requires room { 34 ≤ page.old.room }
+    ensures text { page.new.text ≡ page.old.text ++ ground_text level }
+    ensures room { page.old.room ≤ page.new.room + 34 }
+    ensures size { page.new.size ≡ page.old.size }
 {
     if level.least == level.most {
-        return text.push_str("</title><path class=\"h\" d=\"M4 0v36");
+        page.put("</title><path class=\"h\" d=\"M4 0v36");
+        return;
     }
-    text.push_str("</title><path class=\"v\" d=\"M4 0v36")
+    page.put("</title><path class=\"v\" d=\"M4 0v36");
 }
 
 /// Writes an area from the foot of the row to a number.
 #[inline(always)]
-fn write_foot(text: &mut String, head: &str, scale: u64, number: u32) -> Result<(), AllocError>
-    requires { 0 < scale }
-    ensures { OnOk result (string_bytes text.new ≡ string_bytes text.old ++ (head.now ++ foot_text scale number)) }
+fn write_foot(page: &mut Page, head: &str, scale: u64, number: u32)
+    requires high { 0 < scale }
+    requires room { length head.now + 41 ≤ page.old.room }
+    ensures text { page.new.text ≡ page.old.text ++ (head.now ++ foot_text scale number) }
+    ensures room { page.old.room ≤ page.new.room + length head.now + 41 }
+    ensures size { page.new.size ≡ page.old.size }
 {
     let range = Span {
         least: 0,
         most: number,
     };
-    write_span(text, head, scale, range)
+    write_span(page, head, scale, range);
 }
 
 /// Writes the allotment as an area.
-fn write_area(text: &mut String, scale: u64, allot: Span) -> Result<(), AllocError>
-    requires { 0 < scale }
-    ensures { OnOk result (string_bytes text.new ≡ string_bytes text.old ++ area_text scale allot) }
+fn write_area(page: &mut Page, scale: u64, allot: Span)
+    requires high { 0 < scale }
+    requires room { 132 ≤ page.old.room }
+    ensures text { page.new.text ≡ page.old.text ++ area_text scale allot }
+    ensures room { page.old.room ≤ page.new.room + 132 }
+    ensures size { page.new.size ≡ page.old.size }
 {
     if allot.least == allot.most {
-        return write_foot(text, "\"/><path class=\"l\" d=\"M4 ", scale, allot.least);
+        write_foot(page, "\"/><path class=\"l\" d=\"M4 ", scale, allot.least);
+        return;
     }
-    write_foot(text, "\"/><path class=\"m\" d=\"M4 ", scale, allot.most)?;
-    write_foot(text, "\"/><path class=\"l\" d=\"M4 ", scale, allot.least)
+    write_foot(page, "\"/><path class=\"m\" d=\"M4 ", scale, allot.most);
+    write_foot(page, "\"/><path class=\"l\" d=\"M4 ", scale, allot.least);
 }
 
 /// Writes the request and the active workers as bars.
-fn write_bars(text: &mut String, scale: u64, request: Span, active: Span) -> Result<(), AllocError>
-    requires { 0 < scale }
-    ensures { OnOk result (string_bytes text.new ≡ string_bytes text.old ++ bars_text scale request active) }
+fn write_bars(page: &mut Page, scale: u64, request: Span, active: Span)
+    requires high { 0 < scale }
+    requires room { 132 ≤ page.old.room }
+    ensures text { page.new.text ≡ page.old.text ++ bars_text scale request active }
+    ensures room { page.old.room ≤ page.new.room + 132 }
+    ensures size { page.new.size ≡ page.old.size }
 {
-    write_span(text, "\"/><path class=\"r\" d=\"M4 ", scale, request)?;
-    write_span(text, "\"/><path class=\"a\" d=\"M4 ", scale, active)
+    write_span(page, "\"/><path class=\"r\" d=\"M4 ", scale, request);
+    write_span(page, "\"/><path class=\"a\" d=\"M4 ", scale, active);
 }
 
 /// Writes a mark at a height, where there are some.
 #[inline(always)]
-fn write_mark(text: &mut String, head: &str, y: u64, some: u32) -> Result<(), AllocError>
-    ensures { OnOk result (string_bytes text.new ≡ string_bytes text.old ++ mark_text head.now y some) }
+fn write_mark(page: &mut Page, head: &str, y: u64, some: u32)
+    requires room { length head.now + 41 ≤ page.old.room }
+    ensures text { page.new.text ≡ page.old.text ++ mark_text head.now y some }
+    ensures room { page.old.room ≤ page.new.room + length head.now + 41 }
+    ensures size { page.new.size ≡ page.old.size }
 {
     if some == 0 {
-        return Ok(());
+        return;
     }
     let height = u64::from(some.min(2));
-    write_bar(text, head, Bar { y, height })
+    write_bar(page, head, Bar { y, height });
 }
 
 /// Writes the marks of recalls and of hires.
-fn write_marks(text: &mut String, recall: u32, hire: u32) -> Result<(), AllocError>
-    ensures { OnOk result (string_bytes text.new ≡ string_bytes text.old ++ marks_text recall hire) }
+fn write_marks(page: &mut Page, recall: u32, hire: u32)
+    requires room { 132 ≤ page.old.room }
+    ensures text { page.new.text ≡ page.old.text ++ marks_text recall hire }
+    ensures room { page.old.room ≤ page.new.room + 132 }
+    ensures size { page.new.size ≡ page.old.size }
 {
-    write_mark(text, "\"/><path class=\"k\" d=\"M4 ", 31, recall)?;
-    write_mark(text, "\"/><path class=\"n\" d=\"M4 ", 34, hire)
+    write_mark(page, "\"/><path class=\"k\" d=\"M4 ", 31, recall);
+    write_mark(page, "\"/><path class=\"n\" d=\"M4 ", 34, hire);
 }
 
 /// Writes the ground, the area of the allotment, the bars, and the marks.
-fn write_shapes(text: &mut String, scale: u64, figure: Figure) -> Result<(), AllocError>
-    requires { 0 < scale }
-    ensures { OnOk result (string_bytes text.new ≡ string_bytes text.old ++ shapes_text scale figure) }
+fn write_shapes(page: &mut Page, scale: u64, figure: Figure)
+    requires high { 0 < scale }
+    requires room { 430 ≤ page.old.room }
+    ensures text { page.new.text ≡ page.old.text ++ shapes_text scale figure }
+    ensures room { page.old.room ≤ page.new.room + 430 }
+    ensures size { page.new.size ≡ page.old.size }
 {
-    write_ground(text, figure.level)?;
-    write_area(text, scale, figure.allot)?;
-    write_bars(text, scale, figure.request, figure.active)?;
-    write_marks(text, figure.recall.most, figure.hire.most)
+    write_ground(page, figure.level);
+    write_area(page, scale, figure.allot);
+    write_bars(page, scale, figure.request, figure.active);
+    write_marks(page, figure.recall.most, figure.hire.most);
 }
 
 /// Writes columns of an arena at a level, where it is drawn there.
 pub(crate) fn write_cell(
-    text: &mut String,
+    page: &mut Page,
     level: u32,
     arena: u32,
     scale: u64,
     entries: Entries,
     run: Run,
     figure: Option<Figure>,
-) -> Result<(), AllocError>
+)
     requires high { 0 < scale }
     requires some { run.first ≤ run.last }
-    ensures { OnOk result (string_bytes text.new ≡ string_bytes text.old ++ cell_text level arena scale entries run figure) }
+    requires room { cell_room ≤ page.old.room }
+    ensures text { page.new.text ≡ page.old.text ++ cell_text level arena scale entries run figure }
+    ensures room { page.old.room ≤ page.new.room + cell_room }
+    ensures size { page.new.size ≡ page.old.size }
 {
     let Some(figure) = figure else {
-        return Ok(());
+        return;
     };
     if !stands_at(level, Some(figure.level)) {
-        return Ok(());
+        return;
     }
-    write_placed(text, arena, scale, entries, run, figure)
+    write_placed(page, arena, scale, entries, run, figure);
 }
 
 /// Writes where columns stand, each 8 wide, and what ends that.
-fn write_place(text: &mut String, run: Run, end: &str) -> Result<(), AllocError>
-    requires { run.first ≤ run.last }
-    ensures { OnOk result (string_bytes text.new ≡ string_bytes text.old ++ place_text run end.now) }
+fn write_place(page: &mut Page, run: Run, end: &str)
+    requires some { run.first ≤ run.last }
+    requires room { 68 + length end.now ≤ page.old.room }
+    ensures text { page.new.text ≡ page.old.text ++ place_text run end.now }
+    ensures room { page.old.room ≤ page.new.room + 68 + length end.now }
+    ensures size { page.new.size ≡ page.old.size }
 {
-    text.push_str("<g transform=\"matrix(")?;
-    write_number(text, u64::from(run.last - run.first) + 1)?;
-    text.push_str(" 0 0 1 ")?;
-    write_number(text, 180 + 8 * u64::from(run.first))?;
-    text.push_str(end)
+    page.put("<g transform=\"matrix(");
+    write_number(page, u64::from(run.last - run.first) + 1);
+    page.put(" 0 0 1 ");
+    write_number(page, 180 + 8 * u64::from(run.first));
+    page.put(end);
 }
 
 /// Writes columns at their place.
-fn write_placed(
-    text: &mut String,
-    arena: u32,
-    scale: u64,
-    entries: Entries,
-    run: Run,
-    figure: Figure,
-) -> Result<(), AllocError>
+fn write_placed(page: &mut Page, arena: u32, scale: u64, entries: Entries, run: Run, figure: Figure)
     requires high { 0 < scale }
     requires some { run.first ≤ run.last }
-    ensures { OnOk result (string_bytes text.new ≡ string_bytes text.old ++ placed_text arena scale entries run figure) }
+    requires room { cell_room ≤ page.old.room }
+    ensures text { page.new.text ≡ page.old.text ++ placed_text arena scale entries run figure }
+    ensures room { page.old.room ≤ page.new.room + cell_room }
+    ensures size { page.new.size ≡ page.old.size }
 {
-    write_place(text, run, " 0)\"><title>")?;
-    write_title(text, entries, arena, figure)?;
-    write_shapes(text, scale, figure)?;
-    text.push_str("\"/></g>\n")
+    write_place(page, run, " 0)\"><title>");
+    write_title(page, entries, arena, figure);
+    write_shapes(page, scale, figure);
+    page.put("\"/></g>\n");
 }
 
 /// Writes columns of the limits.
 pub(crate) fn write_limits_cell(
-    text: &mut String,
+    page: &mut Page,
     scale: u64,
     entries: Entries,
     run: Run,
     limit: Option<Span>,
     effective: Option<Span>,
-) -> Result<(), AllocError>
+)
     requires high { 0 < scale }
     requires some { run.first ≤ run.last }
-    ensures { OnOk result (string_bytes text.new ≡ string_bytes text.old ++ limits_cell scale entries run limit effective) }
+    requires room { cell_room ≤ page.old.room }
+    ensures text { page.new.text ≡ page.old.text ++ limits_cell scale entries run limit effective }
+    ensures room { page.old.room ≤ page.new.room + cell_room }
+    ensures size { page.new.size ≡ page.old.size }
 {
     let Some(limit) = limit else {
-        return Ok(());
+        return;
     };
     let Some(effective) = effective else {
-        return Ok(());
+        return;
     };
-    write_placed_limits(text, scale, entries, run, limit, effective)
+    write_placed_limits(page, scale, entries, run, limit, effective);
 }
 
 /// Writes what a pointer over columns of the limits is told, and the ground.
-fn write_limits_title(
-    text: &mut String,
-    entries: Entries,
-    limit: Span,
-    effective: Span,
-) -> Result<(), AllocError>
-    ensures { OnOk result (string_bytes text.new ≡ string_bytes text.old ++ limits_title entries limit effective) }
+fn write_limits_title(page: &mut Page, entries: Entries, limit: Span, effective: Span)
+    requires room { 201 ≤ page.old.room }
+    ensures text { page.new.text ≡ page.old.text ++ limits_title entries limit effective }
+    ensures room { page.old.room ≤ page.new.room + 201 }
+    ensures size { page.new.size ≡ page.old.size }
 {
-    write_entries(text, entries)?;
-    write_range(text, ": limit ", limit)?;
-    write_range(text, ", effective limit ", effective)?;
-    text.push_str("</title><path class=\"h\" d=\"M4 0v36")
+    write_entries(page, entries);
+    write_range(page, ": limit ", limit);
+    write_range(page, ", effective limit ", effective);
+    page.put("</title><path class=\"h\" d=\"M4 0v36");
 }
 
 /// Writes columns of the limits at their place.
 fn write_placed_limits(
-    text: &mut String,
+    page: &mut Page,
     scale: u64,
     entries: Entries,
     run: Run,
     limit: Span,
     effective: Span,
-) -> Result<(), AllocError>
+)
     requires high { 0 < scale }
     requires some { run.first ≤ run.last }
-    ensures { OnOk result (string_bytes text.new ≡ string_bytes text.old ++ placed_limits scale entries run limit effective) }
+    requires room { cell_room ≤ page.old.room }
+    ensures text { page.new.text ≡ page.old.text ++ placed_limits scale entries run limit effective }
+    ensures room { page.old.room ≤ page.new.room + cell_room }
+    ensures size { page.new.size ≡ page.old.size }
 {
-    write_place(text, run, " 60)\"><title>")?;
-    write_limits_title(text, entries, limit, effective)?;
-    write_bars(text, scale, limit, effective)?;
-    text.push_str("\"/></g>\n")
+    write_place(page, run, " 60)\"><title>");
+    write_limits_title(page, entries, limit, effective);
+    write_bars(page, scale, limit, effective);
+    page.put("\"/></g>\n");
 }

@@ -1,61 +1,54 @@
 //! The picture of a chart, as the text of an SVG.
-ghost use Rattle.std.specs.Prelude.{◌≡◌, ◌+◌, ◌*◌, ◌++◌, ◌<◌, ◌≤◌, ◌^◌, length, IfOk, [], OnErr, OnOk, string_bytes};
+//!
+//! It goes out part by part: what stands before the rows, each row, and what stands behind them. Each is written on the same page first, which
+//! has room for any of them and is all the memory that a picture takes: a page that was written on costs less than a new one, of which the
+//! system has to find each 4 KiB when they are first touched.
+ghost use Rattle.std.specs.Prelude.{◌≡◌, ◌≢◌, ◌+◌, ◌*◌, ◌++◌, ◌<◌, ◌≤◌, ◌^◌, false, true, length, IfErr, IfOk, OnErr, OnOk};
 ghost use Rattle.std.specs.List.{count_by};
+ghost use Rattle.std.specs.Io.KnownBytes.{Appends};
+ghost use Rattle.byte_devices.specs.Devices.{WritesFront};
+ghost use Rattle.byte_devices.specs.declared.out_fault.OutFault.{OutFault};
+ghost use Rattle.journal_chart.specs.Pages.{cell_room, cells_room, part_room};
 ghost use Rattle.journal_chart.specs.Picture.{axis_name, axis_text, box_text, columns_text, filled, head_text, is_at, legend_text, levels_end, levels_text, limits_columns, limits_go_on, limits_name, limits_run, limits_scale, limits_text, name_text, picture_text, row_text, rows_end, rows_text, run_text, sheet_text, size_text, style_text, tick_text, ticks_text};
 
 use crate::chart::Chart;
-use crate::figure::{Run, write_cell, write_limits_cell};
+use crate::figure::{Run, write_cell, write_limits_cell, write_number};
 use crate::lines::Lines;
+use crate::page::Page;
 use crate::row::Row;
 use crate::sheet::{Sheet, greatest, highest, is_at, scale_of};
-use std::alloc::{AllocError, Global};
+use byte_devices::{OutFault, Sink, WriteFault, put_all};
+use std::alloc::Global;
 
-/// How many bytes most cells of a picture have, a cell being a column of an arena: none has more than 397.
-const BYTES_OF_CELL: usize = 128;
-
-/// Room for so many cells at most is taken at once.
-const MOST_CELLS_AT_ONCE: usize = 2_048;
+/// What columns that are drawn as one take at most.
+const CELL_ROOM: usize = 832;
 
 /// Writes columns of a row at a level, in which it says the same.
-fn write_run(
-    text: &mut String,
-    sheet: Sheet,
-    level: u32,
-    scale: u64,
-    row: &Row,
-    run: Run,
-) -> Result<(), AllocError>
+fn write_run(page: &mut Page, sheet: Sheet, level: u32, scale: u64, row: &Row, run: Run)
     requires wide { 0 < sheet.width }
     requires countable { sheet.before + sheet.moments < 2 ^ 64 }
     requires some { run.first ≤ run.last }
     requires inside { run.last < filled sheet }
     requires high { 0 < scale }
-    ensures { OnOk result (string_bytes text.new ≡ string_bytes text.old ++ run_text sheet level scale row.now run) }
+    requires room { cell_room ≤ page.old.room }
+    ensures text { page.new.text ≡ page.old.text ++ run_text sheet level scale row.now run }
+    ensures room { page.old.room ≤ page.new.room + cell_room }
+    ensures size { page.new.size ≡ page.old.size }
 {
     let figure = row.figure(run.last as usize);
-    write_cell(
-        text,
-        level,
-        row.arena.get(),
-        scale,
-        sheet.entries(run),
-        run,
-        figure,
-    )
+    let entries = sheet.entries(run);
+    write_cell(page, level, row.arena.get(), scale, entries, run, figure);
 }
 
 /// Writes the columns of a row at a level.
-fn write_columns(
-    text: &mut String,
-    sheet: Sheet,
-    level: u32,
-    scale: u64,
-    row: &Row,
-) -> Result<(), AllocError>
+fn write_columns(page: &mut Page, sheet: Sheet, level: u32, scale: u64, row: &Row)
     requires wide { 0 < sheet.width }
     requires countable { sheet.before + sheet.moments < 2 ^ 64 }
     requires high { 0 < scale }
-    ensures { OnOk result (string_bytes text.new ≡ string_bytes text.old ++ columns_text sheet level scale row.now) }
+    requires room { cells_room sheet ≤ page.old.room }
+    ensures text { page.new.text ≡ page.old.text ++ columns_text sheet level scale row.now }
+    ensures room { page.old.room ≤ page.new.room + cells_room sheet }
+    ensures size { page.new.size ≡ page.old.size }
 {
     let filled = sheet.filled();
     let mut first = 0;
@@ -64,73 +57,75 @@ fn write_columns(
             continue;
         }
         let run = Run { first, last: place };
-        write_run(text, sheet, level, scale, row, run)?;
+        write_run(page, sheet, level, scale, row, run);
         first = place + 1;
     }
-    Ok(())
 }
 
 /// Writes a row's name and what stands at its top.
-fn write_name(
-    text: &mut String,
-    level: u32,
-    scale: u64,
-    y: u64,
-    row: &Row,
-) -> Result<(), AllocError>
-    ensures { OnOk result (string_bytes text.new ≡ string_bytes text.old ++ name_text level scale y row.now) }
+fn write_name(page: &mut Page, level: u32, scale: u64, y: u64, row: &Row)
+    requires room { 192 ≤ page.old.room }
+    ensures text { page.new.text ≡ page.old.text ++ name_text level scale y row.now }
+    ensures room { page.old.room ≤ page.new.room + 192 }
+    ensures size { page.new.size ≡ page.old.size }
 {
-    let arena = row.arena.get();
-    write!(
-        text,
-        "<g transform=\"translate(0 {y})\"><text x=\"8\" y=\"24\">level {level}"
-    )?;
-    write!(
-        text,
-        ", arena {arena}</text><text x=\"172\" y=\"10\" class=\"e\">{scale}</text>\n"
-    )
+    page.put("<g transform=\"translate(0 ");
+    write_number(page, y);
+    page.put(")\"><text x=\"8\" y=\"24\">level ");
+    write_number(page, u64::from(level));
+    page.put(", arena ");
+    write_number(page, u64::from(row.arena.get()));
+    page.put("</text><text x=\"172\" y=\"10\" class=\"e\">");
+    write_number(page, scale);
+    page.put("</text>\n");
 }
 
 /// Writes a row at a level.
-fn write_row(
-    text: &mut String,
-    sheet: Sheet,
-    level: u32,
-    y: u64,
-    row: &Row,
-) -> Result<(), AllocError>
+fn write_row(page: &mut Page, sheet: Sheet, level: u32, y: u64, row: &Row)
     requires wide { 0 < sheet.width }
     requires countable { sheet.before + sheet.moments < 2 ^ 64 }
-    ensures { OnOk result (string_bytes text.new ≡ string_bytes text.old ++ row_text sheet level y row.now) }
+    requires room { cells_room sheet + 200 ≤ page.old.room }
+    ensures text { page.new.text ≡ page.old.text ++ row_text sheet level y row.now }
+    ensures room { page.old.room ≤ page.new.room + cells_room sheet + 200 }
+    ensures size { page.new.size ≡ page.old.size }
 {
     let scale = scale_of(row);
-    write_name(text, level, scale, y, row)?;
-    write_columns(text, sheet, level, scale, row)?;
-    text.push_str("</g>\n")
+    write_name(page, level, scale, y, row);
+    write_columns(page, sheet, level, scale, row);
+    page.put("</g>\n");
 }
 
-/// Writes the rows at a level, one below the other: where they end.
-fn write_rows(
-    text: &mut String,
+/// Writes the rows at a level, one below the other: where they end. Each goes out as soon as it stands on the page.
+fn write_rows<W: Sink>(
+    page: &mut Page,
     sheet: Sheet,
     level: u32,
     y: u64,
     rows: &[Row],
-) -> Result<u64, AllocError>
+    sink: &mut W,
+) -> Result<u64, WriteFault>
     requires wide { 0 < sheet.width }
     requires countable { sheet.before + sheet.moments < 2 ^ 64 }
     requires few { length rows.now < 2 ^ 32 }
     requires low { y < 2 ^ 48 }
-    ensures written { OnOk result (string_bytes text.new ≡ string_bytes text.old ++ rows_text sheet level y rows.now) }
+    requires size { part_room sheet ≤ page.old.size }
+    requires sink_working { W.failed sink.old ≡ false }
+    ensures written { OnOk result (Appends (W.taken sink.old) (W.taken sink.new) (rows_text sheet level y rows.now)) }
+    ensures working { OnOk result (W.failed sink.new ≡ false) }
+    ensures prefix { OnErr result (WritesFront (W.taken sink.old) (W.taken sink.new) (rows_text sheet level y rows.now)) }
+    ensures cause { OnErr result (W.failed sink.new ≡ true) }
     ensures end { IfOk result (λ end. end ≡ rows_end level y rows.now) }
     ensures low { IfOk result (λ end. end ≤ y + 40 * 2 ^ 32) }
+    ensures size { page.new.size ≡ page.old.size }
 {
     let mut below = y;
     for row in rows {
         if !is_at(row, level) {
             continue;
         }
-        write_row(text, sheet, level, below, row)?;
+        page.clear();
+        write_row(page, sheet, level, below, row);
+        put_all(sink, page.text())?;
         below += 40;
     }
     Ok(below)
@@ -172,11 +167,22 @@ fn levels_end(rows: &[Row]) -> u64
 }
 
 /// Writes the rows of all levels, one level below the other.
-fn write_levels(text: &mut String, sheet: Sheet, rows: &[Row]) -> Result<(), AllocError>
+fn write_levels<W: Sink>(
+    page: &mut Page,
+    sheet: Sheet,
+    rows: &[Row],
+    sink: &mut W,
+) -> Result<(), WriteFault>
     requires wide { 0 < sheet.width }
     requires countable { sheet.before + sheet.moments < 2 ^ 64 }
     requires few { length rows.now < 2 ^ 32 }
-    ensures { OnOk result (string_bytes text.new ≡ string_bytes text.old ++ levels_text sheet rows.now 8) }
+    requires size { part_room sheet ≤ page.old.size }
+    requires sink_working { W.failed sink.old ≡ false }
+    ensures written { OnOk result (Appends (W.taken sink.old) (W.taken sink.new) (levels_text sheet rows.now 8)) }
+    ensures working { OnOk result (W.failed sink.new ≡ false) }
+    ensures prefix { OnErr result (WritesFront (W.taken sink.old) (W.taken sink.new) (levels_text sheet rows.now 8)) }
+    ensures cause { OnErr result (W.failed sink.new ≡ true) }
+    ensures size { page.new.size ≡ page.old.size }
 {
     let top = highest(rows);
     let mut y = 120;
@@ -184,29 +190,26 @@ fn write_levels(text: &mut String, sheet: Sheet, rows: &[Row]) -> Result<(), All
         if level >= top {
             continue;
         }
-        y = write_rows(text, sheet, level + 1, y, rows)?;
+        y = write_rows(page, sheet, level + 1, y, rows, sink)?;
     }
     Ok(())
 }
 
 /// Writes columns of the limits, in which they are the same.
-fn write_limits_run(
-    text: &mut String,
-    sheet: Sheet,
-    scale: u64,
-    lines: &Lines,
-    run: Run,
-) -> Result<(), AllocError>
+fn write_limits_run(page: &mut Page, sheet: Sheet, scale: u64, lines: &Lines, run: Run)
     requires wide { 0 < sheet.width }
     requires countable { sheet.before + sheet.moments < 2 ^ 64 }
     requires some { run.first ≤ run.last }
     requires inside { run.last < filled sheet }
     requires high { 0 < scale }
-    ensures { OnOk result (string_bytes text.new ≡ string_bytes text.old ++ limits_run sheet scale lines.now run) }
+    requires room { cell_room ≤ page.old.room }
+    ensures text { page.new.text ≡ page.old.text ++ limits_run sheet scale lines.now run }
+    ensures room { page.old.room ≤ page.new.room + cell_room }
+    ensures size { page.new.size ≡ page.old.size }
 {
     let limit = lines.limit().at(run.last as usize);
     let effective = lines.effective().at(run.last as usize);
-    write_limits_cell(text, scale, sheet.entries(run), run, limit, effective)
+    write_limits_cell(page, scale, sheet.entries(run), run, limit, effective);
 }
 
 /// Whether a column of so many is drawn as one with the next, since the limits are the same there.
@@ -218,16 +221,14 @@ fn limits_go_on(filled: u32, lines: &Lines, place: u32) -> bool
 }
 
 /// Writes the columns of the limits.
-fn write_limits_columns(
-    text: &mut String,
-    sheet: Sheet,
-    scale: u64,
-    lines: &Lines,
-) -> Result<(), AllocError>
+fn write_limits_columns(page: &mut Page, sheet: Sheet, scale: u64, lines: &Lines)
     requires wide { 0 < sheet.width }
     requires countable { sheet.before + sheet.moments < 2 ^ 64 }
     requires high { 0 < scale }
-    ensures { OnOk result (string_bytes text.new ≡ string_bytes text.old ++ limits_columns sheet scale lines.now) }
+    requires room { cells_room sheet ≤ page.old.room }
+    ensures text { page.new.text ≡ page.old.text ++ limits_columns sheet scale lines.now }
+    ensures room { page.old.room ≤ page.new.room + cells_room sheet }
+    ensures size { page.new.size ≡ page.old.size }
 {
     let filled = sheet.filled();
     let mut first = 0;
@@ -236,10 +237,9 @@ fn write_limits_columns(
             continue;
         }
         let run = Run { first, last: place };
-        write_limits_run(text, sheet, scale, lines, run)?;
+        write_limits_run(page, sheet, scale, lines, run);
         first = place + 1;
     }
-    Ok(())
 }
 
 /// What stands at the top of the limits.
@@ -253,106 +253,147 @@ fn limits_scale(lines: &Lines) -> u64
 }
 
 /// Writes the name of the limits and what stands at their top.
-fn write_limits_name(text: &mut String, scale: u64) -> Result<(), AllocError>
-    ensures { OnOk result (string_bytes text.new ≡ string_bytes text.old ++ limits_name scale) }
+fn write_limits_name(page: &mut Page, scale: u64)
+    requires room { 90 ≤ page.old.room }
+    ensures text { page.new.text ≡ page.old.text ++ limits_name scale }
+    ensures room { page.old.room ≤ page.new.room + 90 }
+    ensures size { page.new.size ≡ page.old.size }
 {
-    write!(
-        text,
-        "<text x=\"8\" y=\"84\">limit</text><text x=\"172\" y=\"70\" class=\"e\">{scale}</text>\n"
-    )
+    page.put("<text x=\"8\" y=\"84\">limit</text><text x=\"172\" y=\"70\" class=\"e\">");
+    write_number(page, scale);
+    page.put("</text>\n");
 }
 
 /// Writes the limits.
-fn write_limits(text: &mut String, sheet: Sheet, lines: &Lines) -> Result<(), AllocError>
+fn write_limits(page: &mut Page, sheet: Sheet, lines: &Lines)
     requires wide { 0 < sheet.width }
     requires countable { sheet.before + sheet.moments < 2 ^ 64 }
-    ensures { OnOk result (string_bytes text.new ≡ string_bytes text.old ++ limits_text sheet lines.now) }
+    requires room { cells_room sheet + 90 ≤ page.old.room }
+    ensures text { page.new.text ≡ page.old.text ++ limits_text sheet lines.now }
+    ensures room { page.old.room ≤ page.new.room + cells_room sheet + 90 }
+    ensures size { page.new.size ≡ page.old.size }
 {
     let scale = limits_scale(lines);
-    write_limits_name(text, scale)?;
-    write_limits_columns(text, sheet, scale, lines)
+    write_limits_name(page, scale);
+    write_limits_columns(page, sheet, scale, lines);
 }
 
 /// Writes the first entry of every sixteenth column.
-fn write_tick(text: &mut String, sheet: Sheet, y: u64, place: u32) -> Result<(), AllocError>
+fn write_tick(page: &mut Page, sheet: Sheet, y: u64, place: u32)
     requires wide { 0 < sheet.width }
     requires countable { sheet.before + sheet.moments < 2 ^ 64 }
     requires inside { place < filled sheet }
-    ensures { OnOk result (string_bytes text.new ≡ string_bytes text.old ++ tick_text sheet y place) }
+    requires room { 84 ≤ page.old.room }
+    ensures text { page.new.text ≡ page.old.text ++ tick_text sheet y place }
+    ensures room { page.old.room ≤ page.new.room + 84 }
+    ensures size { page.new.size ≡ page.old.size }
 {
     if place % 16 != 0 {
-        return Ok(());
+        return;
     }
     let x = 180 + 8 * u64::from(place);
     let first = sheet.first_entry(place);
-    write!(text, "<text x=\"{x}\" y=\"{y}\">{first}</text>\n")
+    page.put("<text x=\"");
+    write_number(page, x);
+    page.put("\" y=\"");
+    write_number(page, y);
+    page.put("\">");
+    write_number(page, first);
+    page.put("</text>\n");
 }
 
 /// Writes the first entries of all columns that tell it.
-fn write_ticks(text: &mut String, sheet: Sheet, y: u64) -> Result<(), AllocError>
+fn write_ticks(page: &mut Page, sheet: Sheet, y: u64)
     requires wide { 0 < sheet.width }
     requires countable { sheet.before + sheet.moments < 2 ^ 64 }
-    ensures { OnOk result (string_bytes text.new ≡ string_bytes text.old ++ ticks_text sheet y) }
+    requires room { cells_room sheet ≤ page.old.room }
+    ensures text { page.new.text ≡ page.old.text ++ ticks_text sheet y }
+    ensures room { page.old.room ≤ page.new.room + cells_room sheet }
+    ensures size { page.new.size ≡ page.old.size }
 {
     for place in 0..sheet.filled() {
-        write_tick(text, sheet, y, place)?;
+        write_tick(page, sheet, y, place);
     }
-    Ok(())
 }
 
 /// Writes the name of the entries.
-fn write_axis_name(text: &mut String, y: u64) -> Result<(), AllocError>
-    ensures { OnOk result (string_bytes text.new ≡ string_bytes text.old ++ axis_name y) }
+fn write_axis_name(page: &mut Page, y: u64)
+    requires room { 60 ≤ page.old.room }
+    ensures text { page.new.text ≡ page.old.text ++ axis_name y }
+    ensures room { page.old.room ≤ page.new.room + 60 }
+    ensures size { page.new.size ≡ page.old.size }
 {
-    write!(text, "<text x=\"8\" y=\"{y}\">entry</text>\n")
+    page.put("<text x=\"8\" y=\"");
+    write_number(page, y);
+    page.put("\">entry</text>\n");
 }
 
 /// Writes the entries below the rows.
-fn write_axis(text: &mut String, sheet: Sheet, y: u64) -> Result<(), AllocError>
+fn write_axis(page: &mut Page, sheet: Sheet, y: u64)
     requires wide { 0 < sheet.width }
     requires countable { sheet.before + sheet.moments < 2 ^ 64 }
-    ensures { OnOk result (string_bytes text.new ≡ string_bytes text.old ++ axis_text sheet y) }
+    requires room { cells_room sheet + 60 ≤ page.old.room }
+    ensures text { page.new.text ≡ page.old.text ++ axis_text sheet y }
+    ensures room { page.old.room ≤ page.new.room + cells_room sheet + 60 }
+    ensures size { page.new.size ≡ page.old.size }
 {
-    write_axis_name(text, y)?;
-    write_ticks(text, sheet, y)
+    write_axis_name(page, y);
+    write_ticks(page, sheet, y);
 }
 
 /// Writes how wide and how high the picture is.
-fn write_size(text: &mut String, wide: u64, high: u64) -> Result<(), AllocError>
-    ensures { OnOk result (string_bytes text.new ≡ string_bytes text.old ++ size_text wide high) }
+fn write_size(page: &mut Page, wide: u64, high: u64)
+    requires room { 100 ≤ page.old.room }
+    ensures text { page.new.text ≡ page.old.text ++ size_text wide high }
+    ensures room { page.old.room ≤ page.new.room + 100 }
+    ensures size { page.new.size ≡ page.old.size }
 {
-    write!(
-        text,
-        "<svg xmlns=\"http://www.w3.org/2000/svg\" width=\"{wide}\" height=\"{high}\""
-    )
+    page.put("<svg xmlns=\"http://www.w3.org/2000/svg\" width=\"");
+    write_number(page, wide);
+    page.put("\" height=\"");
+    write_number(page, high);
+    page.put("\"");
 }
 
 /// Writes the box that is seen, which is all of the picture.
-fn write_box(text: &mut String, wide: u64, high: u64) -> Result<(), AllocError>
-    ensures { OnOk result (string_bytes text.new ≡ string_bytes text.old ++ box_text wide high) }
+fn write_box(page: &mut Page, wide: u64, high: u64)
+    requires room { 60 ≤ page.old.room }
+    ensures text { page.new.text ≡ page.old.text ++ box_text wide high }
+    ensures room { page.old.room ≤ page.new.room + 60 }
+    ensures size { page.new.size ≡ page.old.size }
 {
-    write!(text, " viewBox=\"0 0 {wide} {high}\">\n")
+    page.put(" viewBox=\"0 0 ");
+    write_number(page, wide);
+    page.put(" ");
+    write_number(page, high);
+    page.put("\">\n");
 }
 
 /// Writes the colours of the classes.
 #[tactic(auto, unfolding(crate::specs::Picture::style_text))]
-fn write_style(text: &mut String) -> Result<(), AllocError>
-    ensures { OnOk result (string_bytes text.new ≡ string_bytes text.old ++ style_text) }
+fn write_style(page: &mut Page)
+    requires room { 443 ≤ page.old.room }
+    ensures text { page.new.text ≡ page.old.text ++ style_text }
+    ensures room { page.old.room ≤ page.new.room + 443 }
+    ensures size { page.new.size ≡ page.old.size }
 {
-    text.push_str(
+    page.put(
         "<style>svg{background:#fff;font:12px sans-serif}text{fill:#222}.e{text-anchor:end}rect{fill:currentColor}\
          path{stroke:currentColor;stroke-width:8}.h{color:transparent}.r{color:#222}.v{color:#f6d58f}.m{color:#bfe1f5}\
          .l{color:#56b4e9}.a{color:#d55e00}.k{color:#cc79a7}.n{color:#009e73}@media(prefers-color-scheme:dark){\
          svg{background:#111}text{fill:#ddd}.r{color:#ddd}.v{color:#6b4e10}.m{color:#173f57}.l{color:#2a7fb8}.a{color:#ff9d5c}}</style>\n",
-    )
+    );
 }
 
 /// Writes the legend.
 #[tactic(auto, unfolding(crate::specs::Picture::legend_text))]
-fn write_legend(text: &mut String) -> Result<(), AllocError>
-    ensures { OnOk result (string_bytes text.new ≡ string_bytes text.old ++ legend_text) }
+fn write_legend(page: &mut Page)
+    requires room { 692 ≤ page.old.room }
+    ensures text { page.new.text ≡ page.old.text ++ legend_text }
+    ensures room { page.old.room ≤ page.new.room + 692 }
+    ensures size { page.new.size ≡ page.old.size }
 {
-    text.push_str(
+    page.put(
         "<text x=\"8\" y=\"20\">A market's history</text>\
          <rect class=\"r\" x=\"150\" y=\"14\" width=\"14\" height=\"2\"/>\
          <text x=\"168\" y=\"20\">request, limit</text>\
@@ -367,40 +408,73 @@ fn write_legend(text: &mut String) -> Result<(), AllocError>
          <text x=\"288\" y=\"42\">hires</text>\
          <rect class=\"v\" x=\"500\" y=\"31\" width=\"14\" height=\"12\"/>\
          <text x=\"518\" y=\"42\">moved between levels</text>\n",
-    )
+    );
 }
 
 /// Writes the size, the colours of the classes, and the legend.
-fn write_head(text: &mut String, wide: u64, high: u64) -> Result<(), AllocError>
-    ensures { OnOk result (string_bytes text.new ≡ string_bytes text.old ++ head_text wide high) }
+fn write_head(page: &mut Page, wide: u64, high: u64)
+    requires room { 1295 ≤ page.old.room }
+    ensures text { page.new.text ≡ page.old.text ++ head_text wide high }
+    ensures room { page.old.room ≤ page.new.room + 1295 }
+    ensures size { page.new.size ≡ page.old.size }
 {
-    write_size(text, wide, high)?;
-    write_box(text, wide, high)?;
-    write_style(text)?;
-    write_legend(text)
+    write_size(page, wide, high);
+    write_box(page, wide, high);
+    write_style(page);
+    write_legend(page);
 }
 
-/// Writes the picture of some columns and lines.
-fn write_sheet(text: &mut String, sheet: Sheet, lines: &Lines) -> Result<(), AllocError>
+/// Writes the picture of some columns and lines, by way of a page.
+fn write_sheet<W: Sink>(
+    page: &mut Page,
+    sheet: Sheet,
+    lines: &Lines,
+    sink: &mut W,
+) -> Result<(), WriteFault>
     requires wide { 0 < sheet.width }
     requires countable { sheet.before + sheet.moments < 2 ^ 64 }
     requires few { length lines.now.rows < 2 ^ 32 }
-    ensures { OnOk result (string_bytes text.new ≡ string_bytes text.old ++ sheet_text sheet lines.now) }
+    requires size { part_room sheet ≤ page.old.size }
+    requires sink_working { W.failed sink.old ≡ false }
+    ensures written { OnOk result (Appends (W.taken sink.old) (W.taken sink.new) (sheet_text sheet lines.now)) }
+    ensures working { OnOk result (W.failed sink.new ≡ false) }
+    ensures prefix { OnErr result (WritesFront (W.taken sink.old) (W.taken sink.new) (sheet_text sheet lines.now)) }
+    ensures cause { OnErr result (W.failed sink.new ≡ true) }
 {
     let rows = lines.rows();
     let end = levels_end(rows);
-    write_head(text, sheet.wide(), end + 32)?;
-    write_limits(text, sheet, lines)?;
-    write_levels(text, sheet, rows)?;
-    write_axis(text, sheet, end + 20)?;
-    text.push_str("</svg>\n")
+    page.clear();
+    write_head(page, sheet.wide(), end + 32);
+    write_limits(page, sheet, lines);
+    put_all(sink, page.text())?;
+    write_levels(page, sheet, rows, sink)?;
+    page.clear();
+    write_axis(page, sheet, end + 20);
+    page.put("</svg>\n");
+    put_all(sink, page.text())
 }
 
-/// Writes the picture of a chart.
-fn write_picture(text: &mut String, before: u32, chart: &Chart) -> Result<(), AllocError>
+/// Writes the picture of a chart, an SVG that stands alone. It has a row for each arena at each level at which it stood (of the levels of one
+/// column, the least and the greatest), in which each column tells a pointer its numbers and its entries, and columns beside each other that
+/// say the same are drawn as one; `before` entries came before the first moment.
+///
+/// All memory is taken before the first write: 832 bytes for each column that has moments, and 2 KiB. Where it cannot be had, `Memory` is
+/// answered, and nothing is written; a write that fails or takes none is `Write`, and what went out is then a prefix of the picture. It
+/// takes a write for each row, and two more.
+pub fn write_picture<W: Sink>(
+    alloc: Global,
+    before: u32,
+    chart: &Chart,
+    sink: &mut W,
+) -> Result<(), OutFault>
     requires few { length chart.now.lines.rows < 2 ^ 32 }
     requires countable { before + chart.now.moments < 2 ^ 64 }
-    ensures { OnOk result (string_bytes text.new ≡ string_bytes text.old ++ picture_text before chart.now) }
+    requires sink_working { W.failed sink.old ≡ false }
+    ensures written { OnOk result (Appends (W.taken sink.old) (W.taken sink.new) (picture_text before chart.now)) }
+    ensures working { OnOk result (W.failed sink.new ≡ false) }
+    ensures prefix { OnErr result (WritesFront (W.taken sink.old) (W.taken sink.new) (picture_text before chart.now)) }
+    ensures cause { IfErr result (λ fault. fault ≡ OutFault.Write → W.failed sink.new ≡ true) }
+    ensures untouched { IfErr result (λ fault. fault ≢ OutFault.Write → sink.new ≡ sink.old) }
 {
     let sheet = Sheet {
         before,
@@ -408,38 +482,7 @@ fn write_picture(text: &mut String, before: u32, chart: &Chart) -> Result<(), Al
         moments: chart.moments(),
         columns: chart.columns(),
     };
-    write_sheet(text, sheet, chart.lines())
-}
-
-/// A text with room for most pictures of a chart.
-// At once, since a text that grows is copied each time, to pages that nothing has touched yet.
-fn text_with_room(alloc: Global, chart: &Chart) -> Result<String, AllocError>
-    requires few { length chart.now.lines.rows < 2 ^ 32 }
-    ensures { IfOk result (λ text. string_bytes text ≡ []) }
-{
-    let columns = chart.moments().min(u64::from(chart.columns())) as usize;
-    let cells = chart.lines().rows().len() * columns;
-    String::with_capacity(alloc, BYTES_OF_CELL * cells.min(MOST_CELLS_AT_ONCE))
-}
-
-/// Puts the picture of a chart, an SVG that stands alone, behind what `out` holds. It has a row for each arena at each level at which
-/// it stood (of the levels of one column, the least and the greatest), in which each column tells a pointer its numbers and its
-/// entries, and columns beside each other that say the same are drawn as one; `before` entries came before the first moment. `Err` says
-/// that memory ran out, and leaves `out` as it was.
-///
-/// It takes room for most pictures at once, 256 KiB at most, and more as a picture grows. Where `out` is empty, the picture's text is put in
-/// its place, and else copied behind it.
-pub fn push_picture(out: &mut Vec<u8>, before: u32, chart: &Chart) -> Result<(), AllocError>
-    requires few { length chart.now.lines.rows < 2 ^ 32 }
-    requires countable { before + chart.now.moments < 2 ^ 64 }
-    ensures ok { OnOk result (out.new.items ≡ out.old.items ++ picture_text before chart.now) }
-    ensures err { OnErr result (out.new.items ≡ out.old.items) }
-{
-    let mut text = text_with_room(*out.allocator(), chart)?;
-    write_picture(&mut text, before, chart)?;
-    if out.is_empty() {
-        *out = text.into_bytes();
-        return Ok(());
-    }
-    out.extend_from_slice(text.as_bytes())
+    let mut page = Page::new(alloc, CELL_ROOM * sheet.filled() as usize + 2_048)?;
+    write_sheet(&mut page, sheet, chart.lines(), sink)?;
+    Ok(())
 }

@@ -7,8 +7,8 @@ ghost use Rattle.market_prog.specs.Drawing.{Draws, StopsDrawing, columns_of};
 ghost use Rattle.market_prog.specs.Replay.{IsTellingFault};
 
 use crate::fault::RunFault;
-use byte_devices::{Sink, Source, put_all};
-use journal_chart::{Chart, chart_source, push_picture};
+use byte_devices::{Sink, Source};
+use journal_chart::{Chart, chart_source, write_picture};
 use journal_replay::Verdict;
 use market_words::ChartOptions;
 use std::alloc::Global;
@@ -38,19 +38,13 @@ fn draw<W: Sink>(alloc: Global, before: u32, chart: &Chart, sink: &mut W) -> Res
     ensures cause { IfErr result (λ fault. IsTellingFault fault (W.failed sink.new)) }
     ensures untouched { IfErr result (λ fault. fault ≢ RunFault.Write → sink.new ≡ sink.old) }
 {
-    let mut picture = Vec::new(alloc);
-    let Ok(()) = push_picture(&mut picture, before, chart) else {
-        return Err(RunFault::Memory);
-    };
-    match put_all(sink, &picture) {
-        Ok(()) => Ok(()),
-        Err(_) => Err(RunFault::Write),
-    }
+    write_picture(alloc, before, chart, sink)?;
+    Ok(())
 }
 
 /// Replays the journal that a source has left, as `run_replay` does, and where it is legal writes the picture of it: an SVG that stands
 /// alone, with less than 2 MB. Nothing is written of a journal that is not legal, and nothing before the journal was read to its end.
-/// It takes the memory of `run_replay`, of the chart, whose arenas have at most 1,792 columns together, and of the picture.
+/// It takes the memory of `run_replay`, of the chart, whose arenas have at most 1,792 columns together, and of one row of the picture.
 ///
 /// Whichever fault comes first stops it. A read that fails is `Read`, a journal of more than 268,435,456 bytes `TooLong`, where no
 /// header of version 3 begins it, a write that fails or takes none `Write`, running out of memory `Memory`; it answers no other.

@@ -2,7 +2,8 @@
 ghost use Rattle.std.specs.Prelude.{◌<◌};
 
 use crate::asserts::{holds, same};
-use journal_chart::{Chart, Line, Row, Span, push_picture};
+use byte_devices::TestSink;
+use journal_chart::{Chart, Line, Row, Span, write_picture};
 use market_core::Market;
 use market_types::{ArenaId, Cmd, Level, SeatNo};
 use std::alloc::Global;
@@ -116,8 +117,15 @@ fn shows_nine_calls(rt: &impl Abort, chart: &Chart) {
 fn draws_nine_calls(rt: &impl Abort, alloc: Global, chart: &Chart) {
     holds(rt, chart.lines().rows().len() < 3);
     holds(rt, chart.moments() < 1_000_000);
-    let mut out = Vec::new(alloc);
-    same(rt, push_picture(&mut out, 0, chart).is_ok(), true);
+    let Ok(memory) = Vec::with_capacity(alloc, 16_384) else {
+        panic!(rt; "no memory");
+    };
+    let mut sink = TestSink::new(memory);
+    same(rt, write_picture(alloc, 0, chart, &mut sink).is_ok(), true);
+    let Ok(out) = Vec::from_slice(alloc, sink.taken()) else {
+        panic!(rt; "no memory");
+    };
+    drop(sink);
     let Ok(text) = String::from_utf8(out) else {
         panic!(rt; "no text");
     };
