@@ -62,8 +62,12 @@ impl Line {
     pub(crate) fn says_next(&self, place: u32) -> bool
         ensures { result ≡ says_next self.now place }
     {
-        let place = place as usize;
-        self.column_at(place).is_same(self.column_at(place + 1))
+        let (place, next) = (place as usize, place as usize + 1);
+        // Both stand in the line nearly always, and are then compared where they stand.
+        if next < self.columns.len() {
+            return self.columns[place].is_same(self.columns[next]);
+        }
+        self.column_at(place).is_same(self.column_at(next))
     }
 
     /// Puts a number into the column at a place, if there is one.
