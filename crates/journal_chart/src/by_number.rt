@@ -11,7 +11,7 @@ ghost use Rattle.journal_chart.specs.Numbering.{AreNumbered};
 ghost use Rattle.journal_chart.specs.Resting.{AreLeft};
 ghost use Rattle.journal_chart.specs.Shares.{shared_of};
 ghost use Rattle.journal_chart.specs.Covering.{exactly};
-ghost use Rattle.journal_chart.specs.Steps.{closed_row, near_row, pairwise, seat_row, subject};
+ghost use Rattle.journal_chart.specs.Steps.{closed_row, near_row, own_row, pairwise, retold, seat_row, subject};
 
 use crate::covered::exactly;
 use crate::nearby::{has_share, own_row, retold, seat_row};
@@ -85,6 +85,26 @@ fn level_row(
     }
 }
 
+/// Takes the moment after an entry that is about this arena into the column of its row, and what is then known of it, where some worker may be
+/// active.
+#[inline(always)]
+fn retold_row(
+    row: &mut Row,
+    known: &mut Known,
+    place: usize,
+    market: &Market,
+    cmd: &Cmd,
+    reply: &Reply,
+    now: &Shares,
+)
+    requires found { 0 < now.now.limit }
+    requires shares { now.now ≡ shared_of market.now }
+    ensures { (row.new, known.new) ≡ own_row place market.now cmd.now reply.now now.now known.old row.old (retold cmd.now reply.now known.old) }
+{
+    let told = retold(cmd, reply, known);
+    own_row::<true>(row, known, place, market, &mut None, cmd, reply, now, told);
+}
+
 /// Takes the moment after an entry about this arena into the columns of all rows, and what is then known of their arenas, where some worker may
 /// be active, and this level alone, which asks for some worker, is not kept. No row asks whether the entry is about its arena, nor what its level
 /// is given. The rows behind the first `count` are left as they are.
@@ -127,17 +147,14 @@ pub(crate) fn rows_numbered(
     if own == count {
         return;
     }
-    let told = retold(cmd, reply, &known[own]);
-    own_row::<true>(
+    retold_row(
         &mut rows[own],
         &mut known[own],
         place,
         market,
-        &mut None,
         cmd,
         reply,
         now,
-        told,
     );
     for index in own + 1..count {
         let row = &mut rows[index];
@@ -201,17 +218,14 @@ pub(crate) fn own_row_numbered(
     if own == count {
         return;
     }
-    let told = retold(cmd, reply, &known[own]);
-    own_row::<true>(
+    retold_row(
         &mut rows[own],
         &mut known[own],
         place,
         market,
-        &mut None,
         cmd,
         reply,
         now,
-        told,
     );
 }
 

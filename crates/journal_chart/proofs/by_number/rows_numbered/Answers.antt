@@ -3,7 +3,7 @@ use Rattle.market_types.specs.Allotment.{is_just}
 use Rattle.journal_chart.specs.declared.row.Known.{Known}
 use Rattle.journal_chart.specs.declared.row.Row.{Row}
 use Rattle.journal_chart.specs.Resting.{AreLeft}
-use Rattle.journal_chart.specs.Steps.{near_row, nothing_known, own_row, subject}
+use Rattle.journal_chart.specs.Steps.{near_row, nothing_known, subject}
 use Rattle.journal_chart.proofs.AtRest.{near-made}
 use Rattle.journal_chart.proofs.Numbered.{own-told, still-apart}
 use Rattle.journal_chart.proofs.Pairs.{Paired, get-any, paired-more, paired-none}
@@ -50,13 +50,12 @@ loop-index-2-init c =
     let known : Known = get_or c.loop-index.known own nothing_known in
     let before : Paired (near_row c.args.place c.args.market.now c.args.cmd.now c.args.reply.now c.args.now.now c.args.kept.now) c.args.rows.now c.args.known.now c.loop-index.rows c.loop-index.known own =
     subst (Paired (near_row c.args.place c.args.market.now c.args.cmd.now c.args.reply.now c.args.now.now c.args.kept.now) c.args.rows.now c.args.known.now c.loop-index.rows c.loop-index.known) at c.loop-index.invariant in
-    let made : (c.own_row.new.row, c.own_row.new.known) ≡ near_row c.args.place c.args.market.now c.args.cmd.now c.args.reply.now c.args.now.now c.args.kept.now row known =
-    c.own_row.ensures.exact
-    ∙ ap (own_row c.args.place c.args.market.now c.args.cmd.now c.args.reply.now c.args.now.now known row) c.retold-told.ensures
+    let made : (c.retold_row.new.row, c.retold_row.new.known) ≡ near_row c.args.place c.args.market.now c.args.cmd.now c.args.reply.now c.args.now.now c.args.kept.now row known =
+    c.retold_row.ensures
     ∙ sym (own-told c.args.place c.args.market.now c.args.cmd.now c.args.reply.now c.args.now.now c.args.kept.now c.args.first c.args.about own c.args.rows.now c.loop-index.rows known c.requires.numbered
     (c.place_of-own.ensures.there (omega (arith, c.place_of-own.ensures.within, c.if-own-count.false))) c.requires.about c.index-rows-own.result (omega (arith, before.count, c.requires.within, c.place_of-own.ensures.within, c.if-own-count.false)) before.rest) in
     paired-more (near_row c.args.place c.args.market.now c.args.cmd.now c.args.reply.now c.args.now.now c.args.kept.now) c.args.rows.now c.args.known.now c.loop-index.rows c.loop-index.known own row
-    c.own_row.new.row known c.own_row.new.known before (omega (arith, before.count, c.requires.within, c.place_of-own.ensures.within)) (get-any c.loop-index.rows own c.index-rows-own.result row (omega (arith, before.count, c.requires.within, c.place_of-own.ensures.within)))
+    c.retold_row.new.row known c.retold_row.new.known before (omega (arith, before.count, c.requires.within, c.place_of-own.ensures.within)) (get-any c.loop-index.rows own c.index-rows-own.result row (omega (arith, before.count, c.requires.within, c.place_of-own.ensures.within)))
     (get-any c.loop-index.known own nothing_known known (omega (arith, before.same, before.count, c.requires.within, c.place_of-own.ensures.within))) made
 
 pub loop-index-2-preserved : goal.loop-index-2-preserved
