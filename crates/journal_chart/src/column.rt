@@ -12,7 +12,7 @@
 //!
 //! A number more, or another column, is then a minimum and a maximum, with no branch that asks whether there are numbers yet, and two columns
 //! say the same where their words are the same.
-ghost use Rattle.std.specs.Prelude.{◌≡◌, None, Some};
+ghost use Rattle.std.specs.Prelude.{◌≡◌, None, Some, is_some, true};
 ghost use Rattle.journal_chart.specs.Columns.{alone, joined};
 ghost use Rattle.journal_chart.specs.Picture.{same_span};
 
@@ -81,6 +81,27 @@ impl Column {
             })
         } else {
             None
+        }
+    }
+
+    /// There are numbers.
+    #[inline]
+    pub(crate) fn has_numbers(self) -> bool
+        ensures { result ≡ is_some self }
+    {
+        self.least <= self.most
+    }
+
+    /// The least and the most of its numbers.
+    // For who asked whether there are any: an option would be made anew, number by number.
+    #[inline]
+    pub(crate) fn numbers(self) -> Span
+        requires { is_some self ≡ true }
+        ensures { Some result ≡ self }
+    {
+        Span {
+            least: self.least,
+            most: self.most,
         }
     }
 

@@ -2,6 +2,7 @@
 ghost use Rattle.std.specs.Prelude.{◌≡◌, ◌*◌, ◌<◌, ◌≤◌};
 ghost use Rattle.journal_chart.specs.Covering.{covered, covered_by, covers, exactly};
 
+use crate::column::Column;
 use crate::span::Span;
 
 /// The allotments from one on that lie below another.
@@ -14,18 +15,13 @@ pub(crate) struct Covered {
 impl Covered {
     /// Those that add nothing to a column, nor their recalls nor their hires, where so many workers are active.
     #[inline(always)]
-    pub(crate) fn of(
-        allot: Option<Span>,
-        recall: Option<Span>,
-        hire: Option<Span>,
-        active: u32,
-    ) -> Covered
+    pub(crate) fn of(allot: Column, recall: Column, hire: Column, active: u32) -> Covered
         ensures { result ≡ covered allot recall hire active }
     {
-        match (allot, recall, hire) {
-            (Some(allot), Some(recall), Some(hire)) => Covered::by(allot, recall, hire, active),
-            _ => Covered { from: 0, below: 0 },
+        if allot.has_numbers() && recall.has_numbers() && hire.has_numbers() {
+            return Covered::by(allot.numbers(), recall.numbers(), hire.numbers(), active);
         }
+        Covered { from: 0, below: 0 }
     }
 
     /// Those that these spans have.

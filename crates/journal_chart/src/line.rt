@@ -42,7 +42,7 @@ impl Line {
     }
 
     /// The column at a place, without numbers beyond the last.
-    fn column_at(&self, place: usize) -> Column
+    pub(crate) fn column_at(&self, place: usize) -> Column
         ensures { result ≡ at self.now place }
     {
         match self.columns.get(place) {

@@ -185,7 +185,7 @@ fn share_among(
 
 /// Takes the moment after a command and its reply, which are about another arena, into the column of a row at a place, where this is known of its
 /// arena, and what is then known. A row whose arena stands nowhere is left as it is.
-#[inline(never)]
+#[inline(always)]
 fn settle(
     row: &mut Row,
     known: &mut Known,

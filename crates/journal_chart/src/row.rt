@@ -110,9 +110,9 @@ impl Row {
         ensures { result ≡ known_in place request active self.now }
     {
         let covered = Covered::of(
-            self.allot.at(place),
-            self.recall.at(place),
-            self.hire.at(place),
+            self.allot.column_at(place),
+            self.recall.column_at(place),
+            self.hire.column_at(place),
             active,
         );
         Known {
@@ -123,6 +123,8 @@ impl Row {
     }
 
     /// Puts into the column at a place what the arena asks for and has, and what it is allotted: what is then known of it.
+    // Always in its callers, which do little else: to save and to restore registers would be an eighth of it.
+    #[inline(always)]
     pub(crate) fn tell(&mut self, place: usize, known: &Known, allot: u32) -> Known
         ensures row { self.new ≡ shared_row place known.now allot self.old }
         ensures known { result ≡ known_in place known.now.request known.now.active (shared_row place known.now allot self.old) }
@@ -131,9 +133,9 @@ impl Row {
         self.add_level(place);
         self.request.add(place, request);
         self.active.add(place, active);
-        let allotted = self.allot.put(place, allot).span();
-        let recalled = self.recall.put(place, active.saturating_sub(allot)).span();
-        let hired = self.hire.put(place, allot.saturating_sub(active)).span();
+        let allotted = self.allot.put(place, allot);
+        let recalled = self.recall.put(place, active.saturating_sub(allot));
+        let hired = self.hire.put(place, allot.saturating_sub(active));
         Known {
             request,
             active,
