@@ -2,7 +2,7 @@
 ghost use Rattle.std.specs.Prelude.{◌≡◌, ◌≤◌, false, length};
 
 use crate::asserts::{holds, same};
-use byte_devices::{TestSink, TestSource};
+use byte_devices::{Refusal, TestSink, TestSource};
 use journal_replay::Verdict;
 use market_prog::{RunFault, run_chart, status_of_replay};
 use market_types::ArenaId;
@@ -61,6 +61,21 @@ pub(crate) fn draw(
 ) -> (Result<Verdict, RunFault>, TestSink)
     requires { 1 ≤ from }
 {
+    draw_into(rt, alloc, roomy_sink(rt, alloc), journal, from, to)
+}
+
+/// The same, into this sink.
+fn draw_into(
+    rt: &impl Abort,
+    alloc: Global,
+    sink: TestSink,
+    journal: &'static [u8],
+    from: u32,
+    to: u32,
+) -> (Result<Verdict, RunFault>, TestSink)
+    requires from { 1 ≤ from }
+    requires working { sink.failed ≡ false }
+{
     let options = ChartOptions {
         width: 4,
         from,
@@ -69,7 +84,7 @@ pub(crate) fn draw(
         progress: false,
     };
     let mut source = TestSource::new(journal);
-    let mut sink = roomy_sink(rt, alloc);
+    let mut sink = sink;
     let told = run_chart(alloc, &options, &mut source, &mut sink);
     drop(options);
     (told, sink)
@@ -116,4 +131,24 @@ fn a_journal_that_is_not_legal_is_not_drawn(rt: HostRuntime) {
     same(&rt, status_of_replay(&told), 1);
     holds(&rt, sink.taken().is_empty());
     drop(sink);
+}
+
+/// A picture goes out in several writes: whichever of them is refused, and after how many bytes, what went out is a prefix of it.
+#[test]
+fn a_refused_write_leaves_a_prefix_of_the_picture(rt: HostRuntime) {
+    let (told, whole) = draw(&rt, rt.alloc(), JOURNAL, 1, 9);
+    holds(&rt, matches!(&told, Ok(Verdict::Legal(3))));
+    let size = whole.taken().len();
+    holds(&rt, size > 1_024);
+    for step in 0..size / 61 {
+        let room = step * 61;
+        for refusal in [Refusal::Fault, Refusal::NoneTaken] {
+            let sink = roomy_sink(&rt, rt.alloc()).refusing_after(room, refusal);
+            let (told, sink) = draw_into(&rt, rt.alloc(), sink, JOURNAL, 1, 9);
+            holds(&rt, matches!(&told, Err(RunFault::Write)));
+            holds(&rt, sink.taken() == &whole.taken()[..room]);
+            drop(sink);
+        }
+    }
+    drop(whole);
 }
