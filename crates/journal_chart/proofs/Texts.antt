@@ -7,6 +7,7 @@ use Rattle.std.proofs.lemmas.List.{flat_map_more, length-append, map-id, at_drop
 use Rattle.std.proofs.Math.Numerals.{suc-eq-add-one}
 use Rattle.std.proofs.lemmas.Fmt.{decimal_digit, decimal_step, length-decimal-le}
 use Rattle.std.proofs.lemmas.List.FromFn.{map-range_with_len_more}
+use Rattle.std.specs.Io.KnownBytes.{Appends}
 use Rattle.journal_chart.specs.declared.row.Row.{Row}
 use Rattle.journal_chart.specs.declared.span.Span.{Span}
 use Rattle.journal_chart.specs.Highest.{highest, highest_in, highest_of}
@@ -14,6 +15,7 @@ use Rattle.journal_chart.specs.declared.sheet.Sheet.{Sheet}
 use Rattle.journal_chart.specs.Columns.{width_of}
 use Rattle.journal_chart.specs.Numbers.{Charted, Drawn}
 use Rattle.journal_chart.specs.Picture.{axis_text, head_text, is_at, levels_end, levels_text, limits_text, picture_text, row_text, rows_end, rows_text, run_first, sheet_text, stands_at, wide_of}
+use Rattle.journal_chart.proofs.Going.{Gone, gone-more, gone-none}
 
 -- texts that are put one behind the other
 pub behind : (o a b x y : List ℕ) → a ≡ o ++ x → b ≡ a ++ y → b ≡ o ++ (x ++ y)
@@ -160,6 +162,13 @@ sheet-parts sheet lines rows wide y same broad end =
     sym (
     append_assoc (head_text wide (y + 32)) (limits_text sheet lines) (levels_text sheet rows 8 ++ (axis_text sheet (y + 20) ++ codes "</svg>\n"))
     ∙ ap (λ w. text w y rows) broad ∙ ap (λ z. text (wide_of sheet) z rows) end ∙ ap (λ rs. text (wide_of sheet) (levels_end rs 8) rs) same)
+
+-- its first part has gone out
+pub sheet-begun : (a b : Option (List ℕ)) (sheet : Sheet) (lines : Drawn) (rows : List Row) (wide y : ℕ) (text : List ℕ) → rows ≡ lines.rows → wide ≡ wide_of sheet
+    → y ≡ levels_end rows 8 → text ≡ head_text wide (y + 32) ++ limits_text sheet lines → Appends a b text
+    → Gone a b (levels_text sheet rows 8 ++ (axis_text sheet (y + 20) ++ codes "</svg>\n")) (sheet_text sheet lines)
+sheet-begun a b sheet lines rows wide y text same broad end is h =
+    gone-more a a b _ _ _ (sheet_text sheet lines) text (sheet-parts sheet lines rows wide y same broad end) is (gone-none a (sheet_text sheet lines)) h
 
 -- it is that of a chart with these numbers
 pub picture-is : (before width moments columns : ℕ) (lines : Drawn) (chart : Charted) → width ≡ width_of chart.most chart.moments → moments ≡ chart.moments

@@ -206,7 +206,7 @@ fn write_range(page: &mut Page, name: &str, range: Span)
 }
 
 /// Writes a bar behind what closes the path before it and begins its own. What is written behind it closes its own.
-// All that stands between two numbers is one text, since each that is put asks for its length: a picture has four or five bars a cell.
+// All that stands between two numbers is one text, since each that is put asks for its room: a picture has four or five bars a cell.
 #[inline(always)]
 fn write_bar(page: &mut Page, head: &str, bar: Bar)
     requires room { length head.now + 41 ≤ page.old.room }

@@ -2,7 +2,7 @@
 //!
 //! It goes out part by part: what stands before the rows, each row, and what stands behind them. Each is written on the same page first, which
 //! has room for any of them and is all the memory that a picture takes: a page that was written on costs less than a new one, of which the
-//! system has to find each 4 KiB when they are first touched.
+//! system has to find each 4 KiB when it is first touched.
 ghost use Rattle.std.specs.Prelude.{◌≡◌, ◌≢◌, ◌+◌, ◌*◌, ◌++◌, ◌<◌, ◌≤◌, ◌^◌, false, true, length, IfErr, IfOk, OnErr, OnOk};
 ghost use Rattle.std.specs.List.{count_by};
 ghost use Rattle.std.specs.Io.KnownBytes.{Appends};

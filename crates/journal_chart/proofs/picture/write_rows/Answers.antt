@@ -1,7 +1,5 @@
-use Rattle.std.proofs.Common.{◌≡◌, ◌++◌, true, ap, ◌∙◌, get_or, sym, subst, arith}
-use Rattle.std.specs.Io.KnownBytes.{Appends}
+use Rattle.std.proofs.Common.{◌≡◌, ◌++◌, true, ap, ◌∙◌, get_or, sym, arith}
 use Rattle.std.proofs.lemmas.List.Sums.{count_by_more_yes}
-use Rattle.byte_devices.specs.Devices.{WritesFront}
 use Rattle.journal_chart.specs.Pages.{Paged}
 use Rattle.journal_chart.specs.Picture.{is_at, row_text}
 use Rattle.journal_chart.proofs.Going.{at-err, gone-front, gone-more}
@@ -14,9 +12,8 @@ returns-in_err-put_all-clause-prefix g c =
     let part : c.text.result.now ≡ row_text c.args.sheet c.args.level c.loop-row.below c.row-item.result =
     c.text.ensures ∙ c.write_row.ensures.text ∙ ap (λ (p : Paged). p.text ++ row_text c.args.sheet c.args.level c.loop-row.below c.row-item.result) c.clear.ensures in
     at-err _ c.from_residual.result
-    (gone-front _ _ _ _ _ _ _ (row-taken c.args.sheet c.args.level c.loop-row.below c.args.rows.now c.loop-row.row-index c.row-item.result (omega arith) c.row-item.is stands)
-    c.loop-row.invariant.gone
-    (subst (λ text. WritesFront (g.W.Sink.taken c.loop-row.sink) (g.W.Sink.taken c.put_all.new.sink) text) part c.in_err-put_all.ensures.prefix))
+    (gone-front _ _ _ _ _ _ _ _ (row-taken c.args.sheet c.args.level c.loop-row.below c.args.rows.now c.loop-row.row-index c.row-item.result (omega arith) c.row-item.is stands)
+    part c.loop-row.invariant.gone c.in_err-put_all.ensures.prefix)
 
 pub loop-row-preserved : goal.loop-row-preserved
 loop-row-preserved g c =
@@ -27,9 +24,8 @@ loop-row-preserved g c =
     c.text.ensures ∙ c.write_row.ensures.text ∙ ap (λ (p : Paged). p.text ++ row_text c.args.sheet c.args.level c.loop-row.below c.row-item.result) c.clear.ensures in
     record {
       gone =
-          gone-more _ _ _ _ _ _ _ (row-taken c.args.sheet c.args.level c.loop-row.below c.args.rows.now c.loop-row.row-index c.row-item.result (omega arith) c.row-item.is stands)
-          c.loop-row.invariant.gone
-          (subst (λ text. Appends (g.W.Sink.taken c.loop-row.sink) (g.W.Sink.taken c.put_all.new.sink) text) part c.in_ok-put_all.ensures.all);
+          gone-more _ _ _ _ _ _ _ _ (row-taken c.args.sheet c.args.level c.loop-row.below c.args.rows.now c.loop-row.row-index c.row-item.result (omega arith) c.row-item.is stands)
+          part c.loop-row.invariant.gone c.in_ok-put_all.ensures.all;
       working = c.in_ok-put_all.ensures.working ∙ c.loop-row.invariant.working;
       height = omega (arith, c.loop-row.invariant.height, more);
       low = omega (arith, c.loop-row.invariant.low);
