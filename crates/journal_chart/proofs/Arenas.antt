@@ -9,7 +9,7 @@ use Rattle.market_types.specs.declared.reply.Reply.{Reply}
 use Rattle.market_types.specs.State.{State}
 use Rattle.market_types.specs.Allotment.{is_just}
 use Rattle.journal_chart.specs.declared.row.Known.{Known}
-use Rattle.journal_chart.specs.declared.row.Row.{Row}
+use Rattle.journal_chart.specs.Rows.{Row}
 use Rattle.journal_chart.specs.Columns.{width_of}
 use Rattle.journal_chart.specs.Numbers.{Charted, Drawn, chart_of, row_of}
 use Rattle.journal_chart.specs.Numbering.{AreNumbered, arenas_of}

@@ -5,7 +5,7 @@ use Rattle.std.proofs.lemmas.List.{get_or-drop, length-drop}
 use Rattle.market_types.specs.State.{State}
 use Rattle.market_types.specs.declared.command.Cmd.{Cmd}
 use Rattle.market_types.specs.declared.reply.Reply.{Reply}
-use Rattle.journal_chart.specs.declared.row.Row.{Row}
+use Rattle.journal_chart.specs.Rows.{Row}
 use Rattle.journal_chart.specs.declared.row.Known.{Known}
 use Rattle.journal_chart.specs.declared.resting.Resting.{Resting}
 use Rattle.journal_chart.specs.Resting.{AreLeft, AreResting, IsLeft, IsResting}

@@ -13,7 +13,7 @@ use Rattle.market_types.specs.State.{Arena, State}
 use Rattle.market_types.specs.Allotment.{limit_of, effective_limit_of}
 use Rattle.market_types.specs.Step.{Outcome, arena_at, step}
 use Rattle.journal_chart.specs.declared.span.Span.{Span}
-use Rattle.journal_chart.specs.declared.row.Row.{Row}
+use Rattle.journal_chart.specs.Rows.{Row}
 use Rattle.journal_chart.specs.Columns.{columns, width_of}
 use Rattle.journal_chart.specs.Lines.{added, halved}
 use Rattle.journal_chart.specs.Numbers.{level_at, shown, line_of, row_of, Drawn, drawn_of, Charted, chart_of}

@@ -5,7 +5,7 @@ use Rattle.market_types.specs.declared.command.Cmd.TheVariants.{Open, Request, C
 use Rattle.market_types.specs.declared.command.Call.{Call}
 use Rattle.market_types.specs.State.{opening}
 use Rattle.journal_chart.specs.declared.span.Span.{Span}
-use Rattle.journal_chart.specs.declared.row.Row.{Row}
+use Rattle.journal_chart.specs.Rows.{Row}
 use Rattle.journal_chart.specs.Columns.{width_of}
 use Rattle.journal_chart.specs.Numbers.{Charted, chart_after}
 

@@ -11,7 +11,7 @@ use Rattle.market_types.specs.State.{Arena, State}
 use Rattle.market_types.specs.Allotment.{active, allotment_of, is_just}
 use Rattle.market_types.specs.Step.{arena_at, step, view_of}
 use Rattle.journal_chart.specs.declared.row.Known.{Known}
-use Rattle.journal_chart.specs.declared.row.Row.{Row}
+use Rattle.journal_chart.specs.Rows.{Row}
 use Rattle.journal_chart.specs.declared.span.Span.{Span}
 use Rattle.journal_chart.specs.Lines.{added}
 use Rattle.journal_chart.specs.Numbers.{level_at, view_at}

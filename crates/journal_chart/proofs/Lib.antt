@@ -1,6 +1,7 @@
 pub mod Texts
 pub mod Going
 pub mod Thinned
+pub mod Celled
 pub mod Standing
 pub mod Mapped
 pub mod Pairs

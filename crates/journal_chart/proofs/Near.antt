@@ -17,7 +17,7 @@ use Rattle.market_types.specs.Step.{Outcome, arena_at, join_at, join_from, leave
 use Rattle.journal_chart.specs.declared.covered.Covered.{Covered}
 use Rattle.journal_chart.specs.declared.span.Span.{Span}
 use Rattle.journal_chart.specs.declared.row.Known.{Known}
-use Rattle.journal_chart.specs.declared.row.Row.{Row}
+use Rattle.journal_chart.specs.Rows.{Row}
 use Rattle.journal_chart.specs.Columns.{joined, width_of}
 use Rattle.journal_chart.specs.Covering.{covered, covers, exactly, least_covered, none_covered, past_covered}
 use Rattle.journal_chart.specs.Lines.{added, at}

@@ -9,7 +9,7 @@ use Rattle.market_types.specs.State.{State}
 use Rattle.market_types.specs.Allotment.{limit_of, effective_limit_of}
 use Rattle.market_types.specs.Step.{step}
 use Rattle.journal_chart.specs.declared.row.Known.{Known}
-use Rattle.journal_chart.specs.declared.row.Row.{Row}
+use Rattle.journal_chart.specs.Rows.{Row}
 use Rattle.journal_chart.specs.Columns.{width_of}
 use Rattle.journal_chart.specs.Lines.{added}
 use Rattle.journal_chart.specs.Numbers.{Charted, Drawn, chart_of, drawn_of, level_at, line_of, row_of, view_at}

@@ -1,7 +1,7 @@
 -- The row of an arena among rows whose arenas are numbered one after another.
-use Rattle.std.proofs.Common.{◌≡◌, ℕ, ◌+◌, ◌-◌, ◌<◌, ◌≤◌, ◌⊎◌, zero, suc, Bool, false, true, eqb, List, [], ◌∷◌, Option, None, Some, length, drop, get_or, refl, sym, ap, ◌∙◌, subst, arith, inl, inr}
+use Rattle.std.proofs.Common.{◌≡◌, ℕ, ◌+◌, ◌-◌, ◌<◌, ◌≤◌, ◌⊎◌, zero, suc, Bool, false, true, true≢false, eqb, List, [], ◌∷◌, Option, None, Some, length, drop, get_or, refl, sym, ap, ◌∙◌, subst, arith, inl, inr}
 use Rattle.std.specs.Prelude.{nat_le}
-use Rattle.std.proofs.lemmas.Bool.{cases_lt, le-leb}
+use Rattle.std.proofs.lemmas.Bool.{cases_lt, eq-eqb, eqb-true, le-leb}
 use Rattle.std.proofs.lemmas.Bool.Decides.{nat_tests}
 use Rattle.std.proofs.lemmas.List.{get_or-drop, length-drop}
 use Rattle.std.proofs.lemmas.List.FromFn.{get_or-range_with_len}
@@ -9,7 +9,7 @@ use Rattle.market_types.specs.Allotment.{is_just}
 use Rattle.market_types.specs.State.{State}
 use Rattle.market_types.specs.declared.command.Cmd.{Cmd}
 use Rattle.market_types.specs.declared.reply.Reply.{Reply}
-use Rattle.journal_chart.specs.declared.row.Row.{Row}
+use Rattle.journal_chart.specs.Rows.{Row}
 use Rattle.journal_chart.specs.declared.row.Known.{Known}
 use Rattle.journal_chart.specs.Numbering.{AreNumbered, arenas_of}
 use Rattle.journal_chart.specs.Resting.{AreLeft, IsLeft}
@@ -101,11 +101,24 @@ pub other-row : (place : ℕ) (s : State) (cmd : Cmd) (reply : Reply) (now : Sha
     → near_row place s cmd reply now kept r k ≡ closed_row place s cmd reply k r r (Some (share_of s now k r.arena level))
 other-row place s cmd reply now kept r k level other moved at uncovered = rw (other, moved, at, uncovered) refl
 
--- a row at another level than the one that alone is not kept
-pub other-level : (place : ℕ) (s : State) (cmd : Cmd) (reply : Reply) (now : Shared) (kept : List Bool) (r : Row) (k : Known) (stands level : ℕ)
-    → IsAlone kept level → is_just r.arena (subject cmd reply) ≡ false → r.stands ≡ Some stands → 1 ≤ stands → stands ≤ 8 → (stands ≡ level → ⊥)
-    → near_row place s cmd reply now kept r k ≡ (r, k)
-other-level place s cmd reply now kept r k stands level alone other at low high apart =
-    let some : nat_le 1 stands ≡ true = le-leb 1 stands low in
-    let held : get_or kept (stands - 1) false ≡ true = alone.others stands low high apart in
-    rw (other, at, some, held) refl
+-- a row at it whose column has all that its arena may be allotted
+pub covered-row : (place : ℕ) (s : State) (cmd : Cmd) (reply : Reply) (now : Shared) (kept : List Bool) (r : Row) (k : Known) (level : ℕ)
+    → is_just r.arena (subject cmd reply) ≡ false → stands_kept kept r.stands ≡ false → r.stands ≡ Some level → is_covered now k level ≡ true → near_row place s cmd reply now kept r k ≡ (r, k)
+covered-row place s cmd reply now kept r k level other moved at covered = rw (other, moved, at, covered) refl
+
+-- what an option is said to be
+pub just-is : (option : Option ℕ) (n : ℕ) → is_just n option ≡ true → option ≡ Some n
+just-is None n is = absurd (true≢false (sym is))
+just-is (Some m) n is = ap (λ (k : ℕ). Some k) (eqb-true m n is)
+
+-- a row at another level than the one that alone is not kept, or nowhere
+pub other-level : (place : ℕ) (s : State) (cmd : Cmd) (reply : Reply) (now : Shared) (kept : List Bool) (r : Row) (k : Known) (level : ℕ)
+    → IsAlone kept level → is_just r.arena (subject cmd reply) ≡ false → IsAtLevel r.stands → is_just level r.stands ≡ false → near_row place s cmd reply now kept r k ≡ (r, k)
+other-level place s cmd reply now kept r k level alone other within apart = of r.stands (refl {a = r.stands}) within apart
+  where
+    of : (stands : Option ℕ) → r.stands ≡ stands → IsAtLevel stands → is_just level stands ≡ false → near_row place s cmd reply now kept r k ≡ (r, k)
+    of None at within other_level = rw (other, at) refl
+    of (Some stands) at within other_level =
+        let some : nat_le 1 stands ≡ true = le-leb 1 stands within.0 in
+        let held : get_or kept (stands - 1) false ≡ true = alone.others stands within.0 within.1 (λ e. true≢false (sym (eq-eqb stands level e) ∙ other_level)) in
+        rw (other, at, some, held) refl

@@ -1,5 +1,5 @@
 -- What a number more, and columns made one, do to a line.
-use Rattle.std.proofs.Common.{◌≡◌, ℕ, zero, suc, ◌+◌, ◌*◌, ◌<◌, ◌≤◌, min, max, List, [], ◌∷◌, ◌++◌, length, take, drop, set, Option, None, Some, refl, sym, ap, ◌∙◌, arith, inl, inr}
+use Rattle.std.proofs.Common.{◌≡◌, ℕ, zero, suc, ◌+◌, ◌*◌, ◌<◌, ◌≤◌, min, max, List, [], ◌∷◌, ◌++◌, length, take, drop, set, get_or, Option, None, Some, refl, sym, ap, ◌∙◌, arith, inl, inr}
 use Rattle.std.proofs.Math.Nat.{suc-mul, mul-le-mul_right}
 use Rattle.std.proofs.Math.Seq.{take-add}
 use Rattle.std.proofs.lemmas.Bool.{cases_eq, cases_lt}
@@ -7,7 +7,7 @@ use Rattle.std.proofs.lemmas.List.{length-append, length-drop, length-set, get_o
 use Rattle.std.proofs.lemmas.List.FromFn.{get_or-map-range_with_len, length-map-range_with_len}
 use Rattle.journal_chart.specs.declared.span.Span.{Span}
 use Rattle.journal_chart.specs.Columns.{joined, alone, span_of, columns}
-use Rattle.journal_chart.specs.Lines.{at, added, halved}
+use Rattle.journal_chart.specs.Lines.{at, added, halved, halved_with}
 
 -- ---- spans
 
@@ -147,48 +147,48 @@ halved-columns n w vs few =
         ∙ sym (part-double w k vs)
         ∙ sym (column-at n (w + w) vs k inside)
 
--- ---- the same in place
+-- ---- the same in place, of whatever is made one
 
--- in the first so many places each two columns are one, and the others are as they were
-pub record IsHalved (old columns : List (Option Span)) (place : ℕ) : Type 0 where
-  pub same : length columns ≡ length old
-  pub done : (k : ℕ) → k < place → at columns k ≡ joined (at old (k + k)) (at old (k + k + 1))
-  pub rest : (k : ℕ) → place ≤ k → at columns k ≡ at old k
+-- in the first so many places each two are one, and the others are as they were
+pub record IsHalved {C : Type 0} (join : C → C → C) (none : C) (old new : List C) (place : ℕ) : Type 0 where
+  pub same : length new ≡ length old
+  pub done : (k : ℕ) → k < place → get_or new k none ≡ join (get_or old (k + k) none) (get_or old (k + k + 1) none)
+  pub rest : (k : ℕ) → place ≤ k → get_or new k none ≡ get_or old k none
 
-pub halved-more : (old columns : List (Option Span)) (place : ℕ) (pair : Option Span) → IsHalved old columns place → place < length columns
-    → pair ≡ joined (at columns (2 * place)) (at columns (2 * place + 1)) → IsHalved old (set columns place pair) (place + 1)
-halved-more old columns place pair so_far within is =
-    record { same = length-set columns place pair ∙ so_far.same; done = done; rest = rest }
+pub halved-more : {C : Type 0} (join : C → C → C) (none : C) (old new : List C) (place : ℕ) (pair : C) → IsHalved join none old new place → place < length new
+    → pair ≡ join (get_or new (2 * place) none) (get_or new (2 * place + 1) none) → IsHalved join none old (set new place pair) (place + 1)
+halved-more join none old new place pair so_far within is =
+    record { same = length-set new place pair ∙ so_far.same; done = done; rest = rest }
   where
     twice : 2 * place ≡ place + place
     twice = omega arith
 
-    made : pair ≡ joined (at old (place + place)) (at old (place + place + 1))
-    made = is ∙ (λ i. joined (at columns (twice i)) (at columns (twice i + 1)))
-        ∙ (λ i. joined (so_far.rest (place + place) (omega arith) i) (so_far.rest (place + place + 1) (omega arith) i))
+    made : pair ≡ join (get_or old (place + place) none) (get_or old (place + place + 1) none)
+    made = is ∙ (λ i. join (get_or new (twice i) none) (get_or new (twice i + 1) none))
+        ∙ (λ i. join (so_far.rest (place + place) (omega arith) i) (so_far.rest (place + place + 1) (omega arith) i))
 
-    done : (k : ℕ) → k < place + 1 → at (set columns place pair) k ≡ joined (at old (k + k)) (at old (k + k + 1))
+    done : (k : ℕ) → k < place + 1 → get_or (set new place pair) k none ≡ join (get_or old (k + k) none) (get_or old (k + k + 1) none)
     done k less =
         elim (cases_eq k place) [
           | inl here ↦
-              ap (at (set columns place pair)) here ∙ get_or-set_same columns place pair None within ∙ made
-              ∙ (λ i. joined (at old (sym here i + sym here i)) (at old (sym here i + sym here i + 1)))
-          | inr apart ↦ get_or-set_other columns place k pair None apart ∙ so_far.done k (omega (arith, less, apart))
+              ap (λ j. get_or (set new place pair) j none) here ∙ get_or-set_same new place pair none within ∙ made
+              ∙ (λ i. join (get_or old (sym here i + sym here i) none) (get_or old (sym here i + sym here i + 1) none))
+          | inr apart ↦ get_or-set_other new place k pair none apart ∙ so_far.done k (omega (arith, less, apart))
         ]
 
-    rest : (k : ℕ) → place + 1 ≤ k → at (set columns place pair) k ≡ at old k
+    rest : (k : ℕ) → place + 1 ≤ k → get_or (set new place pair) k none ≡ get_or old k none
     rest k past =
         let apart : k ≡ place → ⊥ = λ e. omega (arith, e, past) in
-        get_or-set_other columns place k pair None apart ∙ so_far.rest k (omega arith)
+        get_or-set_other new place k pair none apart ∙ so_far.rest k (omega arith)
 
-pub halved-all : (old columns : List (Option Span)) (place : ℕ) → IsHalved old columns place → length columns ≤ place → columns ≡ halved old
-halved-all old columns place all whole =
-    ext_get_or None columns (halved old) (all.same ∙ sym count) each
+pub halved-all : {C : Type 0} (join : C → C → C) (none : C) (old new : List C) (place : ℕ) → IsHalved join none old new place → length new ≤ place → new ≡ halved_with join none old
+halved-all join none old new place all whole =
+    ext_get_or none new (halved_with join none old) (all.same ∙ sym count) each
   where
-    count : length (halved old) ≡ length old
-    count = length-map-range_with_len (λ (p : ℕ). joined (at old (p + p)) (at old (p + p + 1))) 0 (length old)
+    count : length (halved_with join none old) ≡ length old
+    count = length-map-range_with_len (λ (p : ℕ). join (get_or old (p + p) none) (get_or old (p + p + 1) none)) 0 (length old)
 
-    each : (k : ℕ) → k < length columns → at columns k ≡ at (halved old) k
+    each : (k : ℕ) → k < length new → get_or new k none ≡ get_or (halved_with join none old) k none
     each k within =
         all.done k (omega arith)
-        ∙ sym (get_or-map-range_with_len (λ (p : ℕ). joined (at old (p + p)) (at old (p + p + 1))) 0 (length old) k k None (omega (arith, within, all.same)) (omega arith))
+        ∙ sym (get_or-map-range_with_len (λ (p : ℕ). join (get_or old (p + p) none) (get_or old (p + p + 1) none)) 0 (length old) k k none (omega (arith, within, all.same)) (omega arith))

@@ -15,7 +15,7 @@ use Rattle.market_types.specs.State.{Arena, Claim, State}
 use Rattle.market_types.specs.Allotment.{active, is_just, need, recall}
 use Rattle.market_types.specs.Step.{Outcome, arena_at, if_arena, if_claim, join_at, join_from, leave_from, place_of, request_step, resize_step, stay_from, step, with_claim, with_place}
 use Rattle.journal_chart.specs.declared.row.Known.{Known}
-use Rattle.journal_chart.specs.declared.row.Row.{Row}
+use Rattle.journal_chart.specs.Rows.{Row}
 use Rattle.journal_chart.specs.Shares.{placed_of}
 use Rattle.journal_chart.specs.Steps.{known_in, moves_seat, retold, seated, subject}
 

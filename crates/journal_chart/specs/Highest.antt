@@ -1,7 +1,7 @@
 -- The highest level of rows, above which a picture has none of them. Private functions alone cite these words.
 use Rattle.std.specs.Prelude.{ℕ, max, List, [], ◌∷◌, Option, None, Some}
 use Rattle.journal_chart.specs.declared.span.Span.{Span}
-use Rattle.journal_chart.specs.declared.row.Row.{Row}
+use Rattle.journal_chart.specs.Rows.{Row}
 
 -- the highest level of a column, or 0
 abbrev pub highest_in : Option Span → ℕ

@@ -9,6 +9,8 @@ pub mod Picture
 pub mod Highest
 pub mod Pages
 pub mod Resting
+pub mod Rows
 pub mod Shares
 pub mod Steps
 pub mod Unkept
+pub mod Words

@@ -12,6 +12,10 @@ at columns place = get_or columns place None
 abbrev pub added : ℕ → Option ℕ → List (Option Span) → List (Option Span)
 added place number columns = set columns place (joined (at columns place) (alone number))
 
--- each two columns made one, and as many without numbers put behind them
+-- each two of some things made one, and as many that say nothing put behind them
+abbrev pub halved_with : {C : Type 0} → (C → C → C) → C → List C → List C
+halved_with join none things = map (λ place. join (get_or things (place + place) none) (get_or things (place + place + 1) none)) (range_with_len 0 (length things))
+
+-- each two columns made one
 abbrev pub halved : List (Option Span) → List (Option Span)
-halved columns = map (λ place. joined (at columns (place + place)) (at columns (place + place + 1))) (range_with_len 0 (length columns))
+halved columns = halved_with joined None columns

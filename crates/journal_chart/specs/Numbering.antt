@@ -1,7 +1,7 @@
 -- Rows whose arenas are numbered one after another. Private functions alone cite these words.
 use Rattle.std.specs.Prelude.{◌≡◌, ℕ, List, Option, None, Some, length, map}
 use Rattle.std.specs.List.{range_with_len}
-use Rattle.journal_chart.specs.declared.row.Row.{Row}
+use Rattle.journal_chart.specs.Rows.{Row}
 
 -- the arenas of rows
 abbrev pub arenas_of : List Row → List ℕ

@@ -8,7 +8,7 @@ use Rattle.market_types.specs.Allotment.{limit_of, effective_limit_of}
 use Rattle.market_types.specs.Step.{arena_at, view_of, step}
 use Rattle.market_types.specs.History.{state_after}
 use Rattle.journal_chart.specs.declared.span.Span.{Span}
-use Rattle.journal_chart.specs.declared.row.Row.{Row}
+use Rattle.journal_chart.specs.Rows.{Row}
 use Rattle.journal_chart.specs.Columns.{columns, width_of}
 
 -- ---- at a moment

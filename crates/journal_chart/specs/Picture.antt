@@ -2,7 +2,7 @@
 use Rattle.std.specs.Prelude.{ℕ, zero, suc, ◌+◌, ◌-◌, ◌*◌, ◌/◌, ◌%◌, min, max, ◌==◌, ◌&&◌, ◌||◌, nat_lt, if◌then◌else◌, Bool, true, false, List, [], ◌∷◌, ◌++◌, Option, None, Some, codes, decimal}
 use Rattle.std.specs.List.{count_by, flat_map, list_any, range_with_len}
 use Rattle.journal_chart.specs.declared.span.Span.{Span}
-use Rattle.journal_chart.specs.declared.row.Row.{Row}
+use Rattle.journal_chart.specs.Rows.{Row}
 use Rattle.journal_chart.specs.declared.figure.Figure.{Figure}
 use Rattle.journal_chart.specs.declared.figure.Bar.{Bar}
 use Rattle.journal_chart.specs.declared.figure.Entries.{Entries}

@@ -2,7 +2,7 @@
 use Rattle.std.specs.Prelude.{◌≡◌, ℕ, ◌≤◌, List, false, Option, None, drop}
 use Rattle.std.specs.List.{All}
 use Rattle.market_types.specs.Allotment.{is_just}
-use Rattle.journal_chart.specs.declared.row.Row.{Row}
+use Rattle.journal_chart.specs.Rows.{Row}
 use Rattle.journal_chart.specs.declared.resting.Resting.{Resting}
 
 -- the arena of a row does not live, and has one of these numbers

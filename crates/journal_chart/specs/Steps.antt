@@ -9,7 +9,7 @@ use Rattle.market_types.specs.declared.reply.Reply.TheVariants.{Opened, Closed, 
 use Rattle.market_types.specs.State.{State}
 use Rattle.market_types.specs.Allotment.{allotment_of, effective_limit_of, is_just, limit_of}
 use Rattle.journal_chart.specs.declared.span.Span.{Span}
-use Rattle.journal_chart.specs.declared.row.Row.{Row}
+use Rattle.journal_chart.specs.Rows.{Row}
 use Rattle.journal_chart.specs.declared.row.Known.{Known}
 use Rattle.journal_chart.specs.declared.covered.Covered.{Covered}
 use Rattle.journal_chart.specs.Lines.{added, at, halved}

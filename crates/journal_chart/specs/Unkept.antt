@@ -1,7 +1,7 @@
 -- Of which levels the arenas may be allotted something else. Private functions alone cite these words.
 use Rattle.std.specs.Prelude.{◌≡◌, ℕ, zero, suc, ◌+◌, ◌-◌, ◌<◌, ◌≤◌, Bool, List, false, get_or, true, Option, None, Some}
 use Rattle.std.specs.List.{All}
-use Rattle.journal_chart.specs.declared.row.Row.{Row}
+use Rattle.journal_chart.specs.Rows.{Row}
 use Rattle.journal_chart.specs.declared.unkept.Unkept.{Unkept}
 use Rattle.journal_chart.specs.declared.unkept.Unkept.TheVariants.{Nowhere, At, Anywhere}
 

@@ -43,7 +43,7 @@ fn settle_given(
 {
     let share = match exactly(known.request, given, asked) {
         Some(share) => share,
-        None => market.allotment_at(row.arena, level, given, asked),
+        None => market.allotment_at(row.arena(), level, given, asked),
     };
     if !has_share(known, share) {
         *known = row.tell(place, known, share);
@@ -73,11 +73,7 @@ fn level_row(
     requires small { asked ≤ 1024 * 65535 }
     ensures { (cmd : Cmd) (reply : Reply) (kept : List Bool) → IsAlone kept level → is_just row.old.arena (subject cmd reply) ≡ false → (row.new, known.new) ≡ near_row place market.now cmd reply now.now kept row.old known.old }
 {
-    let Some(stands) = row.stands else {
-        return;
-    };
-    // By their indices, which are below 8.
-    if stands.index() != level.index() {
+    if !row.is_at(level) {
         return;
     }
     if !known.covered.covers_some(known.request, given, asked) {
@@ -181,7 +177,7 @@ fn are_at_levels(rows: &[Row])
     ensures { AreAtLevels rows.now }
 {
     for index in 0..rows.len() {
-        is_at_level(rows[index].stands);
+        is_at_level(rows[index].stands());
     }
 }
 

@@ -3,6 +3,7 @@ ghost use Rattle.std.specs.Prelude.{◌≡◌, ◌+◌, ◌*◌, ◌++◌, ◌<�
 ghost use Rattle.journal_chart.specs.Pages.{cell_room};
 ghost use Rattle.journal_chart.specs.Picture.{area_text, bar_of, bar_text, bars_text, cell_text, entries_text, figure_at, foot_text, ground_text, limits_cell, limits_title, mark_text, marks_text, place_text, placed_limits, placed_text, range_text, rise_of, row_goes_on, row_says_next, shapes_text, stands_at, title_text};
 
+use crate::cell::cell_at;
 use crate::page::Page;
 use crate::row::Row;
 use crate::span::Span;
@@ -44,13 +45,14 @@ impl Row {
     pub(crate) fn figure(&self, place: usize) -> Option<Figure>
         ensures { result ≡ figure_at self.now place }
     {
+        let cell = cell_at(self.cells(), place);
         Some(Figure {
-            level: self.level.at(place)?,
-            request: self.request.at(place)?,
-            allot: self.allot.at(place)?,
-            active: self.active.at(place)?,
-            recall: self.recall.at(place)?,
-            hire: self.hire.at(place)?,
+            level: cell.level.span()?,
+            request: cell.request.span()?,
+            allot: cell.allot.span()?,
+            active: cell.active.span()?,
+            recall: cell.recall.span()?,
+            hire: cell.hire.span()?,
         })
     }
 
@@ -58,12 +60,13 @@ impl Row {
     fn says_next(&self, place: u32) -> bool
         ensures { result ≡ row_says_next self.now place }
     {
-        self.level.says_next(place)
-            && self.request.says_next(place)
-            && self.allot.says_next(place)
-            && self.active.says_next(place)
-            && self.recall.says_next(place)
-            && self.hire.says_next(place)
+        let cells = self.cells();
+        let (place, next) = (place as usize, place as usize + 1);
+        // Both are there nearly always, and are then compared where they stand.
+        if next < cells.len() {
+            return cells[place].is_same(cells[next]);
+        }
+        cell_at(cells, place).is_same(cell_at(cells, next))
     }
 
     /// Whether a column of so many is drawn as one with the next, since the row says the same there.

@@ -6,11 +6,13 @@
 #![tactic(auto)]
 
 mod by_number;
+mod cell;
 mod chart;
 mod column;
 mod covered;
 mod entry;
 mod figure;
+mod halving;
 mod journal;
 mod law;
 mod line;
@@ -25,9 +27,11 @@ mod row;
 mod shares;
 mod sheet;
 mod span;
+mod stands;
 mod unkept;
 mod width;
 
+pub use cell::Cell;
 pub use chart::Chart;
 pub use column::Column;
 pub use journal::chart_source;

@@ -4,6 +4,7 @@ ghost use Rattle.journal_chart.specs.Lines.{added, at, halved};
 ghost use Rattle.journal_chart.specs.Picture.{says_next};
 
 use crate::column::Column;
+use crate::halving::halve;
 use crate::span::Span;
 use std::alloc::{AllocError, Global};
 use std::marker::Model;
@@ -74,22 +75,8 @@ impl Line {
     pub(crate) fn add(&mut self, place: usize, number: u32)
         ensures { self.new ≡ added place (Some number) self.old }
     {
-        self.put(place, number);
-    }
-
-    /// The same: what the column then says, which need not be read again.
-    #[inline(always)]
-    pub(crate) fn put(&mut self, place: usize, number: u32) -> Column
-        ensures line { self.new ≡ added place (Some number) self.old }
-        ensures column { result ≡ at (added place (Some number) self.old) place }
-    {
-        match self.columns.get_mut(place) {
-            Some(column) => {
-                let joined = column.with(number);
-                *column = joined;
-                joined
-            }
-            None => Column::none(),
+        if let Some(column) = self.columns.get_mut(place) {
+            *column = column.with(number);
         }
     }
 
@@ -97,25 +84,6 @@ impl Line {
     pub(crate) fn halve(&mut self)
         ensures { self.new ≡ halved self.old }
     {
-        halve_columns(&mut self.columns);
-    }
-}
-
-/// Makes each two columns one, and puts as many without numbers behind them: each column is read once, and written at most once.
-fn halve_columns(columns: &mut [Column])
-    ensures { columns.new ≡ halved columns.old }
-{
-    let pairs = columns.len() / 2;
-    for place in 0..pairs {
-        columns[place] = columns[2 * place].joined(columns[2 * place + 1]);
-    }
-    // Where their number is odd, the last has none beside it.
-    let mut halves = pairs;
-    if 2 * pairs < columns.len() {
-        columns[pairs] = columns[2 * pairs];
-        halves = pairs + 1;
-    }
-    for place in halves..columns.len() {
-        columns[place] = Column::none();
+        halve(&mut self.columns);
     }
 }

@@ -199,8 +199,8 @@ fn settle(
     ensures exact { (cmd : Cmd) (reply : Reply) → (row.new, known.new) ≡ settled_row place market.now cmd reply now.now known.old row.old }
     ensures divided { IfSome division.new (IsDivisionOf market.now) }
 {
-    if let Some(level) = row.stands {
-        let share = share_among(market, division, now, known, row.arena, level);
+    if let Some(level) = row.stands() {
+        let share = share_among(market, division, now, known, row.arena(), level);
         *known = row.tell(place, known, share);
     }
 }
@@ -223,7 +223,7 @@ fn settle_other<const DIVIDED: bool>(
     ensures exact { (cmd : Cmd) (reply : Reply) → (row.new, known.new) ≡ closed_row place market.now cmd reply known.old row.old row.old (Some (share_of market.now now.now known.old row.old.arena level)) }
     ensures divided { IfSome division.new (IsDivisionOf market.now) }
 {
-    let share = share_of::<DIVIDED>(market, division, now, known, row.arena, level);
+    let share = share_of::<DIVIDED>(market, division, now, known, row.arena(), level);
     if !has_share(known, share) {
         *known = row.tell(place, known, share);
     }
@@ -249,9 +249,9 @@ fn settle_own<const DIVIDED: bool>(
     ensures exact { (row.new, known.new) ≡ closed_row place market.now cmd.now reply.now known.old row.old (needing_row place was.now known.old row.old) (option_map (share_of market.now now.now known.old row.old.arena) row.old.stands) }
     ensures divided { IfSome division.new (IsDivisionOf market.now) }
 {
-    match row.stands {
+    match row.stands() {
         Some(level) => {
-            let share = share_of::<DIVIDED>(market, division, now, known, row.arena, level);
+            let share = share_of::<DIVIDED>(market, division, now, known, row.arena(), level);
             if has_share(known, share) {
                 row.add_needs(place, was, known);
             } else {
@@ -334,7 +334,7 @@ pub(crate) fn own_row<const DIVIDED: bool>(
     let was = *known;
     *known = told;
     // By the copy, of which it is plain that what was not told did not change.
-    if is_covered_at::<DIVIDED>(now, &told, row.stands) {
+    if is_covered_at::<DIVIDED>(now, &told, row.stands()) {
         row.add_needs(place, &was, &told);
         return;
     }
@@ -358,11 +358,11 @@ fn other_row<const DIVIDED: bool>(
     ensures exact { (cmd : Cmd) (reply : Reply) → is_just row.old.arena (subject cmd reply) ≡ false → (row.new, known.new) ≡ near_row place market.now cmd reply now.now kept.now row.old known.old }
     ensures divided { IfSome division.new (IsDivisionOf market.now) }
 {
-    if stands_kept(kept, row.stands) {
+    if stands_kept(kept, row.stands()) {
         return;
     }
     // Else it stands at a level.
-    let Some(level) = row.stands else {
+    let Some(level) = row.stands() else {
         return;
     };
     if !is_covered::<DIVIDED>(now, known, level) {
@@ -393,7 +393,7 @@ fn near_row<const DIVIDED: bool>(
     ensures exact { (row.new, known.new) ≡ near_row place market.now cmd.now reply.now now.now kept.now row.old known.old }
     ensures divided { IfSome division.new (IsDivisionOf market.now) }
 {
-    if is_just(row.arena, about) {
+    if is_just(row.arena(), about) {
         let told = retold(cmd, reply, known);
         own_row::<DIVIDED>(row, known, place, market, division, cmd, reply, now, told);
         return;
@@ -591,7 +591,7 @@ pub(crate) fn seat_row(
     requires moved { moved.now ≡ subject cmd.now reply.now }
     ensures { (row.new, known.new) ≡ seat_row place market.now cmd.now reply.now more now.now row.old known.old }
 {
-    if is_just(row.arena, moved) {
+    if is_just(row.arena(), moved) {
         let told = seated(place, more, reply, known, row);
         own_row::<false>(row, known, place, market, &mut None, cmd, reply, now, told);
     }
@@ -690,7 +690,7 @@ fn first_row(
     ensures exact { (row.new, known.new) ≡ first_row place market.now cmd.now reply.now now.now row.old known.old }
     ensures divided { IfSome division.new (IsDivisionOf market.now) }
 {
-    if is_just(row.arena, own) {
+    if is_just(row.arena(), own) {
         *known = row.look(place, market, cmd, reply);
         return;
     }

@@ -37,7 +37,7 @@ fn write_run(page: &mut Page, sheet: Sheet, level: u32, scale: u64, row: &Row, r
 {
     let figure = row.figure(run.last as usize);
     let entries = sheet.entries(run);
-    write_cell(page, level, row.arena.get(), scale, entries, run, figure);
+    write_cell(page, level, row.arena().get(), scale, entries, run, figure);
 }
 
 /// Writes the columns of a row at a level.
@@ -74,7 +74,7 @@ fn write_name(page: &mut Page, level: u32, scale: u64, y: u64, row: &Row)
     page.put(")\"><text x=\"8\" y=\"24\">level ");
     write_number(page, u64::from(level));
     page.put(", arena ");
-    write_number(page, u64::from(row.arena.get()));
+    write_number(page, u64::from(row.arena().get()));
     page.put("</text><text x=\"172\" y=\"10\" class=\"e\">");
     write_number(page, scale);
     page.put("</text>\n");

@@ -38,10 +38,10 @@ impl Resting {
         let mut resting = Resting::none(rows.len());
         while resting.before > 0 {
             let row = &rows[resting.before - 1];
-            if row.stands.is_some() {
+            if row.stands().is_some() {
                 return resting;
             }
-            resting = resting.with(row.arena);
+            resting = resting.with(row.arena());
         }
         resting
     }

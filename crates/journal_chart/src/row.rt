@@ -1,12 +1,20 @@
 //! The lines of an arena.
-ghost use Rattle.std.specs.Prelude.{◌≡◌, IfOk, map};
+ghost use Rattle.std.specs.Prelude.{◌≡◌, IfOk, Some, map};
+ghost use Rattle.market_types.specs.Allotment.{is_just};
+ghost use Rattle.journal_chart.specs.Unkept.{IsAtLevel};
+ghost use Rattle.journal_chart.specs.Covering.{covered};
+ghost use Rattle.journal_chart.specs.Lines.{added};
+ghost use Rattle.journal_chart.specs.Cells.{actives_of, allots_of, hires_of, levels_of, recalls_of, requests_of};
 ghost use Rattle.journal_chart.specs.Steps.{empty_row, halved_row, known_in, needing_row, nothing_known, passed_row, seen_row, shared_row, standing_row, stands_after, taken_row, viewed_row};
 
+use crate::cell::{Cell, cell_at, put_cell};
 use crate::covered::Covered;
-use crate::line::Line;
+use crate::halving::halve;
+use crate::stands::Standing;
 use market_core::Market;
 use market_types::{ArenaId, ArenaView, Cmd, Level, Reply};
 use std::alloc::{AllocError, Global};
+use std::marker::Model;
 
 /// What is known of an arena between two moments at which it is looked at.
 #[derive(Clone, Copy)]
@@ -32,24 +40,37 @@ impl Known {
     }
 }
 
-/// What an arena was in the course of a history: each line has a number wherever the arena lived.
+/// What is known of an arena that asks for so many workers and has so many, where this is its cell of the last moment's column.
+#[inline(always)]
+fn known_by(cell: Cell, request: u32, active: u32) -> Known
+    ensures request { result.request ≡ request }
+    ensures active { result.active ≡ active }
+    ensures covered { result.covered ≡ covered cell.allot cell.recall cell.hire active }
+{
+    Known {
+        request,
+        active,
+        covered: Covered::of(cell.allot, cell.recall, cell.hire, active),
+    }
+}
+
+/// What an arena was in the course of a history: contracts see its lines, each of which has a number wherever the arena lived.
 #[derive(Drop)]
 pub struct Row {
-    pub arena: ArenaId,
+    arena: ArenaId,
     /// The level at which it stands, if it lives.
-    pub stands: Option<Level>,
-    /// The number of its level.
-    pub level: Line,
-    /// How many workers it asked for.
-    pub request: Line,
-    /// How many workers it was allotted.
-    pub allot: Line,
-    /// How many seats were placed at it.
-    pub active: Line,
-    /// How many of these were too many.
-    pub recall: Line,
-    /// How many more it was allotted.
-    pub hire: Line,
+    stands: Standing,
+    /// What it has in each column.
+    cells: Vec<Cell>,
+}
+
+impl Model for Row {
+    ghost use Rattle.journal_chart.specs.Cells.{row_of_cells};
+    ghost use Rattle.journal_chart.specs.Rows.{Row};
+
+    ghost Value = { Row };
+
+    ghost view = { λ r. row_of_cells r.arena r.stands r.cells.items };
 }
 
 impl Row {
@@ -59,33 +80,60 @@ impl Row {
     {
         Ok(Row {
             arena,
-            stands: None,
-            level: Line::new(alloc, columns)?,
-            request: Line::new(alloc, columns)?,
-            allot: Line::new(alloc, columns)?,
-            active: Line::new(alloc, columns)?,
-            recall: Line::new(alloc, columns)?,
-            hire: Line::new(alloc, columns)?,
+            stands: Standing::of(None),
+            cells: vec![in alloc; Cell::none(); columns]?,
         })
+    }
+
+    /// The arena.
+    #[inline(always)]
+    pub fn arena(&self) -> ArenaId
+        ensures { result ≡ self.now.arena }
+    {
+        self.arena
+    }
+
+    /// The level at which it stands, if it lives.
+    #[inline(always)]
+    pub fn stands(&self) -> Option<Level>
+        ensures { result ≡ self.now.stands }
+    {
+        self.stands.level()
+    }
+
+    /// It stands at this level.
+    #[inline(always)]
+    pub(crate) fn is_at(&self, level: Level) -> bool
+        ensures exact { result ≡ is_just level self.now.stands }
+        ensures somewhere { IsAtLevel self.now.stands }
+    {
+        self.stands.is_at(level)
+    }
+
+    /// What it has in each column, in order.
+    pub fn cells(&self) -> &[Cell]
+        ensures level { levels_of result.now ≡ self.now.level }
+        ensures request { requests_of result.now ≡ self.now.request }
+        ensures allot { allots_of result.now ≡ self.now.allot }
+        ensures active { actives_of result.now ≡ self.now.active }
+        ensures recall { recalls_of result.now ≡ self.now.recall }
+        ensures hire { hires_of result.now ≡ self.now.hire }
+    {
+        &self.cells
     }
 
     /// Makes each two columns one.
     pub(crate) fn halve(&mut self)
         ensures { self.new ≡ halved_row self.old }
     {
-        self.level.halve();
-        self.request.halve();
-        self.allot.halve();
-        self.active.halve();
-        self.recall.halve();
-        self.hire.halve();
+        halve(&mut self.cells);
     }
 
     /// Takes the moment after a command and its reply into the column at a place.
     pub(crate) fn take(&mut self, place: usize, market: &Market, cmd: &Cmd, reply: &Reply)
         ensures { self.new ≡ taken_row place market.now cmd.now reply.now self.old }
     {
-        self.stands = stands_after(self.arena, self.stands, cmd, reply);
+        self.stands = Standing::of(stands_after(self.arena, self.stands(), cmd, reply));
         self.add_level(place);
         self.add_view(place, &market.view(self.arena));
     }
@@ -94,7 +142,7 @@ impl Row {
     pub(crate) fn look(&mut self, place: usize, market: &Market, cmd: &Cmd, reply: &Reply) -> Known
         ensures { (self.new, result) ≡ seen_row place market.now cmd.now reply.now self.old }
     {
-        self.stands = stands_after(self.arena, self.stands, cmd, reply);
+        self.stands = Standing::of(stands_after(self.arena, self.stands(), cmd, reply));
         self.add_level(place);
         let view = market.view(self.arena);
         self.add_view(place, &view);
@@ -109,17 +157,7 @@ impl Row {
     pub(crate) fn known(&self, place: usize, request: u32, active: u32) -> Known
         ensures { result ≡ known_in place request active self.now }
     {
-        let covered = Covered::of(
-            self.allot.column_at(place),
-            self.recall.column_at(place),
-            self.hire.column_at(place),
-            active,
-        );
-        Known {
-            request,
-            active,
-            covered,
-        }
+        known_by(cell_at(&self.cells, place), request, active)
     }
 
     /// Puts into the column at a place what the arena asks for and has, and what it is allotted: what is then known of it.
@@ -130,17 +168,18 @@ impl Row {
         ensures known { result ≡ known_in place known.now.request known.now.active (shared_row place known.now allot self.old) }
     {
         let (request, active) = (known.request, known.active);
-        self.add_level(place);
-        self.request.add(place, request);
-        self.active.add(place, active);
-        let allotted = self.allot.put(place, allot);
-        let recalled = self.recall.put(place, active.saturating_sub(allot));
-        let hired = self.hire.put(place, allot.saturating_sub(active));
-        Known {
+        let recall = active.saturating_sub(allot);
+        let hire = allot.saturating_sub(active);
+        let cell = cell_at(&self.cells, place).told(
+            self.stands,
             request,
+            allot,
             active,
-            covered: Covered::of(allotted, recalled, hired, active),
-        }
+            recall,
+            hire,
+        );
+        let cell = put_cell(&mut self.cells, place, cell);
+        known_by(cell, request, active)
     }
 
     /// Puts into the column of the last moment, at which this was known of the arena, what it asks for and has now, where that changed.
@@ -149,27 +188,44 @@ impl Row {
         ensures { self.new ≡ needing_row place was.now known.now self.old }
     {
         if was.request != known.request {
-            self.request.add(place, known.request);
+            self.add_request(place, known.request);
         }
         if was.active != known.active {
-            self.active.add(place, known.active);
+            self.add_active(place, known.active);
         }
+    }
+
+    /// Puts what the arena asks for into the column at a place.
+    #[inline(always)]
+    fn add_request(&mut self, place: usize, request: u32)
+        ensures { self.new ≡ record self.old { request = added place (Some request) self.old.request } }
+    {
+        let cell = cell_at(&self.cells, place).with_request(request);
+        put_cell(&mut self.cells, place, cell);
+    }
+
+    /// Puts what it has into the column at a place.
+    #[inline(always)]
+    fn add_active(&mut self, place: usize, active: u32)
+        ensures { self.new ≡ record self.old { active = added place (Some active) self.old.active } }
+    {
+        let cell = cell_at(&self.cells, place).with_active(active);
+        put_cell(&mut self.cells, place, cell);
     }
 
     /// Lets the moment after a command and its reply pass: nothing is drawn, but where the arena stands is known after it.
     pub(crate) fn pass(&mut self, cmd: &Cmd, reply: &Reply)
         ensures { self.new ≡ passed_row cmd.now reply.now self.old }
     {
-        self.stands = stands_after(self.arena, self.stands, cmd, reply);
+        self.stands = Standing::of(stands_after(self.arena, self.stands(), cmd, reply));
     }
 
     /// Puts the level at which the arena stands into the column at a place.
     fn add_level(&mut self, place: usize)
         ensures { self.new ≡ standing_row place self.old }
     {
-        if let Some(level) = self.stands {
-            self.level.add(place, level.get());
-        }
+        let cell = cell_at(&self.cells, place).with_level(self.stands);
+        put_cell(&mut self.cells, place, cell);
     }
 
     /// Puts what is seen of the arena into the column at a place.
@@ -179,11 +235,14 @@ impl Row {
         let Some(view) = view else {
             return;
         };
-        self.request.add(place, view.request);
-        self.allot.add(place, view.allot);
-        self.active.add(place, view.active);
-        self.recall.add(place, view.recall);
-        self.hire.add(place, view.hire);
+        let cell = cell_at(&self.cells, place).with_numbers(
+            view.request,
+            view.allot,
+            view.active,
+            view.recall,
+            view.hire,
+        );
+        put_cell(&mut self.cells, place, cell);
     }
 }
 

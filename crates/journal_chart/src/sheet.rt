@@ -1,9 +1,12 @@
 //! The columns of a picture.
-ghost use Rattle.std.specs.Prelude.{◌≡◌, ◌+◌, ◌*◌, ◌<◌, ◌≤◌, ◌^◌};
+ghost use Rattle.std.specs.Prelude.{◌≡◌, ◌+◌, ◌*◌, ◌<◌, ◌≤◌, ◌^◌, max};
 ghost use Rattle.std.specs.List.{list_any};
+ghost use Rattle.journal_chart.specs.declared.cell.Cell.{Cell};
+ghost use Rattle.journal_chart.specs.Cells.{actives_of, allots_of, levels_of, requests_of};
 ghost use Rattle.journal_chart.specs.Highest.{highest, highest_in, highest_of};
 ghost use Rattle.journal_chart.specs.Picture.{entries_of, filled, first_entry, greatest, is_at, last_entry, most_of, scale_of, stands_at, wide_of};
 
+use crate::cell::Cell;
 use crate::column::Column;
 use crate::figure::{Entries, Run, stands_at};
 use crate::row::Row;
@@ -109,10 +112,19 @@ pub(crate) fn scale_of(row: &Row) -> u64
     ensures exact { result ≡ scale_of row.now }
     ensures some { 0 < result }
 {
-    let request = greatest(row.request.columns());
-    let allot = greatest(row.allot.columns());
-    let active = greatest(row.active.columns());
-    u64::from(request.max(allot.max(active)).max(1))
+    u64::from(greatest_needs(row.cells()).max(1))
+}
+
+/// The greatest number of what an arena asked for, was allotted, and had, or 0.
+fn greatest_needs(cells: &[Cell]) -> u32
+    ensures { result ≡ max (greatest (requests_of cells.now)) (max (greatest (allots_of cells.now)) (greatest (actives_of cells.now))) }
+{
+    let mut most = 0;
+    for cell in cells {
+        let needs = most_of(cell.allot).max(most_of(cell.active));
+        most = most.max(most_of(cell.request).max(needs));
+    }
+    most
 }
 
 /// The highest level of a column, or 0.
@@ -126,12 +138,12 @@ fn highest_in(column: Column) -> u32
 }
 
 /// The highest level of all columns, or 0.
-fn highest_of(columns: &[Column]) -> u32
-    ensures { result ≡ highest_of columns.now }
+fn highest_of(cells: &[Cell]) -> u32
+    ensures { result ≡ highest_of (levels_of cells.now) }
 {
     let mut level = 0;
-    for column in columns {
-        level = level.max(highest_in(*column));
+    for cell in cells {
+        level = level.max(highest_in(cell.level));
     }
     level
 }
@@ -142,21 +154,21 @@ pub(crate) fn highest(rows: &[Row]) -> u32
 {
     let mut level = 0;
     for row in rows {
-        level = level.max(highest_of(row.level.columns()));
+        level = level.max(highest_of(row.cells()));
     }
     level
 }
 
 /// This is the least or the greatest level of one of these columns.
-fn any_at(columns: &[Column], level: u32) -> bool
-    ensures { result ≡ list_any (stands_at level) columns.now }
+fn any_at(cells: &[Cell], level: u32) -> bool
+    ensures { result ≡ list_any (λ (c : Cell). stands_at level c.level) cells.now }
 {
-    columns.iter().any(|column| stands_at(level, column.span()))
+    cells.iter().any(|cell| stands_at(level, cell.level.span()))
 }
 
 /// This is the least or the greatest level of one of the columns of a row.
 pub(crate) fn is_at(row: &Row, level: u32) -> bool
     ensures { result ≡ is_at level row.now }
 {
-    any_at(row.level.columns(), level)
+    any_at(row.cells(), level)
 }

@@ -3,7 +3,7 @@ ghost use Rattle.std.specs.Prelude.{◌<◌};
 
 use crate::asserts::{holds, same};
 use byte_devices::TestSink;
-use journal_chart::{Chart, Line, Row, Span, write_picture};
+use journal_chart::{Cell, Chart, Column, Line, Row, Span, write_picture};
 use market_core::Market;
 use market_types::{ArenaId, Cmd, Level, SeatNo};
 use std::alloc::Global;
@@ -51,20 +51,35 @@ fn play(
     }
 }
 
-/// The columns of a line are these spans.
-fn says(rt: &impl Abort, line: &Line, spans: &[Option<(u32, u32)>]) {
+/// The least and the most of a column, if it has numbers.
+type Due = Option<(u32, u32)>;
+
+/// A column says this.
+fn column_says(rt: &impl Abort, column: Column, due: Due) {
+    let span = match due {
+        Some((least, most)) => Some(Span { least, most }),
+        None => None,
+    };
+    same(rt, column.span(), span);
+}
+
+/// The columns of a line say this.
+fn says(rt: &impl Abort, line: &Line, due: &[Due]) {
     let columns = line.columns();
-    same(rt, columns.len(), spans.len());
-    for (column, span) in columns.iter().zip(spans) {
-        let due = match span {
-            Some((least, most)) => Some(Span {
-                least: *least,
-                most: *most,
-            }),
-            None => None,
-        };
-        same(rt, column.span(), due);
+    same(rt, columns.len(), due.len());
+    for (column, due) in columns.iter().zip(due) {
+        column_says(rt, *column, *due);
     }
+}
+
+/// A cell says this of its level, of what its arena asked for and was allotted, of its active workers, of recalls and of hires.
+fn cell_says(rt: &impl Abort, cell: &Cell, due: &[Due; 6]) {
+    column_says(rt, cell.level, due[0]);
+    column_says(rt, cell.request, due[1]);
+    column_says(rt, cell.allot, due[2]);
+    column_says(rt, cell.active, due[3]);
+    column_says(rt, cell.recall, due[4]);
+    column_says(rt, cell.hire, due[5]);
 }
 
 /// The row at an index.
@@ -80,37 +95,38 @@ fn shows_nine_calls(rt: &impl Abort, chart: &Chart) {
     same(rt, chart.moments(), 9);
     let limit = [Some((7, 7)), Some((1, 1)), Some((1, 1)), None];
     says(rt, chart.lines().limit(), &limit);
-    let row = row(rt, chart, 0);
-    says(
-        rt,
-        &row.level,
-        &[Some((2, 2)), Some((2, 2)), Some((1, 1)), None],
-    );
-    says(
-        rt,
-        &row.request,
-        &[Some((0, 3)), Some((3, 3)), Some((3, 3)), None],
-    );
-    says(
-        rt,
-        &row.allot,
-        &[Some((0, 3)), Some((0, 1)), Some((0, 0)), None],
-    );
-    says(
-        rt,
-        &row.active,
-        &[Some((0, 2)), Some((1, 2)), Some((1, 1)), None],
-    );
-    says(
-        rt,
-        &row.recall,
-        &[Some((0, 0)), Some((1, 2)), Some((1, 1)), None],
-    );
-    says(
-        rt,
-        &row.hire,
-        &[Some((0, 3)), Some((0, 0)), Some((0, 0)), None],
-    );
+    let cells = row(rt, chart, 0).cells();
+    let due = [
+        [
+            Some((2, 2)),
+            Some((0, 3)),
+            Some((0, 3)),
+            Some((0, 2)),
+            Some((0, 0)),
+            Some((0, 3)),
+        ],
+        [
+            Some((2, 2)),
+            Some((3, 3)),
+            Some((0, 1)),
+            Some((1, 2)),
+            Some((1, 2)),
+            Some((0, 0)),
+        ],
+        [
+            Some((1, 1)),
+            Some((3, 3)),
+            Some((0, 0)),
+            Some((1, 1)),
+            Some((1, 1)),
+            Some((0, 0)),
+        ],
+        [None; 6],
+    ];
+    same(rt, cells.len(), due.len());
+    for (cell, due) in cells.iter().zip(&due) {
+        cell_says(rt, cell, due);
+    }
 }
 
 /// The picture of these nine calls begins with its size, ends with its entries, and holds these rows and columns.
@@ -184,9 +200,13 @@ fn nine_calls_in_four_columns(rt: HostRuntime) {
 /// The arena lived for the first 64 of 215 moments, in columns of 128, and asked for 5 workers in one of them.
 fn shows_a_spike(rt: &impl Abort, chart: &Chart) {
     same(rt, chart.moments(), 215);
-    let row = row(rt, chart, 0);
-    says(rt, &row.request, &[Some((0, 5)), None, None]);
-    says(rt, &row.level, &[Some((3, 3)), None, None]);
+    let cells = row(rt, chart, 0).cells();
+    let due = [(Some((3, 3)), Some((0, 5))), (None, None), (None, None)];
+    same(rt, cells.len(), due.len());
+    for (cell, (level, request)) in cells.iter().zip(&due) {
+        column_says(rt, cell.level, *level);
+        column_says(rt, cell.request, *request);
+    }
 }
 
 #[test]

@@ -1,6 +1,6 @@
 use Rattle.std.proofs.Common.{◌≡◌, ◌<◌, length, set, get_or, refl, sym, ◌∙◌, arith}
 use Rattle.journal_chart.specs.declared.row.Known.{Known}
-use Rattle.journal_chart.specs.declared.row.Row.{Row}
+use Rattle.journal_chart.specs.Rows.{Row}
 use Rattle.journal_chart.specs.Steps.{near_row, nothing_known, pairwise}
 use Rattle.journal_chart.proofs.Numbered.{kept-others, own-told}
 use Rattle.journal_chart.proofs.Pairs.{get-any, pairwise-one, still-all}

@@ -1,7 +1,7 @@
 use Rattle.std.proofs.Common.{◌≡◌, ℕ, Option, Some, false, get_or, drop, sym, ap, ◌∙◌, subst, arith}
 use Rattle.market_types.specs.Allotment.{is_just}
 use Rattle.journal_chart.specs.declared.row.Known.{Known}
-use Rattle.journal_chart.specs.declared.row.Row.{Row}
+use Rattle.journal_chart.specs.Rows.{Row}
 use Rattle.journal_chart.specs.Resting.{AreLeft}
 use Rattle.journal_chart.specs.Steps.{near_row, nothing_known, subject}
 use Rattle.journal_chart.proofs.AtRest.{near-made}

@@ -1,6 +1,6 @@
 use Rattle.std.proofs.Common.{◌≡◌, ◌<◌, length, set, get_or, sym, arith}
 use Rattle.journal_chart.specs.declared.row.Known.{Known}
-use Rattle.journal_chart.specs.declared.row.Row.{Row}
+use Rattle.journal_chart.specs.Rows.{Row}
 use Rattle.journal_chart.specs.Steps.{nothing_known, pairwise, seat_row}
 use Rattle.journal_chart.proofs.Numbered.{seat-others}
 use Rattle.journal_chart.proofs.Pairs.{get-any, pairwise-one, still-all}

@@ -1,6 +1,6 @@
 use Rattle.std.proofs.Common.{get_or, drop, subst, sym, ◌≡◌, arith}
 use Rattle.journal_chart.specs.declared.row.Known.{Known}
-use Rattle.journal_chart.specs.declared.row.Row.{Row}
+use Rattle.journal_chart.specs.Rows.{Row}
 use Rattle.journal_chart.specs.Resting.{AreLeft}
 use Rattle.journal_chart.specs.Steps.{nothing_known, pairwise, seat_row, subject}
 use Rattle.journal_chart.proofs.Pairs.{get-any, paired-more, paired-part}

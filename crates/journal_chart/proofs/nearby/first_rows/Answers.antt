@@ -1,6 +1,6 @@
 use Rattle.std.proofs.Common.{get_or, ap, ◌∙◌, arith, rules}
 use Rattle.journal_chart.specs.declared.row.Known.{Known}
-use Rattle.journal_chart.specs.declared.row.Row.{Row}
+use Rattle.journal_chart.specs.Rows.{Row}
 use Rattle.journal_chart.specs.Shares.{Shared}
 use Rattle.journal_chart.specs.Steps.{first_row, nothing_known, pairwise}
 use Rattle.journal_chart.proofs.AtRest.{first-made}

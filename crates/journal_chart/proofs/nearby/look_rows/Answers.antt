@@ -1,5 +1,5 @@
 use Rattle.std.proofs.Common.{List, get_or, ap, ◌∙◌, arith}
-use Rattle.journal_chart.specs.declared.row.Row.{Row}
+use Rattle.journal_chart.specs.Rows.{Row}
 use Rattle.journal_chart.specs.declared.row.Known.{Known}
 use Rattle.journal_chart.specs.Steps.{nothing_known, seen_row, taken_row}
 use Rattle.journal_chart.proofs.Pairs.{get-any, paired-more, paired-all, pairwise-map}

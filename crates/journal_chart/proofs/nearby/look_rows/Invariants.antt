@@ -1,4 +1,4 @@
-use Rattle.journal_chart.specs.declared.row.Row.{Row}
+use Rattle.journal_chart.specs.Rows.{Row}
 use Rattle.journal_chart.specs.declared.row.Known.{Known}
 use Rattle.journal_chart.specs.Steps.{seen_row}
 use Rattle.journal_chart.proofs.Pairs.{Paired}

@@ -1,6 +1,6 @@
 use Rattle.std.proofs.Common.{get_or, drop, subst, sym, ◌≡◌, arith, rules}
 use Rattle.journal_chart.specs.declared.row.Known.{Known}
-use Rattle.journal_chart.specs.declared.row.Row.{Row}
+use Rattle.journal_chart.specs.Rows.{Row}
 use Rattle.journal_chart.specs.Steps.{near_row, nothing_known}
 use Rattle.journal_chart.proofs.Pairs.{get-any, paired-more, paired-none}
 use Rattle.journal_chart.proofs.AtRest.{near-made}

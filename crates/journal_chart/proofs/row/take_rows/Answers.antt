@@ -1,5 +1,5 @@
 use Rattle.std.proofs.Common.{ap, sym, ◌∙◌, arith}
-use Rattle.journal_chart.specs.declared.row.Row.{Row}
+use Rattle.journal_chart.specs.Rows.{Row}
 use Rattle.journal_chart.specs.Steps.{taken_row}
 use Rattle.journal_chart.proofs.Mapped.{mapped-more}
 use Rattle.journal_chart.proofs.row.take_rows.Goals as goal

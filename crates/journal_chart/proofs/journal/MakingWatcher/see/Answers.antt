@@ -1,7 +1,7 @@
 use Rattle.std.proofs.Common.{◌≡◌, List, length, ◌+◌, false, nat_le, nat_lt, refl, sym, ap, ◌∙◌, subst, arith}
 use Rattle.std.proofs.lemmas.Bool.Decides.{nat_tests}
 use Rattle.std.proofs.lemmas.List.{length-map}
-use Rattle.journal_chart.specs.declared.row.Row.{Row}
+use Rattle.journal_chart.specs.Rows.{Row}
 use Rattle.journal_chart.specs.Numbers.{Charted}
 use Rattle.journal_chart.specs.Steps.{Followed, Making, made_more, next_chart}
 use Rattle.journal_chart.specs.Numbering.{AreNumbered, arenas_of}
