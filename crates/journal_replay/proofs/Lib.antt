@@ -7,6 +7,7 @@ mod Back
 mod Few
 mod Short
 mod PlainTexts
+mod PlainRuns
 mod PlainWritten
 mod PushedEntries
 mod ReadMembers

@@ -1,14 +1,18 @@
-use Rattle.std.proofs.Common.{◌∷◌, subst, sym}
+use Rattle.std.proofs.Common.{◌≡◌, ◌++◌, ◌∷◌, ◌∙◌, ap, take, subst, sym}
+use Rattle.std.proofs.lemmas.List.{take-append-drop, take_rest}
 use Rattle.journal_replay.specs.Cuts.{IsInside}
-use Rattle.journal_replay.proofs.Inside.{clear-plain, cut-string, inside-plain}
+use Rattle.journal_replay.proofs.Inside.{cut-string, inside-plain}
 use Rattle.journal_replay.proofs.texts.cut_quoted.Goals as goal
 
-pub returns-then-are_clear : goal.returns-then-are_clear
-returns-then-are_clear c =
-    let inside = c.in_ok-inside.inside.now in
-    let rest = c.in_ok-inside.rest.now in
-    let plain = clear-plain inside c.in_ok-inside.ensures.first (sym c.if-are_clear.ensures) in
-    cut-string c.args.text.now rest inside (subst (λ t. IsInside t (34 ∷ rest) inside) (sym c.in_ok-inside.ensures.cut) (inside-plain inside (34 ∷ rest) plain))
+pub returns-then-first-eq34 : goal.returns-then-first-eq34
+returns-then-first-eq34 c =
+    let text = c.args.text.now in
+    let rest = c.in_ok-first.rest.now in
+    let count = c.plain_front-count.result in
+    let found = take count text in
+    let whole : found ++ 34 ∷ rest ≡ text =
+    ap (λ x. found ++ x ∷ rest) (sym c.if-first-eq34.true) ∙ ap (λ t. found ++ t) (sym c.in_ok-first.ensures.cases.0 ∙ take_rest text count) ∙ take-append-drop count text in
+    cut-string text rest found (subst (λ t. IsInside t (34 ∷ rest) found) whole (inside-plain found (34 ∷ rest) c.plain_front-count.ensures.plain))
 
 pub returns : goal.returns
 returns c =
