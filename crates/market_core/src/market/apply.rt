@@ -31,15 +31,12 @@ impl Market {
         ensures no_memory { takes_memory cmd ≡ false → IsOk result }
         ensures memory_last { OnErr result (is_refusal (step self.old seat cmd).0 ≡ false) }
     {
-        match cmd {
-            Cmd::Join if self.is_unneeded(seat) => Ok(Reply::Idle),
-            _ => {
-                let mut visits = 0;
-                // Taken out of its result and put into one again: a result that is handed on whole goes through memory.
-                let reply = self.answer(alloc, seat, cmd, &mut visits)?;
-                Ok(reply)
+        if let Cmd::Join = cmd {
+            if self.is_unneeded(seat) {
+                return Ok(Reply::Idle);
             }
         }
+        self.answer(alloc, seat, cmd, &mut 0)
     }
 
     /// Does what `apply` does, but never from what the market keeps of an earlier Join, and says how many visits it made: a
@@ -102,25 +99,28 @@ impl Market {
         ensures listed { lists_all cmd ≡ true → OnOk result (visits.new ≤ most_listed self.old) }
         ensures joined { cmd ≡ Join → OnOk result (visits.new ≤ most_joined self.old) }
     {
-        match cmd {
-            Cmd::Open(slots, reserved, level) => self.open(alloc, slots, reserved, level, visits),
-            Cmd::Close(arena) => Ok(self.close(arena, visits)),
-            Cmd::Priority(arena, level) => Ok(self.priority(arena, level, visits)),
-            Cmd::Resize(arena, slots, reserved) => {
-                Ok(self.resize(arena, slots, reserved, visits))
+        // One place for the reply of whichever command. Where each arm puts its own reply into a result, each has a place of its own, and all of
+        // these are cleared at every call.
+        let reply = match cmd {
+            Cmd::Open(slots, reserved, level) => {
+                return self.open(alloc, slots, reserved, level, visits);
             }
+            Cmd::Control(value) => return self.control(value),
+            Cmd::Lists => return self.list(alloc, visits),
+            Cmd::Close(arena) => self.close(arena, visits),
+            Cmd::Priority(arena, level) => self.priority(arena, level, visits),
+            Cmd::Resize(arena, slots, reserved) => self.resize(arena, slots, reserved, visits),
             Cmd::Request(arena, workers, mandatory) => {
-                Ok(self.request(arena, workers, mandatory, visits))
+                self.request(arena, workers, mandatory, visits)
             }
-            Cmd::Control(value) => self.control(value),
-            Cmd::Uncontrol(control) => Ok(self.uncontrol(control)),
-            Cmd::Join => Ok(self.join(seat, visits)),
-            Cmd::Stay => Ok(self.stay(seat, visits)),
-            Cmd::Leave => Ok(self.leave(seat)),
-            Cmd::Show(arena) => Ok(self.show(arena, visits)),
-            Cmd::Lists => self.list(alloc, visits),
-            Cmd::Limit => Ok(Reply::Limits(self.limits())),
-        }
+            Cmd::Uncontrol(control) => self.uncontrol(control),
+            Cmd::Join => self.join(seat, visits),
+            Cmd::Stay => self.stay(seat, visits),
+            Cmd::Leave => self.leave(seat),
+            Cmd::Show(arena) => self.show(arena, visits),
+            Cmd::Limit => Reply::Limits(self.limits()),
+        };
+        Ok(reply)
     }
 
     /// A new arena, before all others.
