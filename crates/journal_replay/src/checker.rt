@@ -126,14 +126,23 @@ impl Progress {
         Ok(())
     }
 
-    /// Ends the journal, which may have so many entries, with what is found.
-    // Apart, since each line would else make room for it.
+    /// Ends the journal with this line, which is no entry of it.
+    // Apart, as the others that end it are, and each makes its verdict by itself: each line would else make room for all of them.
     #[cold]
     #[inline(never)]
-    fn end(&mut self, verdict: Verdict, extent: Extent)
-        ensures { self.new ≡ Progress.Faulty verdict extent }
+    fn end_bad_record(&mut self, line: u64, extent: Extent)
+        ensures { self.new ≡ Progress.Faulty (Verdict.BadRecord line) extent }
     {
-        *self = Progress::Faulty(verdict, extent);
+        *self = Progress::Faulty(Verdict::BadRecord(line), extent);
+    }
+
+    /// Ends the journal with this line, which is no JSON.
+    #[cold]
+    #[inline(never)]
+    fn end_bad_json(&mut self, line: u64, extent: Extent)
+        ensures { self.new ≡ Progress.Faulty (Verdict.BadJson line) extent }
+    {
+        *self = Progress::Faulty(Verdict::BadJson(line), extent);
     }
 
     /// Ends the journal with this line, whose reply is not the one of this text, which is due.
@@ -150,7 +159,7 @@ impl Progress {
         ensures { OnOk result (self.new ≡ Progress.Faulty (Verdict.WrongReply line due.now) extent) }
     {
         let due = due_reply(alloc, due)?;
-        self.end(Verdict::WrongReply(line, due), extent);
+        *self = Progress::Faulty(Verdict::WrongReply(line, due), extent);
         Ok(())
     }
 
@@ -178,7 +187,7 @@ impl Progress {
                 match read_whole(alloc, line, form, room, market.seats(), market.levels()) {
                     Ok(Reading::Entry(entry)) => {
                         if extent.is_full(*entries) {
-                            self.end(Verdict::BadRecord(number), extent);
+                            self.end_bad_record(number, extent);
                             return Ok(());
                         }
                         if replay(alloc, market, due, watcher, &entry)? {
@@ -188,11 +197,11 @@ impl Progress {
                         self.end_wrong(alloc, number, due, extent)
                     }
                     Ok(Reading::NotEntry) => {
-                        self.end(Verdict::BadRecord(number), extent);
+                        self.end_bad_record(number, extent);
                         Ok(())
                     }
                     Ok(Reading::NotJson) => {
-                        self.end(Verdict::BadJson(number), extent);
+                        self.end_bad_json(number, extent);
                         Ok(())
                     }
                     Err(_) => Err(AllocError),
