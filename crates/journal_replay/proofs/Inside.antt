@@ -5,7 +5,6 @@ use Rattle.std.proofs.Common.{◌≡◌, ◌<◌, ◌+◌, ◌*◌, ◌-◌, ℕ
 use Rattle.std.proofs.lemmas.Bool.{and_parts, lt-ltb, lt-leb, ne_eqb}
 use Rattle.std.proofs.lemmas.Bool.Decides.{nat_tests}
 use Rattle.std.proofs.lemmas.List.{take-append-drop, take_rest}
-use Rattle.std.proofs.lemmas.List.Elements.{All-head, All-tail}
 use Rattle.std.proofs.lemmas.Str.{IsUtf8-append}
 use Rattle.json.specs.Text.{content, plain, after_high, prepend, code_unit, is_high_surrogate, is_low_surrogate}
 use Rattle.json.specs.Word.{is_operator, is_space}
@@ -13,7 +12,7 @@ use Rattle.json.specs.Lex.{Lexeme, Mode, token, operator, space, other, in_strin
 use Rattle.json.specs.Token.{string}
 use Rattle.json.proofs.Printed.Utf8.{IsUtf8-are_ascii}
 use Rattle.journal_replay.specs.Cuts.{IsCut, IsInside}
-use Rattle.journal_replay.specs.Plain.{NoQuote, are_clear, are_plain, is_clear, is_plain}
+use Rattle.journal_replay.specs.Plain.{are_plain, is_plain}
 
 -- ---- one after the other
 
@@ -67,17 +66,6 @@ inside-plain [] tail h = inside-none tail
 inside-plain (x ∷ text) tail h =
     let p = and_parts (is_plain x) (are_plain text) h in
     inside-then (x ∷ (text ++ tail)) (text ++ tail) tail (x ∷ []) text (inside-byte x (text ++ tail) p.0) (inside-plain text tail p.1)
-
--- where there is no quote, what is clear is plain
-clear-byte : (x : ℕ) → eqb x 34 ≡ false → is_clear x ≡ true → is_plain x ≡ true
-clear-byte x q h = grind (arith, nat_tests)
-
-pub clear-plain : (text : List ℕ) → NoQuote text → are_clear text ≡ true → are_plain text ≡ true
-clear-plain [] q h = refl
-clear-plain (x ∷ text) q h =
-    let p = and_parts (is_clear x) (are_clear text) h in
-    let first : eqb x 34 ≡ false = All-head (λ y. eqb y 34 ≡ false) x text q in
-    rw (clear-byte x first p.0) (clear-plain text (All-tail (λ y. eqb y 34 ≡ false) x text q) p.1)
 
 -- one that was put behind what was found, and a byte behind it
 pub inside-more : (inside rest behind tail held : List ℕ) (at n : ℕ) → IsInside (inside ++ tail) (rest ++ tail) held → are_plain (take at rest) ≡ true → IsInside (take (length rest - at) (drop at rest) ++ tail) (behind ++ tail) (n ∷ [])

@@ -13,10 +13,3 @@ are_plain text = list_all is_plain text
 -- the text has no quote
 abbrev pub NoQuote : List ℕ → Type 0
 NoQuote text = All (λ x. (x == 34) ≡ false) text
-
--- such a byte, or a quote: in a text that has none each is plain
-abbrev pub is_clear : ℕ → Bool
-is_clear x = nat_le 32 x && nat_lt x 127 && not (x == 92)
-
-abbrev pub are_clear : List ℕ → Bool
-are_clear text = list_all is_clear text

@@ -7,7 +7,7 @@ ghost use Rattle.std.specs.Prelude.{◌≡◌, ◌+◌, ◌<◌, ◌≤◌, ◌+
 ghost use Rattle.json.specs.Lex.{token};
 ghost use Rattle.json.specs.Token.{string};
 ghost use Rattle.journal_replay.specs.Cuts.{IsCut, IsInside};
-ghost use Rattle.journal_replay.specs.Plain.{NoQuote, are_clear, are_plain, is_clear, is_plain};
+ghost use Rattle.journal_replay.specs.Plain.{NoQuote, are_plain, is_plain};
 
 use memchr::memchr;
 use std::alloc::Global;
@@ -32,31 +32,12 @@ impl Texts {
     }
 }
 
-/// The byte stands in a text as it is, unless it is a quote.
-#[inline(always)]
-fn is_clear(byte: u8) -> bool
-    ensures { result ≡ is_clear byte }
-{
-    (byte >= 32) & (byte < 127) & (byte != b'\\')
-}
-
-/// Each byte does. It looks at all of them, so that several are looked at at a time.
-fn are_clear(text: &[u8]) -> bool
-    ensures { result ≡ are_clear text.now }
-{
-    let mut clear = true;
-    for byte in text {
-        clear &= is_clear(*byte);
-    }
-    clear
-}
-
 /// The byte stands in a text as it is.
 #[inline(always)]
 fn is_plain(byte: u8) -> bool
     ensures { result ≡ is_plain byte }
 {
-    is_clear(byte) & (byte != b'"')
+    (byte >= 32) & (byte < 127) & (byte != b'"') & (byte != b'\\')
 }
 
 /// So many of the 16 bytes from an index on are plain, up to the first that is not. Nothing but speed rests on there being no more.
@@ -122,12 +103,12 @@ fn cut_escape(text: &[u8]) -> Option<(u8, &[u8])>
     Some(((high * 16 + low) as u8, rest))
 }
 
-/// Puts a text that is clear behind what the room holds.
-fn push_clear(room: &mut Vec<u8>, text: &[u8]) -> Option<()>
-    ensures clear { IfSome result (λ _. are_clear text.now ≡ true) }
+/// Puts a text behind what the room holds. None of one that is not plain, and where the room gets no memory.
+fn push_plain(room: &mut Vec<u8>, text: &[u8]) -> Option<()>
+    ensures plain { IfSome result (λ _. are_plain text.now ≡ true) }
     ensures pushed { IfSome result (λ _. room.new.items ≡ room.old.items ++ text.now) }
 {
-    if !are_clear(text) {
+    if plain_front(text) < text.len() {
         return None;
     }
     room.extend_from_slice(text).ok()
@@ -138,18 +119,17 @@ fn push_clear(room: &mut Vec<u8>, text: &[u8]) -> Option<()>
 // Apart, since nearly no text has an escape.
 #[inline(never)]
 fn undo<'a>(inside: &[u8], room: &'a mut Vec<u8>) -> Option<&'a [u8]>
-    requires { NoQuote inside.now }
     ensures { IfSome result (λ text. (tail : List ℕ) → IsInside (inside.now ++ tail) tail text.now) }
 {
     room.clear();
     let mut rest = inside;
     while let Some(at) = memchr(b'\\', rest) {
-        push_clear(room, &rest[..at])?;
+        push_plain(room, &rest[..at])?;
         let (byte, more) = cut_escape(&rest[at..])?;
         room.push(byte).ok()?;
         rest = more;
     }
-    push_clear(room, rest)?;
+    push_plain(room, rest)?;
     Some(room.as_slice())
 }
 
