@@ -1,8 +1,6 @@
 -- How a script's lines are answered, one after the other (own).
-use Rattle.std.specs.Prelude.{ℕ, ◌+◌, Bool, true, false, List, [], ◌++◌, if◌then◌else◌, Option, None, Some, codes}
-use Rattle.market_types.specs.declared.reply.Reply.{Reply}
+use Rattle.std.specs.Prelude.{ℕ, ◌+◌, Bool, true, false, List, [], if◌then◌else◌, None}
 use Rattle.market_types.specs.State.{State}
-use Rattle.market_texts.specs.Texts.{reply_text}
 use Rattle.market_texts.specs.Script.{Told, nothing, is_silent, answer_of, answer_to}
 use Rattle.line_engine.specs.Rule.{LineRule}
 use Rattle.line_engine.specs.declared.form.LineForm.{LineForm}
@@ -24,11 +22,6 @@ script_rule answers = record {
   reply = λ now line. if answers then (answer_by line.form now.0 line.bytes).text else [];
   next = λ now line. ((answer_by line.form now.0 line.bytes).last, now.1 + (answer_by line.form now.0 line.bytes).unread);
 }
-
--- what a line is answered, by the reply to its call if it was read
-abbrev pub answer_line : Option Reply → List ℕ
-answer_line None = codes "unread\n"
-answer_line (Some reply) = reply_text reply ++ codes "\n"
 
 -- only the first bytes of the line were handed on
 abbrev pub is_too_long : LineForm → Bool

@@ -2,12 +2,12 @@
 ghost use Rattle.std.specs.Prelude.{◌≡◌, ℕ, ◌+◌, ◌<◌, ◌^◌, [], ◌++◌, length, None, if◌then◌else◌, IfOk, IfSome, OnOk};
 ghost use Rattle.market_texts.specs.Reading.{line_reading};
 ghost use Rattle.market_texts.specs.Script.{answer_to, is_silent};
-ghost use Rattle.market_prog.specs.Sessions.{answer_line, is_too_long};
+ghost use Rattle.market_prog.specs.Sessions.{is_too_long};
 
 use line_engine::{LONGEST_INPUT, LONGEST_LINE, LineForm, LineTaker};
 use market_core::Market;
 use market_texts::{push_reply, read_line};
-use market_types::{Cmd, Reply, SeatNo};
+use market_types::{Cmd, SeatNo};
 use std::alloc::{AllocError, Global};
 
 /// A market, and the number of unread lines. Where it doesn't answer its lines it only changes its market.
@@ -63,23 +63,7 @@ impl<const ANSWERS: bool> Session<ANSWERS> {
         self.unread
     }
 
-    /// Gives the call of a line that is not silent to the market: the reply, or `None` where the line was not read.
-    fn obey(&mut self, call: Option<(SeatNo, Cmd)>) -> Result<Option<Reply>, AllocError>
-        requires few { self.old.unread + 1 < 2 ^ 64 }
-        requires seat { IfSome call (λ c. c.0 < length self.old.market.seats) }
-        ensures told { IfOk result (λ reply. answer_line reply ≡ (answer_to self.old.market call).text) }
-        ensures market { OnOk result (self.new.market ≡ (answer_to self.old.market call).last) }
-        ensures unread { OnOk result (self.new.unread ≡ self.old.unread + (answer_to self.old.market call).unread) }
-    {
-        let Some((seat, cmd)) = call else {
-            self.unread += 1;
-            return Ok(None);
-        };
-        let reply = self.market.apply(self.alloc, seat, cmd)?;
-        Ok(Some(reply))
-    }
-
-    /// Takes a line that is not silent, and answers it where lines are answered.
+    /// Gives the call of a line that is not silent to the market, and answers it where lines are answered.
     fn reply_to(
         &mut self,
         call: Option<(SeatNo, Cmd)>,
@@ -91,16 +75,18 @@ impl<const ANSWERS: bool> Session<ANSWERS> {
         ensures market { OnOk result (self.new.market ≡ (answer_to self.old.market call).last) }
         ensures unread { OnOk result (self.new.unread ≡ self.old.unread + (answer_to self.old.market call).unread) }
     {
-        let answer = self.obey(call)?;
-        if !ANSWERS {
-            return Ok(());
-        }
-        let Some(reply) = &answer else {
-            replies.extend_from_slice(b"unread\n")?;
+        let Some((seat, cmd)) = call else {
+            self.unread += 1;
+            if ANSWERS {
+                replies.extend_from_slice(b"unread\n")?;
+            }
             return Ok(());
         };
-        push_reply(replies, reply)?;
-        replies.push(b'\n')?;
+        let reply = self.market.apply(self.alloc, seat, cmd)?;
+        if ANSWERS {
+            push_reply(replies, &reply)?;
+            replies.push(b'\n')?;
+        }
         Ok(())
     }
 }
