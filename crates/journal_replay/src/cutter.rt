@@ -96,6 +96,8 @@ fn ends_number(text: &[u8]) -> bool
 }
 
 /// The number with which the text begins behind white space, and what follows it.
+// In its callers: what it answers is more than registers hold, so that a call would put it into memory.
+#[inline(always)]
 fn cut_whole(text: &[u8]) -> Option<(u32, &[u8])>
     ensures cut { IfSome result (λ cut. IsCut text.now cut.1.now (token (number (decimal cut.0)) ∷ [])) }
     ensures counted { IfSome result (λ cut. cut.0 < 2 ^ 64) }

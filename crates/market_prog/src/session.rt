@@ -26,6 +26,8 @@ pub(crate) fn is_silent(line: &[u8]) -> bool
 }
 
 /// The seat and the command that a line spells in this market. One that is too long spells none.
+// In its callers: what it answers is more than registers hold, so that a call would put it into memory.
+#[inline(always)]
 pub(crate) fn call_in(market: &Market, line: &[u8], form: LineForm) -> Option<(SeatNo, Cmd)>
     ensures exact { result ≡ (if is_too_long form then None else line_reading (length market.now.seats) market.now.levels line.now) }
     ensures seat { IfSome result (λ call. call.0 < length market.now.seats) }
