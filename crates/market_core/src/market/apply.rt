@@ -36,7 +36,9 @@ impl Market {
                 return Ok(Reply::Idle);
             }
         }
-        self.answer(alloc, seat, cmd, &mut 0)
+        // Taken out of its result and put into one again: a result that is handed on whole goes through memory.
+        let reply = self.answer(alloc, seat, cmd, &mut 0)?;
+        Ok(reply)
     }
 
     /// Does what `apply` does, but never from what the market keeps of an earlier Join, and says how many visits it made: a
