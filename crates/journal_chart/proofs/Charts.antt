@@ -197,14 +197,24 @@ chart-more most n width width' place old mid new arenas moments s t seat cmd rep
     let more : n + 1 ≡ length (moments ++ t ∷ []) = omega (arith, count, length_push moments t) in
     λ i. charted most (more i) (lines i)
 
+-- the column of the next moment
+pub place-more : (most n width width' place : ℕ) → width ≡ width_of most n → width' ≡ (if nat_le (most * width) n then width + width else width)
+    → place ≡ n / width' → place ≡ n / width_of most (n + 1)
+place-more most n width width' place wide wider where_ = where_ ∙ ap (λ w. n / w) (width-more most n width width' wide wider)
+
+-- the lines that have room for it
+pub room-more : (most n width : ℕ) (old mid : Drawn) → width ≡ width_of most n → mid ≡ (if nat_le (most * width) n then halved_lines old else old)
+    → mid ≡ roomed_lines (charted most n old)
+room-more most n width old mid wide room = room ∙ ap (λ w. if nat_le (most * w) n then halved_lines old else old) wide
+
 -- what the code does to a chart at a moment
 pub chart-step : (most n width width' place : ℕ) (old mid new : Drawn) (s : State) (cmd : Cmd) (reply : Reply) → width ≡ width_of most n
     → width' ≡ (if nat_le (most * width) n then width + width else width)
     → mid ≡ (if nat_le (most * width) n then halved_lines old else old)
     → place ≡ n / width' → new ≡ taken_lines place s cmd reply mid → charted most (n + 1) new ≡ taken_chart s cmd reply (charted most n old)
 chart-step most n width width' place old mid new s cmd reply wide wider room where_ taken =
-    let here : place ≡ n / width_of most (n + 1) = where_ ∙ ap (λ w. n / w) (width-more most n width width' wide wider) in
-    let roomed_ : mid ≡ roomed_lines (charted most n old) = room ∙ ap (λ w. if nat_le (most * w) n then halved_lines old else old) wide in
+    let here = place-more most n width width' place wide wider where_ in
+    let roomed_ = room-more most n width old mid wide room in
     let lines : new ≡ taken_lines (n / width_of most (n + 1)) s cmd reply (roomed_lines (charted most n old)) = taken ∙ (λ i. taken_lines (here i) s cmd reply (roomed_ i)) in
     λ i. charted most (n + 1) (lines i)
 

@@ -1,4 +1,5 @@
 use Rattle.std.proofs.Common.{rules, ◌≡◌, ◌==◌, List, true, false, length, ap, ◌∙◌, refl, arith}
+use Rattle.std.proofs.lemmas.Grind.{common_steps}
 use Rattle.journal_chart.specs.declared.row.Known.{Known}
 use Rattle.journal_chart.specs.Steps.{begun_chart, goes_on}
 use Rattle.journal_chart.proofs.Mapped.{written-over}
@@ -20,3 +21,12 @@ returns-else-self-eq0-clause-known c =
     ∙ c.begin.ensures.known
     ∙ ap (λ (ks : List Known). (begun_chart c.args.market.now c.args.cmd.now c.args.reply.now (record { chart = chart; known = ks; shares = notes.shares })).known) c.as_mut_slice-known.ensures.value
     ∙ rw (begun, some) refl
+
+pub returns-then-self-eq0-clause-known : goal.returns-then-self-eq0-clause-known
+returns-then-self-eq0-clause-known c = grind (arith, common_steps)
+
+pub returns-then-self-eq0-clause-each : goal.returns-then-self-eq0-clause-each
+returns-then-self-eq0-clause-each c = grind (arith, common_steps)
+
+pub returns-else-self-eq0-clause-each : goal.returns-else-self-eq0-clause-each
+returns-else-self-eq0-clause-each c = grind (arith, common_steps)
