@@ -1,3 +1,4 @@
+use Rattle.std.proofs.lemmas.Grind.{common_steps}
 use Rattle.std.proofs.Common.{length, refl, sym, ap, ◌∙◌, subst, arith}
 use Rattle.std.proofs.lemmas.List.{length-map}
 use Rattle.market_types.specs.State.{opening_to}
@@ -25,3 +26,15 @@ returns-clause-charts g c =
     subst (λ (m : Making). Charts c.args.columns c.args.arenas.now c.args.from c.args.to left left' c.in_ok-found.found m.followed.chart) (sym c.making.view_is)
     (charts c.no_carry_to_keep.ensures.after_a_level c.args.columns c.args.arenas.now c.args.from c.args.to c.in_ok-new.field-0 _ _ c.in_ok-found.making left left' c.in_ok-found.found
     c.requires.some c.in_ok-new.ensures.opened c.in_ok-found.ensures.watches)
+
+pub returns-in_err-vec-clause-charts : goal.returns-in_err-vec-clause-charts
+returns-in_err-vec-clause-charts c = grind (arith, common_steps)
+
+pub returns-in_err-vec-clause-end : goal.returns-in_err-vec-clause-end
+returns-in_err-vec-clause-end c = grind (arith, common_steps)
+
+pub returns-in_err-vec-clause-whole : goal.returns-in_err-vec-clause-whole
+returns-in_err-vec-clause-whole c = grind (arith, common_steps)
+
+pub returns-in_err-vec-clause-working : goal.returns-in_err-vec-clause-working
+returns-in_err-vec-clause-working c = grind (arith, common_steps)

@@ -1,3 +1,4 @@
+use Rattle.std.proofs.lemmas.Grind.{common_steps}
 use Rattle.std.proofs.Common.{◌≡◌, ◌++◌, true, ap, ◌∙◌, get_or, sym, arith}
 use Rattle.std.proofs.lemmas.List.Sums.{count_by_more_yes}
 use Rattle.journal_chart.specs.Pages.{Paged}
@@ -31,3 +32,12 @@ loop-row-preserved g c =
       low = omega (arith, c.loop-row.invariant.low);
       size = c.write_row.ensures.size ∙ ap (λ (p : Paged). p.size) c.clear.ensures ∙ c.loop-row.invariant.size;
     }
+
+pub loop-row-preserved-then-not-is_at : goal.loop-row-preserved-then-not-is_at
+loop-row-preserved-then-not-is_at c = grind (arith, common_steps)
+
+pub returns-clause-written : goal.returns-clause-written
+returns-clause-written c = grind (arith, common_steps)
+
+pub returns-clause-end : goal.returns-clause-end
+returns-clause-end c = grind (arith, common_steps)
