@@ -1,5 +1,6 @@
 mod Numbers
 mod Allotted
+mod Ahead
 mod Steps
 mod Order
 mod Runs

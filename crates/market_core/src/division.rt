@@ -29,6 +29,15 @@ pub struct LevelShare {
     pub demand: u64,
 }
 
+/// What an arena is allotted, and what comes before it at its level.
+#[derive(Clone, Copy)]
+pub struct Portion {
+    /// How many workers it is allotted.
+    pub workers: u32,
+    /// What the arenas before it at its level ask for together.
+    pub before: u32,
+}
+
 impl Division {
     /// What a level is assigned of what it asks for.
     pub(crate) fn share_at(&self, level: Level) -> LevelShare

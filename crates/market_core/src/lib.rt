@@ -13,6 +13,6 @@ mod opening;
 
 pub use by_level::ByLevel;
 pub use calls::apply_all;
-pub use division::Division;
+pub use division::{Division, Portion};
 pub use law::{a_call_moves_its_own_seat, placed_worker_is_allotted};
 pub use market::Market;

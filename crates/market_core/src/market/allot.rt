@@ -9,10 +9,11 @@ ghost use Rattle.market_core.specs.Visits.{HasSmallLevels, extra_visits, least_e
 ghost use Rattle.market_types.specs.State.{Arena, State};
 ghost use Rattle.market_types.specs.Claims.{request_of};
 ghost use Rattle.market_core.specs.Allotted.{IsWithin, level_allotment};
+ghost use Rattle.market_core.specs.Ahead.{asked_ahead};
 
 use super::Market;
 use crate::by_level::ByLevel;
-use crate::division::{Division, LevelShare, sum_of};
+use crate::division::{Division, LevelShare, Portion, sum_of};
 use allotment::{assign, bound_is_given_out, mandatory_pick, no_carry_to_keep, share};
 use arena_store::StoredArena;
 use market_types::{ArenaId, ArenaView, Level};
@@ -157,6 +158,31 @@ impl Market {
         let before = self.arenas.before(level, stored.stamp(), visits);
         let workers = share(part.assigned, part.demand, before, request);
         workers as u32
+    }
+
+    /// What `carried_to` tells of a living arena whose level is assigned this, and what comes before it there.
+    // Where the arena asks for nobody, it goes down the level too: what comes before it is told all the same.
+    #[inline(always)]
+    fn portion_of(&self, stored: StoredArena, part: LevelShare) -> Portion
+        requires there { arena_at stored.number self.now.arenas ≡ Some stored }
+        requires shared { IsSharedAt stored.level self.now part }
+        ensures workers { result.workers ≡ allotment_of self.now stored.number }
+        ensures before { result.before ≡ asked_ahead stored.number (at_level stored.level self.now.arenas) }
+    {
+        no_carry_to_keep();
+        let request = u64::from(stored.claim().request());
+        let level = stored.level();
+        let mut visits = 0;
+        let asked_before = self.arenas.before(level, stored.stamp(), &mut visits);
+        let before = asked_before as u32;
+        if request == 0 {
+            return Portion { workers: 0, before };
+        }
+        let workers = share(part.assigned, part.demand, asked_before, request);
+        Portion {
+            workers: workers as u32,
+            before,
+        }
     }
 
     /// How many workers an arena is allotted where no worker may be active.
@@ -342,6 +368,37 @@ impl Market {
                 self.carried_to(stored, part, &mut visits)
             }
             _ => self.allotment(arena),
+        }
+    }
+
+    /// What `allotment_at` tells of an arena, and what the arenas before it at this level ask for together, 0 to 67,107,840: all of the level, where the
+    /// arena is not at it, or does not live. It takes no memory.
+    // Always in its callers, as `allotment_at`.
+    #[inline(always)]
+    pub fn portion_at(&self, arena: ArenaId, level: Level, given: u64, asked: u64) -> Portion
+        requires some { 0 < limit_of self.now }
+        requires given { level ≤ self.now.levels → given ≡ assigned self.now level }
+        requires asked { level ≤ self.now.levels → asked ≡ demand self.now level }
+        ensures workers { result.workers ≡ allotment_of self.now arena }
+        ensures before { result.before ≡ asked_ahead arena (at_level level self.now.arenas) }
+    {
+        self.arenas.stand_once();
+        let part = LevelShare {
+            assigned: given,
+            demand: asked,
+        };
+        match self.arenas.get(arena) {
+            Some(own) if own.level() == level => {
+                self.arenas_are_leveled();
+                bound_is_given_out();
+                // That a level asks for few workers is what this call promises.
+                let _ = self.demand(level);
+                self.portion_of(own, part)
+            }
+            _ => Portion {
+                workers: self.allotment(arena),
+                before: self.demand(level) as u32,
+            },
         }
     }
 
