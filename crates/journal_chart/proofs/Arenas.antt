@@ -14,7 +14,8 @@ use Rattle.journal_chart.specs.Columns.{width_of}
 use Rattle.journal_chart.specs.Numbers.{Charted, Drawn, chart_of, row_of}
 use Rattle.journal_chart.specs.Numbering.{AreNumbered, arenas_of}
 use Rattle.journal_chart.specs.Shares.{Shared, shared_of}
-use Rattle.journal_chart.specs.Steps.{Followed, after_seat, begun_chart, closed_row, counted_chart, each_row, first_chart, first_row, goes_on, halved_lines, halved_row, has_share, is_covered_at, is_joined, is_still, kept_levels, moves_seat, near_chart, near_row, near_rows, needing_row, next_chart, own_row, pairwise, passed_row, retold, roomed_lines, seat_row, seat_rows, seated, seen_row, settled_at, settled_row, share_of, stands_kept, subject, taken_row, told_row}
+use Rattle.journal_chart.specs.Spots.{no_spot}
+use Rattle.journal_chart.specs.Steps.{Followed, after_seat, begun_chart, closed_row, counted_chart, each_row, first_chart, first_row, goes_on, halved_lines, halved_row, has_share, is_covered_at, is_joined, is_spared_at, is_still, kept_levels, moves_seat, near_chart, near_row, near_rows, needing_row, next_chart, own_row, pairwise, passed_row, retold, roomed_lines, seat_row, seat_rows, seated, seen_row, settled_at, settled_row, share_of, shared_after, spot_of, spotted, stands_kept, subject, taken_row, told_row}
 
 -- ---- a row
 
@@ -43,15 +44,17 @@ near-arena : (place : ℕ) (s : State) (cmd : Cmd) (reply : Reply) (now : Shared
 near-arena place s cmd reply now kept r k =
     let share : Option ℕ = option_map (share_of s now k r.arena) r.stands in
     let closed : Row × Known = closed_row place s cmd reply k r r share in
-    let open_ : Row × Known = cond (is_covered_at now k r.stands) (r, k) closed in
-    kept-arena (is_just r.arena (subject cmd reply)) (own_row place s cmd reply now k r (retold cmd reply k)) (cond (stands_kept kept r.stands) (r, k) open_) r.arena
+    let asked : Row × Known = spotted (spot_of s now k r.arena r.stands) closed in
+    let near : Row × Known = cond (is_spared_at now k r.stands) (r, k) asked in
+    let open_ : Row × Known = cond (is_covered_at now k r.stands) (r, k) near in
+    kept-arena (is_just r.arena (subject cmd reply)) (spotted no_spot (own_row place s cmd reply now k r (retold cmd reply k))) (cond (stands_kept kept r.stands) (r, k) open_) r.arena
     (own-arena place s cmd reply now k r (retold cmd reply k))
     (kept-arena (stands_kept kept r.stands) (r, k) open_ r.arena refl
-    (kept-arena (is_covered_at now k r.stands) (r, k) closed r.arena refl (closed-arena place s cmd reply k r r share refl)))
+    (kept-arena (is_covered_at now k r.stands) (r, k) near r.arena refl (kept-arena (is_spared_at now k r.stands) (r, k) asked r.arena refl (closed-arena place s cmd reply k r r share refl))))
 
 seat-arena : (place : ℕ) (s : State) (cmd : Cmd) (reply : Reply) (more : Bool) (now : Shared) (r : Row) (k : Known) → (seat_row place s cmd reply more now r k).0.arena ≡ r.arena
 seat-arena place s cmd reply more now r k =
-    kept-arena (is_just r.arena (subject cmd reply)) (own_row place s cmd reply now k r (seated place more reply k r)) (r, k) r.arena
+    kept-arena (is_just r.arena (subject cmd reply)) (spotted no_spot (own_row place s cmd reply now k r (seated place more reply k r))) (r, k) r.arena
     (own-arena place s cmd reply now k r (seated place more reply k r)) refl
 
 settled-arena : (place : ℕ) (s : State) (cmd : Cmd) (reply : Reply) (now : Shared) (k : Known) (r : Row) (o : Option ℕ) → (settled_at place s cmd reply now k r o).0.arena ≡ r.arena
@@ -89,7 +92,8 @@ near-arenas place s cmd reply was rows ks = go (moves_seat cmd)
         pair-arenas (seat_row place s cmd reply more (after_seat s was)) (seat-arena place s cmd reply more (after_seat s was)) rows ks
     go false =
         let kept = kept_levels cmd was (shared_of s) s.levels in
-        pair-arenas (near_row place s cmd reply (shared_of s) kept) (near-arena place s cmd reply (shared_of s) kept) rows ks
+        let now = shared_after cmd was s in
+        pair-arenas (near_row place s cmd reply now kept) (near-arena place s cmd reply now kept) rows ks
 
 pub passed-arenas : (cmd : Cmd) (reply : Reply) (rows : List Row) → arenas_of (map (passed_row cmd reply) rows) ≡ arenas_of rows
 passed-arenas cmd reply rows = map-arenas (passed_row cmd reply) (λ r. refl) rows

@@ -225,7 +225,7 @@ missing-filter n k (x ∷ xs) none =
       | inr other ↦ rw other (missing-filter n k xs h.1)
     ]
 
-found-own : (n : ℕ) (xs : List Arena) (row : Arena) → Finds n xs row → Finds n (at_level row.level xs) row
+pub found-own : (n : ℕ) (xs : List Arena) (row : Arena) → Finds n xs row → Finds n (at_level row.level xs) row
 found-own n [] row found = absurd (cc)
 found-own n (x ∷ xs) row found =
     elim (cases_Bool (eqb x.number n)) [

@@ -16,7 +16,9 @@ use Rattle.market_types.specs.Claims.{new_claim, with_slots, added_claim, reques
 use Rattle.market_types.specs.State.{Claim, Arena, Control as Living, State}
 use Rattle.market_types.specs.Allotment.{active, at_level, carried, carry_past, count_at, is_just, need, recall, share_of, total_request}
 use Rattle.market_types.specs.Step.{Outcome, arena_at, close_step, control_step, if_arena, if_claim, join_at, join_from, leave_from, moved, open_step, opened, place_of, priority_step, refuse, request_step, resize_step, show_step, stay_from, step, uncontrol_step, with_claim, with_place, without}
+use Rattle.market_core.specs.Ahead.{asked_ahead}
 use Rattle.journal_chart.specs.Steps.{keeps_order, subject}
+use Rattle.journal_chart.proofs.Ahead.{Ahead, Follows, Nearly, Within, ahead-claim, ahead-cons, ahead-gone, ahead-nearly, ahead-other, ahead-self, asks-cons, nearly-ahead, nearly-moved, without-fewer}
 use Rattle.journal_chart.proofs.Bounds.{Missing, Once}
 
 -- ---- lists of arenas
@@ -170,10 +172,6 @@ steady-self a xs K D level c same = refl
 turned : (a : ℕ) (xs ys : List Arena) → Steady a xs ys → Steady a ys xs
 turned a xs ys steady K D level c same = sym (steady K D level c (sym same))
 
--- what the arenas of a list ask for
-asks-cons : (x : Arena) (xs : List Arena) → total_request (x ∷ xs) ≡ request_of x.claim + total_request xs
-asks-cons x xs = sum_by-cons (λ (a : Arena). request_of a.claim) x xs
-
 -- the first arena is the same
 steady-cons : (a : ℕ) (x : Arena) (xs ys : List Arena) → Steady a xs ys → Steady a (x ∷ xs) (x ∷ ys)
 steady-cons a x xs ys steady K D level c same =
@@ -244,6 +242,33 @@ without-steady a b (x ∷ xs) apart once =
       | inr not ↦ rw not (steady-cons a x xs (without b xs) (without-steady a b xs apart once.1))
     ]
 
+-- ---- what stands before an arena
+
+-- an arena has another claim
+claim-ahead : (a b : ℕ) (claim : Claim) (xs : List Arena) → Once xs → Ahead a xs (with_claim b claim xs)
+claim-ahead a b claim [] once = ahead-self a []
+claim-ahead a b claim (x ∷ xs) once =
+    elim (cases_Bool (eqb x.number b)) [
+      | inl here ↦
+          let is : x.number ≡ b = grind (arith, nat_tests) in
+          let absent : Missing b xs = subst (λ n. Missing n xs) is once.0 in
+          rw here (subst (λ ys. Ahead a (x ∷ xs) (record x { claim = claim } ∷ ys)) (sym (claim-absent b claim xs absent)) (ahead-claim a x claim xs))
+      | inr not ↦ rw not (ahead-cons a x xs (with_claim b claim xs) (claim-ahead a b claim xs once.1))
+    ]
+
+-- another arena goes away
+without-ahead : (a b : ℕ) (xs : List Arena) → eqb b a ≡ false → Once xs → Ahead a xs (without b xs)
+without-ahead a b [] apart once = ahead-self a []
+without-ahead a b (x ∷ xs) apart once =
+    elim (cases_Bool (eqb x.number b)) [
+      | inl here ↦
+          let is : x.number ≡ b = grind (arith, nat_tests) in
+          let absent : Missing b xs = subst (λ n. Missing n xs) is once.0 in
+          let other : eqb x.number a ≡ false = ap (λ n. eqb n a) is ∙ apart in
+          rw here (subst (Ahead a (x ∷ xs)) (sym (without-absent b xs absent)) (ahead-gone a x xs other))
+      | inr not ↦ rw not (ahead-cons a x xs (without b xs) (without-ahead a b xs apart once.1))
+    ]
+
 -- ---- seats
 
 -- a seat that comes from elsewhere, or goes elsewhere, is not counted
@@ -271,9 +296,16 @@ record Kept (s : State) (a : ℕ) (cmd : Cmd) (o : Outcome) : Type 0 where
   apart : is_just a (subject cmd o.0) ≡ false → Stands s o.1 a
   fine : Fine s → Fine o.1
   steady : is_just a (subject cmd o.0) ≡ false → keeps_order cmd ≡ true → Once s.arenas → Steady a s.arenas o.1.arenas
+  ahead : is_just a (subject cmd o.0) ≡ false → Once s.arenas → Nearly (keeps_order cmd) a s.arenas o.1.arenas
 
 refused : (s : State) (a : ℕ) (cmd : Cmd) (r : Reply) → Kept s a cmd (r, s)
-refused s a cmd r = record { apart = λ other. record { arena = refl; active = refl }; fine = λ h. h; steady = λ other ordered once. steady-self a s.arenas }
+refused s a cmd r =
+    record {
+      apart = λ other. record { arena = refl; active = refl };
+      fine = λ h. h;
+      steady = λ other ordered once. steady-self a s.arenas;
+      ahead = λ other once. nearly-ahead (keeps_order cmd) a s.arenas s.arenas (ahead-self a s.arenas);
+    }
 
 kept-if : (s : State) (a : ℕ) (cmd : Cmd) (b : Bool) (x y : Outcome) → Kept s a cmd x → Kept s a cmd y → Kept s a cmd (cond b x y)
 kept-if s a cmd true x y h k = h
@@ -304,6 +336,7 @@ seat-kept s a seat cmd place r elsewhere =
       apart = λ other. record { arena = refl; active = count-elsewhere a seat place s.seats (elsewhere other).0 (elsewhere other).1 };
       fine = λ h. record { once = h.once; given = h.given; leveled = h.leveled };
       steady = λ other ordered once. steady-self a s.arenas;
+      ahead = λ other once. nearly-ahead (keeps_order cmd) a s.arenas s.arenas (ahead-self a s.arenas);
     }
 
 join_at-kept : (s : State) (a seat : ℕ) (o : Option Arena) → place_of s seat ≡ None → Kept s a Join (join_at s seat o)
@@ -336,6 +369,9 @@ opened-kept s a slots reserved level claim within =
             leveled = All-cons (λ (b : Arena). b.level ≤ s.levels) x s.arenas within h.leveled;
           };
       steady = λ other ordered once. steady-other a (record { number = s.next_arena; stamp = s.next_stamp; level = level; claim = claim }) s.arenas other;
+      ahead = λ other once.
+          let x : Arena = record { number = s.next_arena; stamp = s.next_stamp; level = level; claim = claim } in
+          nearly-ahead true a s.arenas (x ∷ s.arenas) (ahead-other a x s.arenas other);
     }
 
 open-kept : (s : State) (a slots reserved level : ℕ) → Kept s a (Open slots reserved level) (open_step s slots reserved level)
@@ -353,6 +389,7 @@ close-kept s a b =
       apart = λ other. record { arena = without-other a b s.arenas other; active = refl };
       fine = λ h. record { once = without-once b s.arenas h.once; given = without-all (λ (c : Arena). c.number < s.next_arena) b s.arenas h.given; leveled = without-all (λ (c : Arena). c.level ≤ s.levels) b s.arenas h.leveled };
       steady = λ other ordered once. without-steady a b s.arenas other once;
+      ahead = λ other once. nearly-ahead true a s.arenas (without b s.arenas) (without-ahead a b s.arenas other once);
     }))
 
 moved-kept : (s : State) (a b level : ℕ) (x : Arena) → arena_at b s.arenas ≡ Some x → level ≤ s.levels → Kept s a (Priority b level) (moved s level x)
@@ -372,6 +409,10 @@ moved-kept s a b level x found within =
             leveled = All-cons (λ (c : Arena). c.level ≤ s.levels) y (without x.number s.arenas) within (without-all (λ (c : Arena). c.level ≤ s.levels) x.number s.arenas h.leveled);
           };
       steady = λ other ordered once. absurd (true≢false (sym ordered));
+      ahead = λ other once.
+          let apart : eqb x.number a ≡ false = ap (λ n. eqb n a) number ∙ other in
+          nearly-moved a (record x { stamp = s.next_stamp; level = level }) s.arenas (without x.number s.arenas) apart
+          (λ n. without-fewer x.number n s.arenas) (without-ahead a x.number s.arenas apart once);
     }
 
 priority-kept : (s : State) (a b level : ℕ) → Kept s a (Priority b level) (priority_step s b level)
@@ -391,6 +432,7 @@ claimed-kept s a b cmd r claim about =
         leveled = claim-all (λ (c : Arena). c.level ≤ s.levels) b claim s.arenas (λ x p. p) h.leveled;
       };
       steady = λ other ordered once. claim-steady a b claim s.arenas once;
+      ahead = λ other once. nearly-ahead (keeps_order cmd) a s.arenas (with_claim b claim s.arenas) (claim-ahead a b claim s.arenas once);
     }
 
 resize-kept : (s : State) (a b slots reserved : ℕ) → Kept s a (Resize b slots reserved) (resize_step s b slots reserved)
@@ -412,6 +454,7 @@ controls-kept s a cmd r controls next =
       apart = λ other. record { arena = refl; active = refl };
       fine = λ h. record { once = h.once; given = h.given; leveled = h.leveled };
       steady = λ other ordered once. steady-self a s.arenas;
+      ahead = λ other once. nearly-ahead (keeps_order cmd) a s.arenas s.arenas (ahead-self a s.arenas);
     }
 
 control-kept : (s : State) (a value : ℕ) → Kept s a (Control value) (control_step s value)
@@ -456,3 +499,20 @@ pub steady-step : (s t : State) (seat a : ℕ) (cmd : Cmd) (reply : Reply) → s
 steady-step s t seat a cmd reply answered other ordered once =
     subst (λ (o : Outcome). Steady a s.arenas o.1.arenas) answered
     ((steps-kept s seat a cmd).steady (ap (λ (o : Outcome). is_just a (subject cmd o.0)) answered ∙ other) ordered once)
+
+-- a step that is not about the arena changes what stands before it by no more than what its level asks for, but for all that the level asked for
+-- where the step may change the order
+pub ahead-within : (s t : State) (seat a : ℕ) (cmd : Cmd) (reply : Reply) → step s seat cmd ≡ (reply, t) → is_just a (subject cmd reply) ≡ false
+    → Once s.arenas → (level : ℕ)
+    → Within (asked_ahead a (at_level level s.arenas)) (asked_ahead a (at_level level t.arenas)) (total_request (at_level level s.arenas))
+    (total_request (at_level level t.arenas)) (cond (keeps_order cmd) 0 (total_request (at_level level s.arenas)))
+ahead-within s t seat a cmd reply answered other once =
+    subst (λ (o : Outcome). Nearly (keeps_order cmd) a s.arenas o.1.arenas) answered
+    ((steps-kept s seat a cmd).ahead (ap (λ (o : Outcome). is_just a (subject cmd o.0)) answered ∙ other) once)
+
+-- a step that keeps the order, and is not about the arena, changes what stands before it by no more than what its level asks for
+pub ahead-step : (s t : State) (seat a : ℕ) (cmd : Cmd) (reply : Reply) → step s seat cmd ≡ (reply, t) → is_just a (subject cmd reply) ≡ false → keeps_order cmd ≡ true → Once s.arenas
+    → (level : ℕ) → Follows (asked_ahead a (at_level level s.arenas)) (asked_ahead a (at_level level t.arenas)) (total_request (at_level level s.arenas))
+    (total_request (at_level level t.arenas))
+ahead-step s t seat a cmd reply answered other ordered once =
+    ahead-nearly a s.arenas t.arenas (subst (λ b. Nearly b a s.arenas t.arenas) ordered (ahead-within s t seat a cmd reply answered other once))

@@ -11,10 +11,15 @@ pub mod Levels
 pub mod Arenas
 pub mod Charts
 pub mod Bounds
+pub mod Placed
+pub mod Ahead
 pub mod Kept
 pub mod Given
 pub mod Sharing
 pub mod Assigning
+pub mod Spots
+pub mod Drifts
+pub mod Spared
 pub mod Told
 pub mod Still
 pub mod Near

@@ -19,13 +19,13 @@ use Rattle.journal_replay.specs.Verdicts.{json_by}
 use Rattle.journal_replay.specs.Watched.{Watched, Watches, seen_all}
 use Rattle.journal_chart.specs.Numbers.{Charted, chart_of, moments_of}
 use Rattle.journal_chart.specs.declared.row.Known.{Known}
-use Rattle.journal_chart.specs.Shares.{Shared, shared_of}
-use Rattle.journal_chart.specs.Steps.{Making, made_more, passed_chart}
+use Rattle.journal_chart.specs.Shares.{Shared}
+use Rattle.journal_chart.specs.Steps.{Followed, Making, made_more, next_chart, passed_chart}
 use Rattle.journal_chart.specs.Journals.{Charts}
 use Rattle.journal_chart.proofs.Bounds.{Once, Whole}
 use Rattle.journal_chart.proofs.Charts.{chart-passed}
 use Rattle.journal_chart.proofs.Kept.{Fine, fine-step}
-use Rattle.journal_chart.proofs.Next.{Knows, known_at, next-known}
+use Rattle.journal_chart.proofs.Next.{IsFollowed, Knows, next-known}
 
 -- a header opens a market without arenas
 module _ {D O : Type 0} (read : D → Option Header) (opened : Header → O) (market : O → State) (empty : (h : Header) → (market (opened h)).arenas ≡ []) where
@@ -54,8 +54,9 @@ module _ (whole : Whole) (most : ℕ) (arenas : List ℕ) (before to : ℕ) (som
       record { before = before; to = to; seen = seen; followed = record { chart = chart_of most arenas (drop before ms) s; known = ks; shares = given } }
 
   -- what was known of the arenas is told by the last moment that is drawn
-  knows-more : (s t : State) (ms : List State) → before ≤ length ms → Knows most t arenas (drop before (ms ++ t ∷ [])) (known_at most (drop before ms) t arenas) (shared_of t)
-  knows-more s t ms long = inr (drop before ms, (drop-append-le before ms (t ∷ []) long, (refl, refl)))
+  knows-more : (t : State) (ms : List State) (f : Followed) → before ≤ length ms → IsFollowed most arenas (drop before ms) t f
+      → Knows most t arenas (drop before (ms ++ t ∷ [])) f.known f.shares
+  knows-more t ms f long next = inr (drop before ms, (drop-append-le before ms (t ∷ []) long, next.held))
 
   -- the moments after one entry more, and what is then known
   record Made (s t : State) (cmd : Cmd) (reply : Reply) (ms : List State) (ks : List Known) (given : Shared) : Type 0 where
@@ -84,19 +85,20 @@ module _ (whole : Whole) (most : ℕ) (arenas : List ℕ) (before to : ℕ) (som
         | inr late ↦
             let long : before ≤ length ms = grind (arith, nat_tests) in
             let next = next-known whole most arenas (drop before ms) s t seat cmd reply ks given some answered fine fine' knows in
+            let f : Followed = next_chart t cmd reply (record { chart = chart_of most arenas (drop before ms) s; known = ks; shares = given }) in
             let more = drop-append-le before ms (t ∷ []) long in
             record {
-              ks' = known_at most (drop before ms) t arenas;
-              given' = shared_of t;
-              knows = knows-more s t ms long;
+              ks' = f.known;
+              given' = f.shares;
+              knows = knows-more t ms f long next;
               is =
                   rw (open_, late)
-                  ((λ i. record { before = before; to = to; seen = length ms + 1; followed = next i })
+                  ((λ i. record { before = before; to = to; seen = length ms + 1; followed = record { chart = next.chart i; known = f.known; shares = f.shares } })
                   ∙ (λ i. record {
                     before = before;
                     to = to;
                     seen = length ms + 1;
-                    followed = record { chart = chart_of most arenas (sym more i) t; known = known_at most (drop before ms) t arenas; shares = shared_of t };
+                    followed = record { chart = chart_of most arenas (sym more i) t; known = f.known; shares = f.shares };
                   }));
             }
       ]

@@ -22,11 +22,16 @@ use Rattle.journal_chart.specs.Columns.{joined, width_of}
 use Rattle.journal_chart.specs.Covering.{covered, covers, exactly, least_covered, none_covered, past_covered}
 use Rattle.journal_chart.specs.Lines.{added, at}
 use Rattle.journal_chart.specs.Numbers.{level_at, line_of, row_of, shown, view_at}
-use Rattle.journal_chart.specs.Shares.{Shared, shared_of}
-use Rattle.journal_chart.specs.Steps.{after_seat, has_few, is_covered, is_covered_at, is_divided, is_idle, is_joined, is_same_part, is_same_share, changed, closed_row, has_share, is_kept, keeps_order, kept_levels, known_in, known_of, moves_seat, near_row, needing_row, own_row, retold, seat_row, seated, seen_row, share_of, shared_row, stands_after, stands_kept, subject}
+use Rattle.journal_chart.specs.declared.spot.Spot.{Spot}
+use Rattle.journal_chart.specs.Spots.{no_spot, spot_by}
+use Rattle.market_core.specs.Ahead.{asked_ahead}
+use Rattle.journal_chart.specs.Shares.{Shared, shared_at, shared_of}
+use Rattle.journal_chart.specs.Steps.{after_seat, has_few, is_covered, is_covered_at, is_divided, is_idle, is_joined, is_same_part, is_same_share, is_spared_at, changed, closed_row, has_share, is_kept, keeps_order, kept_levels, known_in, known_of, moves_seat, near_row, needing_row, own_row, retold, seat_row, seated, seen_row, share_of, shared_row, spot_of, spotted, stands_after, stands_kept, subject}
 use Rattle.journal_chart.proofs.Bounds.{IsShare, Whole, allotment-level, at-level, both, covered-share, exact-share, same-carried, share-of-all, share-of-nothing}
 use Rattle.journal_chart.proofs.Charts.{line-if, readied-row}
 use Rattle.journal_chart.proofs.Kept.{Fine, Stands, Steady, apart-stands, found-number, steady-step}
+use Rattle.journal_chart.proofs.Spared.{spared-covers, spot-new, spot-none}
+use Rattle.journal_chart.proofs.Spots.{IsSpot}
 use Rattle.journal_chart.proofs.Sharing.{divides, leveled, share, shared-asked, shared-given}
 use Rattle.journal_chart.proofs.Still.{GoesOn, added-twice}
 use Rattle.journal_chart.proofs.Told.{Retold, seated-step, told-step}
@@ -265,6 +270,22 @@ share-is whole t a y k fine found asks = go (is_divided (shared_of t) y.level) (
     go false true off i = idle-allotted t y.number i
     go false false off i = number
 
+-- ---- what is known, but for the spot
+
+abbrev pub bare : Known → Known
+bare k = record k { spot = no_spot }
+
+abbrev pub bared : Row × Known → Row × Known
+bared p = (p.0, bare p.1)
+
+pub known-bare : (place : ℕ) (view : Option ArenaView) (r : Row) → bare (known_of place view r) ≡ known_of place view r
+known-bare place None r = refl
+known-bare place (Some v) r = refl
+
+pub known-unspotted : (place : ℕ) (view : Option ArenaView) (r : Row) → (known_of place view r).spot ≡ no_spot
+known-unspotted place None r = refl
+known-unspotted place (Some v) r = refl
+
 -- ---- a number at the next moment
 
 module _ (most : ℕ) (before : List State) (s t : State) (some : 0 < most) (on : GoesOn most (length before)) where
@@ -424,7 +445,7 @@ module _ (most : ℕ) (before : List State) (s t : State) (some : 0 < most) (on 
 
   -- a column has all that a living arena may be allotted, of which this is known
   cover-lines : (whole : Whole) (a : ℕ) (y : Arena) (k : Known) → Fine t → arena_at a t.arenas ≡ Some y → request_of y.claim ≡ k.request → active t y.number ≡ k.active
-      → k ≡ known_in place k.request k.active (row a) → is_covered (shared_of t) k y.level ≡ true → SameLines a
+      → k.covered ≡ covered (at (row a).allot place) (at (row a).recall place) (at (row a).hire place) k.active → is_covered (shared_of t) k y.level ≡ true → SameLines a
   cover-lines whole a y k fine found asks has known h = go (is_divided (shared_of t) y.level) refl h
     where
       given : ℕ
@@ -434,7 +455,7 @@ module _ (most : ℕ) (before : List State) (s t : State) (some : 0 < most) (on 
       asked = slice_index (shared_of t).asked (y.level - 1)
 
       is : k.covered ≡ covered (at (row a).allot place) (at (row a).recall place) (at (row a).hire place) (active t y.number)
-      is = ap (λ (l : Known). l.covered) known ∙ ap (covered (at (row a).allot place) (at (row a).recall place) (at (row a).hire place)) (sym has)
+      is = known ∙ ap (covered (at (row a).allot place) (at (row a).recall place) (at (row a).hire place)) (sym has)
 
       go : (b : Bool) → is_divided (shared_of t) y.level ≡ b → cond b (covers k.covered k.request given asked) (has_few (shared_of t) k.covered) ≡ true → SameLines a
       go true some h =
@@ -499,10 +520,10 @@ module _ (most : ℕ) (before : List State) (s t : State) (some : 0 < most) (on 
 
   -- ---- a row at the next moment
 
-  module _ (whole : Whole) (seat : ℕ) (cmd : Cmd) (reply : Reply) (answered : step s seat cmd ≡ (reply, t)) (fine : Fine s) (fine' : Fine t) (a : ℕ)
+  module _ (whole : Whole) (seat : ℕ) (cmd : Cmd) (reply : Reply) (answered : step s seat cmd ≡ (reply, t)) (fine : Fine s) (fine' : Fine t) (a : ℕ) (o : Spot) (e : ℕ)
       (stood : stands_after a (level_at a s) cmd reply ≡ level_at a t) where
     abbrev was : Known
-    was = known_of place (view_at a s) (row a)
+    was = record (known_of place (view_at a s) (row a)) { spot = o }
 
     -- the market is asked
     seen : seen_row place t cmd reply (row a) ≡ due a
@@ -510,39 +531,58 @@ module _ (most : ℕ) (before : List State) (s t : State) (some : 0 < most) (on 
         let readied = readied-row false most moments s t a (stands_after a (level_at a s) cmd reply) some open_now stood in
         λ i. (readied i, known_of place (view_at a t) (readied i))
 
+    -- its spot is none
+    due-bare : bared (due a) ≡ due a
+    due-bare = λ i. (row' a, known-bare place (view_at a t) (row' a) i)
+
     -- a row of an arena that is allotted what it was
     kept-share : (x : Arena) → Stands s t a → is_just a (subject cmd reply) ≡ false → arena_at a s.arenas ≡ Some x
-        → (keeps_order cmd && is_same_share (shared_of s) (shared_of t) x.level) ≡ true → SameLines a
+        → (keeps_order cmd && is_same_share (shared_of s) (shared_at t e) x.level) ≡ true → SameLines a
     kept-share x stands apart is h =
-        let g = both (keeps_order cmd) (is_same_share (shared_of s) (shared_of t) x.level) h in
+        let g = both (keeps_order cmd) (is_same_share (shared_of s) (shared_at t e) x.level) h in
         let steady = steady-step s t seat a cmd reply answered apart g.0 fine.once in
         even-lines a stands (λ y found.
         let same : Some x ≡ Some y = sym is ∙ found in
         let eq : x ≡ y = cc in
         subst (λ (z : Arena). allotment_of t z.number ≡ allotment_of s z.number) eq (share-same whole a x fine fine' stands steady is g.1))
 
-    kept-lines : Stands s t a → is_just a (subject cmd reply) ≡ false → stands_kept (kept_levels cmd (shared_of s) (shared_of t) t.levels) (level_at a s) ≡ true → SameLines a
+    kept-lines : Stands s t a → is_just a (subject cmd reply) ≡ false → stands_kept (kept_levels cmd (shared_of s) (shared_at t e) t.levels) (level_at a s) ≡ true → SameLines a
     kept-lines stands apart h = go (arena_at a s.arenas) refl h
       where
         go : (o : Option Arena) → arena_at a s.arenas ≡ o
-            → stands_kept (kept_levels cmd (shared_of s) (shared_of t) t.levels) (option_map (λ (b : Arena). b.level) o) ≡ true → SameLines a
+            → stands_kept (kept_levels cmd (shared_of s) (shared_at t e) t.levels) (option_map (λ (b : Arena). b.level) o) ≡ true → SameLines a
         go None is h = absent-lines a stands is
         go (Some x) is h =
-            elim (kept-level cmd (shared_of s) (shared_of t) t.levels x.level (leveled t a x fine' (stands.arena ∙ is)) h) [
+            elim (kept-level cmd (shared_of s) (shared_at t e) t.levels x.level (leveled t a x fine' (stands.arena ∙ is)) h) [
               | inl idle ↦
-                  let g = both (is_idle (shared_of s)) (is_idle (shared_of t)) idle in
+                  let g = both (is_idle (shared_of s)) (is_idle (shared_at t e)) idle in
                   even-lines a stands (λ y found. idle-allotted t y.number g.1 ∙ sym (idle-allotted s y.number g.0))
               | inr kept ↦ kept-share x stands apart is kept
             ]
 
     -- a row of an arena all of whose allotments are covered
-    spanned-lines : Stands s t a → is_covered_at (shared_of t) was (level_at a s) ≡ true → SameLines a
+    spanned-lines : Stands s t a → is_covered_at (shared_at t e) was (level_at a s) ≡ true → SameLines a
     spanned-lines stands h = go (arena_at a s.arenas) refl h
       where
-        go : (o : Option Arena) → arena_at a s.arenas ≡ o
-            → is_covered_at (shared_of t) (known_of place (option_map (view_of s) o) (row a)) (option_map (λ (b : Arena). b.level) o) ≡ true → SameLines a
+        go : (b : Option Arena) → arena_at a s.arenas ≡ b
+            → is_covered_at (shared_at t e) (record (known_of place (option_map (view_of s) b) (row a)) { spot = o }) (option_map (λ (b : Arena). b.level) b) ≡ true → SameLines a
         go None is h = absent-lines a stands is
-        go (Some x) is h = cover-lines whole a x (known_of place (Some (view_of s x)) (row a)) fine' (stands.arena ∙ is) refl (active-same a stands x is) refl h
+        go (Some x) is h = cover-lines whole a x (record (known_of place (Some (view_of s x)) (row a)) { spot = o }) fine' (stands.arena ∙ is) refl (active-same a stands x is) refl h
+
+    -- a row of an arena all of whose allotments are covered wherever it stands
+    spared-lines : IsSpot t a e o → Stands s t a → is_spared_at (shared_at t e) was (level_at a s) ≡ true → SameLines a
+    spared-lines right stands h = go (arena_at a s.arenas) refl h
+      where
+        go : (b : Option Arena) → arena_at a s.arenas ≡ b
+            → is_spared_at (shared_at t e) (record (known_of place (option_map (view_of s) b) (row a)) { spot = o }) (option_map (λ (b : Arena). b.level) b) ≡ true → SameLines a
+        go None is h = absent-lines a stands is
+        go (Some x) is h =
+            let k : Known = record (known_of place (Some (view_of s x)) (row a)) { spot = o } in
+            let found : arena_at a t.arenas ≡ Some x = stands.arena ∙ is in
+            let within = spared-covers whole t a e x k fine' found refl right h in
+            let covers_ : k.covered ≡ covered (at (row a).allot place) (at (row a).recall place) (at (row a).hire place) (active t x.number) =
+            ap (covered (at (row a).allot place) (at (row a).recall place) (at (row a).hire place)) (sym (active-same a stands x is)) in
+            covered-lines a x k.covered found covers_ within.0 within.1
 
     -- an arena of which this is known, where it stood
     record Tells (k : Known) : Type 0 where
@@ -575,16 +615,17 @@ module _ (most : ℕ) (before : List State) (s t : State) (some : 0 < most) (on 
         (λ i. (same i, known_in place (sym n.0 i) (sym n.1 i) (same i))) ∙ (λ i. (row' a, view i))
 
     -- the column has what it is allotted, or it is put there
-    closed : (k : Known) (other : Row) → Tells k → k ≡ known_in place k.request k.active (row a) → ((y : Arena) → arena_at a t.arenas ≡ Some y → SameLines a → (other, k) ≡ due a)
-        → closed_row place t cmd reply k (row a) other (option_map (share_of t (shared_of t) k a) (level_at a s)) ≡ due a
+    closed : (k : Known) (other : Row) → Tells k → k.covered ≡ covered (at (row a).allot place) (at (row a).recall place) (at (row a).hire place) k.active
+        → ((y : Arena) → arena_at a t.arenas ≡ Some y → SameLines a → bared (other, k) ≡ due a)
+        → bared (closed_row place t cmd reply k (row a) other (option_map (share_of t (shared_at t e) k a) (level_at a s))) ≡ due a
     closed k other h known same =
-        ap (λ o. closed_row place t cmd reply k (row a) other (option_map (share_of t (shared_of t) k a) o)) (sym h.level) ∙ at_arena (arena_at a t.arenas) refl
+        ap (λ b. bared (closed_row place t cmd reply k (row a) other (option_map (share_of t (shared_at t e) k a) b))) (sym h.level) ∙ at_arena (arena_at a t.arenas) refl
       where
-        at_arena : (o : Option Arena) → arena_at a t.arenas ≡ o
-            → closed_row place t cmd reply k (row a) other (option_map (share_of t (shared_of t) k a) (option_map (λ (b : Arena). b.level) o)) ≡ due a
-        at_arena None none = seen
+        at_arena : (b : Option Arena) → arena_at a t.arenas ≡ b
+            → bared (closed_row place t cmd reply k (row a) other (option_map (share_of t (shared_at t e) k a) (option_map (λ (c : Arena). c.level) b))) ≡ due a
+        at_arena None none = ap bared seen ∙ due-bare
         at_arena (Some y) found =
-            let v : ℕ = share_of t (shared_of t) k a y.level in
+            let v : ℕ = share_of t (shared_at t e) k a y.level in
             let n = h.tells y found in
             let is : allotment_of t y.number ≡ v = share-is whole t a y k fine' found n.0 in
             elim (cases_Bool (has_share k v)) [
@@ -593,19 +634,19 @@ module _ (most : ℕ) (before : List State) (s t : State) (some : 0 < most) (on 
                   let low : k.covered.from ≤ v = let e = g.0 in grind (arith, nat_tests) in
                   let high : v < k.covered.below = let e = g.1 in grind (arith, nat_tests) in
                   let covers_ : k.covered ≡ covered (at (row a).allot place) (at (row a).recall place) (at (row a).hire place) (active t y.number) =
-                  ap (λ (l : Known). l.covered) known ∙ ap (covered (at (row a).allot place) (at (row a).recall place) (at (row a).hire place)) (sym n.1) in
+                  known ∙ ap (covered (at (row a).allot place) (at (row a).recall place) (at (row a).hire place)) (sym n.1) in
                   rw has (same y found (covered-lines a y k.covered found covers_ (omega (arith, is, low)) (omega (arith, is, high))))
-              | inr lacks ↦ rw lacks (told-row k y v h found is)
+              | inr lacks ↦ rw lacks (ap bared (told-row k y v h found is) ∙ due-bare)
             ]
 
     -- ---- the arena that the entry is about
 
     -- what was known of a living arena is what was shown of it
     asked-before : (number : ArenaView → ℕ) (known : Known → ℕ) (x : Arena) → arena_at a s.arenas ≡ Some x
-        → known (known_of place (Some (view_of s x)) (row a)) ≡ number (view_of s x) → shown number a s ≡ Some (known was)
+        → known (record (known_of place (Some (view_of s x)) (row a)) { spot = o }) ≡ number (view_of s x) → shown number a s ≡ Some (known was)
     asked-before number known x is same =
-        ap (λ o. option_map number (option_map (view_of s) o)) is
-        ∙ ap (λ n. Some n) (sym same ∙ sym (ap (λ o. known (known_of place (option_map (view_of s) o) (row a))) is))
+        ap (λ b. option_map number (option_map (view_of s) b)) is
+        ∙ ap (λ n. Some n) (sym same ∙ sym (ap (λ b. known (record (known_of place (option_map (view_of s) b) (row a)) { spot = o })) is))
 
     -- its request and its workers are told, and the column has all that it may be allotted
     needing : (k : Known) (x y : Arena) → Tells k → arena_at a s.arenas ≡ Some x → arena_at a t.arenas ≡ Some y → k ≡ known_in place k.request k.active (row a) → SameLines a
@@ -633,19 +674,20 @@ module _ (most : ℕ) (before : List State) (s t : State) (some : 0 < most) (on 
           request = sym n.0 i;
           active = sym n.1 i;
           covered = covered (at (sym lines.allot i) place) (at (sym lines.recall i) place) (at (sym lines.hire i) place) (sym n.1 i);
+          spot = no_spot;
         }) in
         (λ i. (same i, cover i)) ∙ (λ i. (row' a, view i))
 
     -- what is told of it is so
-    own : (o : Option Known) → ((x : Arena) (k : Known) → arena_at a s.arenas ≡ Some x → o ≡ Some k → Retold t a x.level place (row a) k)
-        → own_row place t cmd reply (shared_of t) was (row a) o ≡ due a
-    own None told = seen
+    own : (told : Option Known) → ((x : Arena) (k : Known) → arena_at a s.arenas ≡ Some x → told ≡ Some k → Retold t a x.level place (row a) k)
+        → bared (own_row place t cmd reply (shared_at t e) was (row a) told) ≡ due a
+    own None told = ap bared seen ∙ due-bare
     own (Some k) told = at_arena (arena_at a s.arenas) refl
       where
         -- the arena lived
         living : (x : Arena) → arena_at a s.arenas ≡ Some x → Retold t a x.level place (row a) k
-            → cond (is_covered (shared_of t) k x.level) (needing_row place was k (row a), k)
-            (closed_row place t cmd reply k (row a) (needing_row place was k (row a)) (option_map (share_of t (shared_of t) k a) (level_at a s)))
+            → bared (cond (is_covered (shared_at t e) k x.level) (needing_row place was k (row a), k)
+            (closed_row place t cmd reply k (row a) (needing_row place was k (row a)) (option_map (share_of t (shared_at t e) k a) (level_at a s))))
             ≡ due a
         living x is r =
             let level : level_at a t ≡ level_at a s =
@@ -659,93 +701,104 @@ module _ (most : ℕ) (before : List State) (s t : State) (some : 0 < most) (on 
                   subst (λ (z : Arena). (request_of z.claim ≡ k.request) × (active t z.number ≡ k.active)) same (r.request, ap (active t) number ∙ r.active_is);
               level = level;
             } in
-            elim (cases_Bool (is_covered (shared_of t) k x.level)) [
+            let covers_ : k.covered ≡ covered (at (row a).allot place) (at (row a).recall place) (at (row a).hire place) k.active = ap (λ (l : Known). l.covered) r.known in
+            elim (cases_Bool (is_covered (shared_at t e) k x.level)) [
               | inl cover ↦
-                  let cover' : is_covered (shared_of t) k r.arena.level ≡ true = ap (is_covered (shared_of t) k) r.stands ∙ cover in
-                  let lines = cover-lines whole a r.arena k fine' r.found r.request (ap (active t) number ∙ r.active_is) r.known cover' in
-                  rw cover (needing k x r.arena tells is r.found r.known lines)
-              | inr other ↦ rw other (closed k (needing_row place was k (row a)) tells r.known (λ y found lines. needing k x y tells is found r.known lines))
+                  let cover' : is_covered (shared_at t e) k r.arena.level ≡ true = ap (is_covered (shared_at t e) k) r.stands ∙ cover in
+                  let lines = cover-lines whole a r.arena k fine' r.found r.request (ap (active t) number ∙ r.active_is) covers_ cover' in
+                  rw cover (ap bared (needing k x r.arena tells is r.found r.known lines) ∙ due-bare)
+              | inr other ↦ rw other (closed k (needing_row place was k (row a)) tells covers_ (λ y found lines. ap bared (needing k x y tells is found r.known lines) ∙ due-bare))
             ]
 
-        at_arena : (o : Option Arena) → arena_at a s.arenas ≡ o → own_row place t cmd reply (shared_of t) was (row a) (Some k) ≡ due a
+        at_arena : (b : Option Arena) → arena_at a s.arenas ≡ b → bared (own_row place t cmd reply (shared_at t e) was (row a) (Some k)) ≡ due a
         at_arena None none =
             let nowhere : level_at a s ≡ None = ap (λ o. option_map (λ (b : Arena). b.level) o) none in
-            (λ i. cond (is_covered_at (shared_of t) k (nowhere i)) (needing_row place was k (row a), k)
-            (closed_row place t cmd reply k (row a) (needing_row place was k (row a)) (option_map (share_of t (shared_of t) k a) (nowhere i))))
-            ∙ seen
+            (λ i. bared (cond (is_covered_at (shared_at t e) k (nowhere i)) (needing_row place was k (row a), k)
+            (closed_row place t cmd reply k (row a) (needing_row place was k (row a)) (option_map (share_of t (shared_at t e) k a) (nowhere i)))))
+            ∙ ap bared seen
+            ∙ due-bare
         at_arena (Some x) is =
-            ap (λ o. cond (is_covered_at (shared_of t) k o) (needing_row place was k (row a), k)
-            (closed_row place t cmd reply k (row a) (needing_row place was k (row a)) (option_map (share_of t (shared_of t) k a) (level_at a s))))
-            (ap (λ o. option_map (λ (b : Arena). b.level) o) is)
+            ap (λ b. bared (cond (is_covered_at (shared_at t e) k b) (needing_row place was k (row a), k)
+            (closed_row place t cmd reply k (row a) (needing_row place was k (row a)) (option_map (share_of t (shared_at t e) k a) (level_at a s)))))
+            (ap (λ b. option_map (λ (c : Arena). c.level) b) is)
             ∙ living x is (told x k is refl)
 
     -- what was known of it
-    was-known : (x : Arena) → arena_at a s.arenas ≡ Some x → was ≡ known_in place (request_of x.claim) (active s a) (row a)
+    was-known : (x : Arena) → arena_at a s.arenas ≡ Some x → was ≡ record (known_in place (request_of x.claim) (active s a) (row a)) { spot = o }
     was-known x is =
-        ap (λ o. known_of place (option_map (view_of s) o) (row a)) is
-        ∙ ap (λ n. known_in place (request_of x.claim) (active s n) (row a)) (found-number a s.arenas x is)
+        ap (λ b. record (known_of place (option_map (view_of s) b) (row a)) { spot = o }) is
+        ∙ ap (λ n. record (known_in place (request_of x.claim) (active s n) (row a)) { spot = o }) (found-number a s.arenas x is)
 
-    own-near : is_just a (subject cmd reply) ≡ true → own_row place t cmd reply (shared_of t) was (row a) (retold cmd reply was) ≡ due a
+    own-near : is_just a (subject cmd reply) ≡ true → bared (own_row place t cmd reply (shared_at t e) was (row a) (retold cmd reply was)) ≡ due a
     own-near about =
         own (retold cmd reply was)
-        (λ x k is tells. told-step s a place (row a) x is t seat cmd reply k answered about (ap (retold cmd reply) (sym (was-known x is)) ∙ tells))
+        (λ x k is tells. told-step s a place (row a) o x is t seat cmd reply k answered about (ap (retold cmd reply) (sym (was-known x is)) ∙ tells))
 
     abbrev more : Bool
-    more = is_joined (shared_of s) (shared_of t)
+    more = is_joined (shared_of s) (shared_at t e)
 
-    own-seat : moves_seat cmd ≡ true → is_just a (subject cmd reply) ≡ true → own_row place t cmd reply (shared_of t) was (row a) (seated place more reply was (row a)) ≡ due a
+    own-seat : moves_seat cmd ≡ true → is_just a (subject cmd reply) ≡ true → bared (own_row place t cmd reply (shared_at t e) was (row a) (seated place more reply was (row a))) ≡ due a
     own-seat moves about =
         own (seated place more reply was (row a))
-        (λ x k is tells. seated-step s a place (row a) x is t seat cmd reply k answered moves about (ap (λ (w : Known). seated place more reply w (row a)) (sym (was-known x is)) ∙ tells))
+        (λ x k is tells. seated-step s a place (row a) o x is t seat cmd reply k answered moves about (ap (λ (w : Known). seated place more reply w (row a)) (sym (was-known x is)) ∙ tells))
 
     -- ---- any row
 
     abbrev kept : List Bool
-    kept = kept_levels cmd (shared_of s) (shared_of t) t.levels
+    kept = kept_levels cmd (shared_of s) (shared_at t e) t.levels
 
     -- one that stands nowhere is not looked at
-    was-own : (o : Option Arena) → arena_at a s.arenas ≡ o → stands_kept kept (option_map (λ (b : Arena). b.level) o) ≡ false → was ≡ known_in place was.request was.active (row a)
+    was-own : (b : Option Arena) → arena_at a s.arenas ≡ b → stands_kept kept (option_map (λ (c : Arena). c.level) b) ≡ false
+        → was.covered ≡ covered (at (row a).allot place) (at (row a).recall place) (at (row a).hire place) was.active
     was-own None is not = absurd (cc)
-    was-own (Some x) is not = was-known x is ∙ (λ i. known_in place ((sym (was-known x is) i).request) ((sym (was-known x is) i).active) (row a))
+    was-own (Some x) is not =
+        ap (λ (k : Known). k.covered) (was-known x is) ∙ ap (λ (k : Known). covered (at (row a).allot place) (at (row a).recall place) (at (row a).hire place) k.active) (sym (was-known x is))
 
-    other : is_just a (subject cmd reply) ≡ false
-        → cond (stands_kept kept (level_at a s)) (row a, was)
-        (cond (is_covered_at (shared_of t) was (level_at a s)) (row a, was)
-        (closed_row place t cmd reply was (row a) (row a) (option_map (share_of t (shared_of t) was a) (level_at a s))))
+    other : IsSpot t a e o → is_just a (subject cmd reply) ≡ false
+        → bared (cond (stands_kept kept (level_at a s)) (row a, was)
+        (cond (is_covered_at (shared_at t e) was (level_at a s)) (row a, was)
+        (cond (is_spared_at (shared_at t e) was (level_at a s)) (row a, was)
+        (spotted (spot_of t (shared_at t e) was a (level_at a s)) (closed_row place t cmd reply was (row a) (row a) (option_map (share_of t (shared_at t e) was a) (level_at a s)))))))
         ≡ due a
-    other apart =
+    other right apart =
         let stands : Stands s t a = apart-stands s t seat a cmd reply answered apart in
         let tells : Tells was =
         record {
           tells = λ y found.
               let is : arena_at a s.arenas ≡ Some y = sym stands.arena ∙ found in
-              let known : known_of place (Some (view_of s y)) (row a) ≡ was = ap (λ o. known_of place (option_map (view_of s) o) (row a)) (sym is) in
+              let known : record (known_of place (Some (view_of s y)) (row a)) { spot = o } ≡ was =
+              ap (λ b. record (known_of place (option_map (view_of s) b) (row a)) { spot = o }) (sym is) in
               (ap (λ (k : Known). k.request) known, active-same a stands y is ∙ ap (λ (k : Known). k.active) known);
-          level = ap (λ o. option_map (λ (b : Arena). b.level) o) stands.arena;
+          level = ap (λ b. option_map (λ (c : Arena). c.level) b) stands.arena;
         } in
-        let same : SameLines a → (row a, was) ≡ due a =
+        let same : SameLines a → bared (row a, was) ≡ due a =
         λ lines.
         let rows = row-same a stands lines in
-        let known = known-same a stands rows in
+        let known = known-bare place (view_at a s) (row a) ∙ known-same a stands rows in
         λ i. (rows i, known i) in
         elim (cases_Bool (stands_kept kept (level_at a s))) [
           | inl held ↦ rw held (same (kept-lines stands apart held))
           | inr not ↦
               rw not
-              (elim (cases_Bool (is_covered_at (shared_of t) was (level_at a s))) [
+              (elim (cases_Bool (is_covered_at (shared_at t e) was (level_at a s))) [
                 | inl cover ↦ rw cover (same (spanned-lines stands cover))
-                | inr more ↦ rw more (closed was (row a) tells (was-own (arena_at a s.arenas) refl not) (λ y found lines. same lines))
+                | inr more ↦
+                    rw more
+                    (elim (cases_Bool (is_spared_at (shared_at t e) was (level_at a s))) [
+                      | inl spared ↦ rw spared (same (spared-lines right stands spared))
+                      | inr asked ↦ rw asked (closed was (row a) tells (was-own (arena_at a s.arenas) refl not) (λ y found lines. same lines))
+                    ])
               ])
         ]
 
-    pub near-row : near_row place t cmd reply (shared_of t) kept (row a) was ≡ due a
-    near-row =
+    pub near-row : (is_just a (subject cmd reply) ≡ false → IsSpot t a e o) → bared (near_row place t cmd reply (shared_at t e) kept (row a) was) ≡ due a
+    near-row right =
         elim (cases_Bool (is_just a (subject cmd reply))) [
           | inl about ↦ rw about (own-near about)
-          | inr apart ↦ rw apart (other apart)
+          | inr apart ↦ rw apart (other (right apart) apart)
         ]
 
-    pub seat-row : moves_seat cmd ≡ true → seat_row place t cmd reply more (shared_of t) (row a) was ≡ due a
+    pub seat-row : moves_seat cmd ≡ true → bared (seat_row place t cmd reply more (shared_at t e) (row a) was) ≡ due a
     seat-row moves =
         elim (cases_Bool (is_just a (subject cmd reply))) [
           | inl about ↦ rw about (own-seat moves about)
@@ -753,6 +806,54 @@ module _ (most : ℕ) (before : List State) (s t : State) (some : 0 < most) (on 
               let stands : Stands s t a = apart-stands s t seat a cmd reply answered apart in
               let even = even-step s t seat cmd reply answered moves in
               let rows = row-same a stands (even-lines a stands (λ y found. even.allotted y.number)) in
-              let known = known-same a stands rows in
+              let known = known-bare place (view_at a s) (row a) ∙ known-same a stands rows in
               rw apart (λ i. (rows i, known i))
+        ]
+
+    -- ---- the spot that is then known
+
+    asked-spot : Stands s t a → (b : Option Arena) → arena_at a s.arenas ≡ b → IsSpot t a e (spot_of t (shared_at t e) was a (option_map (λ (c : Arena). c.level) b))
+    asked-spot stands None is = spot-none t a e
+    asked-spot stands (Some x) is = go (is_divided (shared_at t e) x.level) refl
+      where
+        given : ℕ
+        given = slice_index (shared_at t e).given (x.level - 1)
+
+        asked : ℕ
+        asked = slice_index (shared_at t e).asked (x.level - 1)
+
+        go : (divided : Bool) → is_divided (shared_at t e) x.level ≡ divided
+            → IsSpot t a e (cond divided (spot_by (exactly was.request given asked) (asked_ahead a (at_level x.level t.arenas)) given asked e) no_spot)
+        go true some =
+            let d = divides t x.level some in
+            spot-new t a e given x (exactly was.request given asked) fine' (stands.arena ∙ is) d.low d.few
+        go false off = spot-none t a e
+
+    pub near-spot : (is_just a (subject cmd reply) ≡ false → IsSpot t a e o) → IsSpot t a e (near_row place t cmd reply (shared_at t e) kept (row a) was).1.spot
+    near-spot right =
+        elim (cases_Bool (is_just a (subject cmd reply))) [
+          | inl about ↦ rw about (spot-none t a e)
+          | inr apart ↦
+              rw apart
+              (elim (cases_Bool (stands_kept kept (level_at a s))) [
+                | inl held ↦ rw held (right apart)
+                | inr not ↦
+                    rw not
+                    (elim (cases_Bool (is_covered_at (shared_at t e) was (level_at a s))) [
+                      | inl cover ↦ rw cover (right apart)
+                      | inr more ↦
+                          rw more
+                          (elim (cases_Bool (is_spared_at (shared_at t e) was (level_at a s))) [
+                            | inl spared ↦ rw spared (right apart)
+                            | inr asked ↦ rw asked (asked-spot (apart-stands s t seat a cmd reply answered apart) (arena_at a s.arenas) refl)
+                          ])
+                    ])
+              ])
+        ]
+
+    pub seat-spot : IsSpot t a e o → IsSpot t a e (seat_row place t cmd reply more (shared_at t e) (row a) was).1.spot
+    seat-spot right =
+        elim (cases_Bool (is_just a (subject cmd reply))) [
+          | inl about ↦ rw about (spot-none t a e)
+          | inr apart ↦ rw apart right
         ]

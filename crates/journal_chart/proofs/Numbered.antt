@@ -16,7 +16,8 @@ use Rattle.journal_chart.specs.Resting.{AreLeft, IsLeft}
 use Rattle.journal_chart.specs.Shares.{Shared}
 use Rattle.journal_chart.specs.declared.unkept.Unkept.TheVariants.{Nowhere}
 use Rattle.journal_chart.specs.Unkept.{AreAtLevels, AreUnkept, IsAlone, IsAtLevel}
-use Rattle.journal_chart.specs.Steps.{closed_row, is_covered, near_row, own_row, retold, seat_row, share_of, stands_kept, subject}
+use Rattle.journal_chart.specs.Spots.{no_spot}
+use Rattle.journal_chart.specs.Steps.{closed_row, is_covered, is_spared, near_row, own_row, retold, seat_row, share_of, spot_of, spotted, stands_kept, subject}
 
 arena-of : (rows : List Row) (j : ℕ) (d : Row) → get_or (arenas_of rows) j d.arena ≡ (get_or rows j d).arena
 arena-of [] j d = refl
@@ -58,7 +59,7 @@ still-apart first about own count rows0 rows alone numbered left j d inside othe
 -- the row that is found is told, among rows that are as they were from it on
 pub own-told : (place : ℕ) (s : State) (cmd : Cmd) (reply : Reply) (now : Shared) (kept : List Bool) (first about own : ℕ) (rows0 rows : List Row) (k : Known) → AreNumbered (Some first) rows0
     → first + own ≡ about → Some about ≡ subject cmd reply → (d : Row) → own < length rows0 → drop own rows ≡ drop own rows0
-    → near_row place s cmd reply now kept (get_or rows own d) k ≡ own_row place s cmd reply now k (get_or rows own d) (retold cmd reply k)
+    → near_row place s cmd reply now kept (get_or rows own d) k ≡ spotted no_spot (own_row place s cmd reply now k (get_or rows own d) (retold cmd reply k))
 own-told place s cmd reply now kept first about own rows0 rows k numbered there is d inside rest =
     let number : (get_or rows own d).arena ≡ about = ap (λ (r : Row). r.arena) (sym (same-at own rows0 rows d rest)) ∙ arena-at first rows0 own d numbered inside ∙ there in
     let just : is_just (get_or rows own d).arena (Some about) ≡ true = let same : eqb about (get_or rows own d).arena ≡ true = grind (arith, nat_tests) in same in
@@ -95,11 +96,18 @@ kept-others place s cmd reply now kept first about own count rows alone numbered
     let held : stands_kept kept (get_or rows j d).stands ≡ true = stands-kept kept all (get_or rows j d).stands (levels j d inside) in
     rw (none, held) refl
 
--- a row that is neither told nor left
+-- a row that is neither told, nor left, nor spared
 pub other-row : (place : ℕ) (s : State) (cmd : Cmd) (reply : Reply) (now : Shared) (kept : List Bool) (r : Row) (k : Known) (level : ℕ)
     → is_just r.arena (subject cmd reply) ≡ false → stands_kept kept r.stands ≡ false → r.stands ≡ Some level → is_covered now k level ≡ false
-    → near_row place s cmd reply now kept r k ≡ closed_row place s cmd reply k r r (Some (share_of s now k r.arena level))
-other-row place s cmd reply now kept r k level other moved at uncovered = rw (other, moved, at, uncovered) refl
+    → is_spared now k level ≡ false
+    → near_row place s cmd reply now kept r k ≡ spotted (spot_of s now k r.arena (Some level)) (closed_row place s cmd reply k r r (Some (share_of s now k r.arena level)))
+other-row place s cmd reply now kept r k level other moved at uncovered unspared = rw (other, moved, at, uncovered, unspared) refl
+
+-- a row at it whose column has all that its arena may be allotted, wherever it stands
+pub spared-row : (place : ℕ) (s : State) (cmd : Cmd) (reply : Reply) (now : Shared) (kept : List Bool) (r : Row) (k : Known) (level : ℕ)
+    → is_just r.arena (subject cmd reply) ≡ false → stands_kept kept r.stands ≡ false → r.stands ≡ Some level → is_covered now k level ≡ false → is_spared now k level ≡ true
+    → near_row place s cmd reply now kept r k ≡ (r, k)
+spared-row place s cmd reply now kept r k level other moved at uncovered spared = rw (other, moved, at, uncovered, spared) refl
 
 -- a row at it whose column has all that its arena may be allotted
 pub covered-row : (place : ℕ) (s : State) (cmd : Cmd) (reply : Reply) (now : Shared) (kept : List Bool) (r : Row) (k : Known) (level : ℕ)

@@ -15,8 +15,10 @@ use Rattle.market_types.specs.State.{Arena, Claim, State}
 use Rattle.market_types.specs.Allotment.{active, is_just, need, recall}
 use Rattle.market_types.specs.Step.{Outcome, arena_at, if_arena, if_claim, join_at, join_from, leave_from, place_of, request_step, resize_step, stay_from, step, with_claim, with_place}
 use Rattle.journal_chart.specs.declared.row.Known.{Known}
+use Rattle.journal_chart.specs.declared.spot.Spot.{Spot}
 use Rattle.journal_chart.specs.Rows.{Row}
 use Rattle.journal_chart.specs.Shares.{placed_of}
+use Rattle.journal_chart.specs.Spots.{no_spot}
 use Rattle.journal_chart.specs.Steps.{known_in, moves_seat, retold, seated, subject}
 
 -- a claim is given to the arena of its number
@@ -69,9 +71,9 @@ pub record Retold (t : State) (a level place : ℕ) (r : Row) (k : Known) : Type
   pub active_is : active t a ≡ k.active
   pub known : k ≡ known_in place k.request k.active r
 
-module _ (s : State) (a place : ℕ) (r : Row) (x : Arena) (found : arena_at a s.arenas ≡ Some x) where
+module _ (s : State) (a place : ℕ) (r : Row) (spot : Spot) (x : Arena) (found : arena_at a s.arenas ≡ Some x) where
   abbrev was : Known
-  was = known_in place (request_of x.claim) (active s a) r
+  was = record (known_in place (request_of x.claim) (active s a) r) { spot = spot }
 
   -- what an outcome's reply tells of the arena is so
   record Told (cmd : Cmd) (o : Outcome) : Type 0 where
@@ -80,15 +82,15 @@ module _ (s : State) (a place : ℕ) (r : Row) (x : Arena) (found : arena_at a s
   untold : (cmd : Cmd) (o : Outcome) → retold cmd o.0 was ≡ None → Told cmd o
   untold cmd o none = record { tells = λ own k is. let bad : None ≡ Some k = sym none ∙ is in absurd (cc) }
 
-  claimed : (b : ℕ) (cmd : Cmd) (reply : Reply) (claim : Claim) → subject cmd reply ≡ Some b → retold cmd reply was ≡ Some (record was { request = request_of claim })
+  claimed : (b : ℕ) (cmd : Cmd) (reply : Reply) (claim : Claim) → subject cmd reply ≡ Some b → retold cmd reply was ≡ Some (record was { request = request_of claim; spot = no_spot })
       → Told cmd (reply, record s { arenas = with_claim b claim s.arenas })
   claimed b cmd reply claim about tells =
       record {
         tells = λ own k is.
             let own_ : eqb b a ≡ true = ap (is_just a) (sym about) ∙ own in
             let number : b ≡ a = grind (arith, nat_tests) in
-            let both : Some (record was { request = request_of claim }) ≡ Some k = sym tells ∙ is in
-            let same : record was { request = request_of claim } ≡ k = cc in
+            let both : Some (record was { request = request_of claim; spot = no_spot }) ≡ Some k = sym tells ∙ is in
+            let same : record was { request = request_of claim; spot = no_spot } ≡ k = cc in
             subst (Retold (record s { arenas = with_claim b claim s.arenas }) a x.level place r) same (record {
               arena = record x { claim = claim };
               found = ap (λ n. arena_at a (with_claim n claim s.arenas)) number ∙ claim-found a claim s.arenas x found;

@@ -11,6 +11,7 @@ pub mod Pages
 pub mod Resting
 pub mod Rows
 pub mod Shares
+pub mod Spots
 pub mod Steps
 pub mod Unkept
 pub mod Words

@@ -1,17 +1,18 @@
 -- What the levels of a market are given of what they ask for. Private functions alone cite these words.
-use Rattle.std.specs.Prelude.{◌≡◌, ℕ, ◌+◌, ◌*◌, ◌≤◌, nat_lt, if◌then◌else◌, List, [], ◌∷◌, is_some, replicate, slice_index}
+use Rattle.std.specs.Prelude.{◌≡◌, ℕ, zero, suc, ◌+◌, ◌-◌, ◌*◌, ◌≤◌, nat_lt, if◌then◌else◌, List, [], ◌∷◌, is_some, replicate, slice_index}
 use Rattle.std.specs.List.{count_by}
 use Rattle.market_types.specs.State.{State}
 use Rattle.market_types.specs.Allotment.{assigned_to, demand, effective_limit_of, limit_of}
 
--- how many workers may be active, one for enqueued work included in the second number, how many seats are placed, and in places for eight
--- levels what each is given and what it asks for
+-- how many workers may be active, one for enqueued work included in the second number, how many seats are placed, in places for eight levels
+-- what each is given and what it asks for, and how far that has drifted
 pub record Shared : Type 0 where
   pub limit : ℕ
   pub effective : ℕ
   pub placed : ℕ
   pub given : List ℕ
   pub asked : List ℕ
+  pub drift : ℕ
 
 -- no level is given more than it asks for, and none asks for more than all arenas can
 pub record AreFew (given asked : List ℕ) : Type 0 where
@@ -26,7 +27,7 @@ pub record AreNoneAbove (levels : ℕ) (given asked : List ℕ) : Type 0 where
 
 -- those of no market
 abbrev pub no_shares : Shared
-no_shares = record { limit = 0; effective = 0; placed = 0; given = replicate 8 0; asked = replicate 8 0 }
+no_shares = record { limit = 0; effective = 0; placed = 0; given = replicate 8 0; asked = replicate 8 0; drift = 0 }
 
 -- what the level at a place asks for, and 0 above the levels of a market
 abbrev pub asked_at : State → ℕ → ℕ
@@ -48,4 +49,14 @@ shared_of s =
       placed = placed_of s;
       given = assigned_to (all_asked s) (effective_limit_of s);
       asked = all_asked s;
+      drift = 0;
     }
+
+-- the same once its levels have drifted so far
+abbrev pub shared_at : State → ℕ → Shared
+shared_at s drift = record (shared_of s) { drift = drift }
+
+-- how much what so many levels ask for differs
+abbrev pub apart : ℕ → List ℕ → List ℕ → ℕ
+apart zero asked other = 0
+apart (suc n) asked other = apart n asked other + (slice_index asked n - slice_index other n + (slice_index other n - slice_index asked n))

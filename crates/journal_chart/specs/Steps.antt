@@ -1,5 +1,5 @@
 -- What the code does to the lines of a chart, moment by moment. What it comes to is in Numbers.
-use Rattle.std.specs.Prelude.{ℕ, ◌+◌, ◌*◌, ◌/◌, ◌%◌, ◌==◌, ◌&&◌, ◌||◌, ◌-◌, Bool, true, false, nat_le, nat_lt, if◌then◌else◌, List, [], ◌∷◌, get_or, map, replicate, slice_index, unwrap_or, Option, Some, None}
+use Rattle.std.specs.Prelude.{ℕ, ◌+◌, ◌*◌, ◌/◌, ◌%◌, ◌==◌, ◌&&◌, ◌||◌, ◌-◌, ◌^◌, min, Bool, true, false, nat_le, nat_lt, if◌then◌else◌, List, [], ◌∷◌, get_or, map, replicate, slice_index, unwrap_or, Option, Some, None}
 use Rattle.std.specs.Option.{option_map}
 use Rattle.market_types.specs.declared.command.Cmd.{Cmd}
 use Rattle.market_types.specs.declared.command.Cmd.TheVariants.{Open, Close, Priority, Resize, Request, Join, Stay, Leave}
@@ -7,14 +7,17 @@ use Rattle.market_types.specs.declared.reply.ArenaView.{ArenaView}
 use Rattle.market_types.specs.declared.reply.Reply.{Reply}
 use Rattle.market_types.specs.declared.reply.Reply.TheVariants.{Opened, Closed, Moved, Resized, Requested, Placed, Recalled, Left, Idle, Stays, Shown, Listed, Limits, Refused}
 use Rattle.market_types.specs.State.{State}
-use Rattle.market_types.specs.Allotment.{allotment_of, effective_limit_of, is_just, limit_of}
+use Rattle.market_types.specs.Allotment.{allotment_of, at_level, effective_limit_of, is_just, limit_of}
 use Rattle.journal_chart.specs.declared.span.Span.{Span}
 use Rattle.journal_chart.specs.Rows.{Row}
 use Rattle.journal_chart.specs.declared.row.Known.{Known}
 use Rattle.journal_chart.specs.declared.covered.Covered.{Covered}
 use Rattle.journal_chart.specs.Lines.{added, at, halved}
 use Rattle.journal_chart.specs.Covering.{covered, covers, exactly, none_covered}
-use Rattle.journal_chart.specs.Shares.{Shared, placed_of, shared_of}
+use Rattle.market_core.specs.Ahead.{asked_ahead}
+use Rattle.journal_chart.specs.declared.spot.Spot.{Spot}
+use Rattle.journal_chart.specs.Spots.{no_spot, spares, spot_by}
+use Rattle.journal_chart.specs.Shares.{Shared, all_asked, apart, placed_of, shared_at, shared_of}
 use Rattle.journal_chart.specs.Columns.{width_of}
 use Rattle.journal_chart.specs.Numbers.{Charted, Drawn, view_at}
 
@@ -123,11 +126,12 @@ known_in place request active r =
       request = request;
       active = active;
       covered = covered (at r.allot place) (at r.recall place) (at r.hire place) active;
+      spot = no_spot;
     }
 
 -- before it is looked at, and of one that does not live
 abbrev pub nothing_known : Known
-nothing_known = record { request = 0; active = 0; covered = none_covered }
+nothing_known = record { request = 0; active = 0; covered = none_covered; spot = no_spot }
 
 -- the same of an arena that is seen so
 abbrev pub known_of : ℕ → Option ArenaView → Row → Known
@@ -136,8 +140,8 @@ known_of place (Some v) r = known_in place v.request v.active r
 
 -- what is known after an entry that is about the arena, where its reply tells that
 abbrev pub requested : Reply → Known → Option Known
-requested (Requested n) k = Some (record k { request = n })
-requested (Resized n) k = Some (record k { request = n })
+requested (Requested n) k = Some (record k { request = n; spot = no_spot })
+requested (Resized n) k = Some (record k { request = n; spot = no_spot })
 requested _ k = None
 
 abbrev pub retold : Cmd → Reply → Known → Option Known
@@ -162,6 +166,11 @@ keeps_order _ = true
 -- what levels are given says what their arenas are allotted: some worker may be active; and a level is one of 8
 abbrev pub is_divided : Shared → ℕ → Bool
 is_divided now level = nat_lt 0 now.limit && (nat_le 1 level && nat_le level 8)
+
+-- how far what levels ask for has drifted, once they ask for this: what is asked for before an arena changes by no more than what its level asks for,
+-- or where arenas change their order by no more than all that it asked for
+abbrev pub drifted : Cmd → Shared → List ℕ → ℕ
+drifted cmd was asked = min (was.drift + (apart 8 was.asked asked + (if keeps_order cmd then 0 else 2 * apart 8 (replicate 8 0) was.asked))) (2 ^ 64 - 1)
 
 -- a level that is given this of what it asks for shares it out as it did: it is given what it was of what it asked for, or nothing each time,
 -- or each time all
@@ -210,6 +219,27 @@ share_of s now k a level =
     if is_divided now level then unwrap_or (exactly k.request (slice_index now.given (level - 1)) (slice_index now.asked (level - 1))) (allotment_of s a)
     else if is_idle now then 0
     else allotment_of s a
+
+-- nothing is added to the column of an arena of a level, of which this is known, wherever in the level it may stand
+abbrev pub is_spared : Shared → Known → ℕ → Bool
+is_spared now k level =
+    is_divided now level && spares k.spot now.drift k.covered k.request (slice_index now.given (level - 1)) (slice_index now.asked (level - 1))
+
+abbrev pub is_spared_at : Shared → Known → Option ℕ → Bool
+is_spared_at now k None = false
+is_spared_at now k (Some level) = is_spared now k level
+
+-- where an arena stands of which the market was asked, if it was
+abbrev pub spot_of : State → Shared → Known → ℕ → Option ℕ → Spot
+spot_of s now k a None = no_spot
+spot_of s now k a (Some level) =
+    if is_divided now level
+    then spot_by (exactly k.request (slice_index now.given (level - 1)) (slice_index now.asked (level - 1))) (asked_ahead a (at_level level s.arenas)) (slice_index now.given (level - 1)) (slice_index now.asked (level - 1)) now.drift
+    else no_spot
+
+-- what becomes of a row, and what is known of its arena, whose spot is this
+abbrev pub spotted : Spot → Row × Known → Row × Known
+spotted spot p = (p.0, record p.1 { spot = spot })
 
 -- a number in the column of the last moment, at which it was this: it adds something only where it changed
 abbrev pub changed : ℕ → ℕ → ℕ → List (Option Span) → List (Option Span)
@@ -272,15 +302,16 @@ own_row place s cmd reply now was r (Some k) =
 -- a row that has the moment before in the same column
 abbrev pub near_row : ℕ → State → Cmd → Reply → Shared → List Bool → Row → Known → Row × Known
 near_row place s cmd reply now kept r k =
-    if is_just r.arena (subject cmd reply) then own_row place s cmd reply now k r (retold cmd reply k)
+    if is_just r.arena (subject cmd reply) then spotted no_spot (own_row place s cmd reply now k r (retold cmd reply k))
     else if stands_kept kept r.stands then (r, k)
     else if is_covered_at now k r.stands then (r, k)
-    else closed_row place s cmd reply k r r (option_map (share_of s now k r.arena) r.stands)
+    else if is_spared_at now k r.stands then (r, k)
+    else spotted (spot_of s now k r.arena r.stands) (closed_row place s cmd reply k r r (option_map (share_of s now k r.arena) r.stands))
 
 -- such a row after a command of a seat
 abbrev pub seat_row : ℕ → State → Cmd → Reply → Bool → Shared → Row → Known → Row × Known
 seat_row place s cmd reply more now r k =
-    if is_just r.arena (subject cmd reply) then own_row place s cmd reply now k r (seated place more reply k r) else (r, k)
+    if is_just r.arena (subject cmd reply) then spotted no_spot (own_row place s cmd reply now k r (seated place more reply k r)) else (r, k)
 
 -- a row at the first moment of a column, by what is known of its arena at the moment before
 abbrev pub first_row : ℕ → State → Cmd → Reply → Shared → Row → Known → Row × Known
@@ -290,8 +321,11 @@ first_row place s cmd reply now r k = if is_just r.arena (subject cmd reply) the
 abbrev pub after_seat : State → Shared → Shared
 after_seat s was = record was { placed = placed_of s }
 
+abbrev pub shared_after : Cmd → Shared → State → Shared
+shared_after cmd was s = shared_at s (drifted cmd was (all_asked s))
+
 abbrev pub now_shared : Cmd → State → Shared → Shared
-now_shared cmd s was = if moves_seat cmd then after_seat s was else shared_of s
+now_shared cmd s was = if moves_seat cmd then after_seat s was else shared_after cmd was s
 
 -- one more seat is placed than before
 abbrev pub is_joined : Shared → Shared → Bool
@@ -329,7 +363,7 @@ abbrev pub seat_rows : ℕ → State → Cmd → Reply → Shared → List Row �
 seat_rows place s cmd reply was rows ks = pairwise (seat_row place s cmd reply (is_joined was (after_seat s was)) (after_seat s was)) rows ks
 
 abbrev pub each_row : ℕ → State → Cmd → Reply → Shared → List Row → List Known → List Row × List Known
-each_row place s cmd reply was rows ks = pairwise (near_row place s cmd reply (shared_of s) (kept_levels cmd was (shared_of s) s.levels)) rows ks
+each_row place s cmd reply was rows ks = pairwise (near_row place s cmd reply (shared_after cmd was s) (kept_levels cmd was (shared_of s) s.levels)) rows ks
 
 abbrev pub near_rows : ℕ → State → Cmd → Reply → Shared → List Row → List Known → List Row × List Known
 near_rows place s cmd reply was rows ks = if moves_seat cmd then seat_rows place s cmd reply was rows ks else each_row place s cmd reply was rows ks

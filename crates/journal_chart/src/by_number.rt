@@ -2,22 +2,25 @@
 //! entry is about is found by its number, so that no other asks whether it is that one, and none is looked at where no level's arenas are allotted
 //! anything else.
 ghost use Rattle.std.specs.Prelude.{◌≡◌, ◌-◌, ◌*◌, ◌<◌, ◌≤◌, Bool, List, Some, drop, false, length, slice_index, unwrap_or};
-ghost use Rattle.market_types.specs.Allotment.{allotment_of, assigned, demand, is_just, limit_of};
+ghost use Rattle.market_types.specs.Allotment.{allotment_of, assigned, at_level, demand, is_just, limit_of};
 ghost use Rattle.market_types.specs.declared.command.Cmd.{Cmd};
 ghost use Rattle.market_types.specs.declared.reply.Reply.{Reply};
 ghost use Rattle.journal_chart.specs.Unkept.{AreAtLevels, AreUnkept, IsAlone, IsAtLevel};
 ghost use Rattle.journal_chart.specs.declared.unkept.Unkept.{Unkept};
 ghost use Rattle.journal_chart.specs.Numbering.{AreNumbered};
 ghost use Rattle.journal_chart.specs.Resting.{AreLeft};
-ghost use Rattle.journal_chart.specs.Shares.{shared_of};
+ghost use Rattle.journal_chart.specs.Shares.{shared_at};
 ghost use Rattle.journal_chart.specs.Covering.{exactly};
-ghost use Rattle.journal_chart.specs.Steps.{closed_row, near_row, own_row, pairwise, retold, seat_row, subject};
+ghost use Rattle.journal_chart.specs.Spots.{no_spot, spot_by};
+ghost use Rattle.market_core.specs.Ahead.{asked_ahead};
+ghost use Rattle.journal_chart.specs.Steps.{closed_row, near_row, own_row, pairwise, retold, seat_row, spotted, subject};
 
 use crate::covered::exactly;
 use crate::nearby::{has_share, own_row, retold, seat_row};
 use crate::numbering::place_of;
 use crate::row::{Known, Row};
 use crate::shares::Shares;
+use crate::spot::Spot;
 use market_core::Market;
 use market_types::{ArenaId, Cmd, Level, Reply};
 
@@ -33,21 +36,28 @@ fn settle_given(
     level: Level,
     given: u64,
     asked: u64,
+    drift: u64,
 )
     requires some { 0 < limit_of market.now }
+    requires any { 0 < asked }
     requires within { given ≤ asked }
     requires small { asked ≤ 1024 * 65535 }
     requires given { level ≤ market.now.levels → given ≡ assigned market.now level }
     requires asked { level ≤ market.now.levels → asked ≡ demand market.now level }
-    ensures { (cmd : Cmd) (reply : Reply) → (row.new, known.new) ≡ closed_row place market.now cmd reply known.old row.old row.old (Some (unwrap_or (exactly known.old.request given asked) (allotment_of market.now row.old.arena))) }
+    ensures { (cmd : Cmd) (reply : Reply) → (row.new, known.new) ≡ spotted (spot_by (exactly known.old.request given asked) (asked_ahead row.old.arena (at_level level market.now.arenas)) given asked drift) (closed_row place market.now cmd reply known.old row.old row.old (Some (unwrap_or (exactly known.old.request given asked) (allotment_of market.now row.old.arena)))) }
 {
-    let share = match exactly(known.request, given, asked) {
-        Some(share) => share,
-        None => market.allotment_at(row.arena(), level, given, asked),
+    let (share, spot) = match exactly(known.request, given, asked) {
+        Some(share) => (share, Spot::none()),
+        None => {
+            let portion = market.portion_at(row.arena(), level, given, asked);
+            let spot = Spot::of(portion.before, given, asked, drift);
+            (portion.workers, spot)
+        }
     };
     if !has_share(known, share) {
         *known = row.tell(place, known, share);
     }
+    known.spot = spot;
 }
 
 /// Takes the moment after an entry into the column of the last moment, of the row of another arena than the one that the entry is about, and what is
@@ -63,12 +73,14 @@ fn level_row(
     level: Level,
     given: u64,
     asked: u64,
+    drift: u64,
 )
     requires found { 0 < now.now.limit }
-    requires shares { now.now ≡ shared_of market.now }
+    requires shares { now.now ≡ shared_at market.now now.now.drift }
     requires some { 0 < asked }
     requires given { given ≡ slice_index now.now.given (level - 1) }
     requires asked { asked ≡ slice_index now.now.asked (level - 1) }
+    requires drift { drift ≡ now.now.drift }
     requires within { given ≤ asked }
     requires small { asked ≤ 1024 * 65535 }
     ensures { (cmd : Cmd) (reply : Reply) (kept : List Bool) → IsAlone kept level → is_just row.old.arena (subject cmd reply) ≡ false → (row.new, known.new) ≡ near_row place market.now cmd reply now.now kept row.old known.old }
@@ -76,9 +88,14 @@ fn level_row(
     if !row.is_at(level) {
         return;
     }
-    if !known.covered.covers_some(known.request, given, asked) {
-        settle_given(row, known, place, market, level, given, asked);
+    if known.covered.covers_some(known.request, given, asked) {
+        return;
     }
+    let spot = known.spot;
+    if spot.spares(drift, known.covered, known.request, given, asked) {
+        return;
+    }
+    settle_given(row, known, place, market, level, given, asked, drift);
 }
 
 /// Takes the moment after an entry that is about this arena into the column of its row, and what is then known of it, where some worker may be
@@ -94,11 +111,12 @@ fn retold_row(
     now: &Shares,
 )
     requires found { 0 < now.now.limit }
-    requires shares { now.now ≡ shared_of market.now }
-    ensures { (row.new, known.new) ≡ own_row place market.now cmd.now reply.now now.now known.old row.old (retold cmd.now reply.now known.old) }
+    requires shares { now.now ≡ shared_at market.now now.now.drift }
+    ensures { (row.new, known.new) ≡ spotted no_spot (own_row place market.now cmd.now reply.now now.now known.old row.old (retold cmd.now reply.now known.old)) }
 {
     let told = retold(cmd, reply, known);
     own_row::<true>(row, known, place, market, &mut None, cmd, reply, now, told);
+    known.spot = Spot::none();
 }
 
 /// Takes the moment after an entry about this arena into the columns of all rows, and what is then known of their arenas, where some worker may
@@ -120,7 +138,7 @@ pub(crate) fn rows_numbered(
     level: Level,
 )
     requires found { 0 < now.now.limit }
-    requires shares { now.now ≡ shared_of market.now }
+    requires shares { now.now ≡ shared_at market.now now.now.drift }
     requires each { length known.old ≡ length rows.old }
     requires about { Some about ≡ subject cmd.now reply.now }
     requires within { count ≤ length rows.old }
@@ -134,11 +152,12 @@ pub(crate) fn rows_numbered(
 {
     let given = now.given(level);
     let asked = now.asked(level);
+    let drift = now.drift();
     let own = place_of(first, count, about);
     for index in 0..own {
         let row = &mut rows[index];
         let known = &mut known[index];
-        level_row(row, known, place, market, now, level, given, asked);
+        level_row(row, known, place, market, now, level, given, asked, drift);
     }
     if own == count {
         return;
@@ -155,7 +174,7 @@ pub(crate) fn rows_numbered(
     for index in own + 1..count {
         let row = &mut rows[index];
         let known = &mut known[index];
-        level_row(row, known, place, market, now, level, given, asked);
+        level_row(row, known, place, market, now, level, given, asked, drift);
     }
 }
 
@@ -198,7 +217,7 @@ pub(crate) fn own_row_numbered(
     kept: &[bool; 8],
 )
     requires found { 0 < now.now.limit }
-    requires shares { now.now ≡ shared_of market.now }
+    requires shares { now.now ≡ shared_at market.now now.now.drift }
     requires each { length known.old ≡ length rows.old }
     requires about { Some about ≡ subject cmd.now reply.now }
     requires within { count ≤ length rows.old }

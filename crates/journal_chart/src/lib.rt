@@ -27,6 +27,7 @@ mod row;
 mod shares;
 mod sheet;
 mod span;
+mod spot;
 mod stands;
 mod unkept;
 mod width;

@@ -4,7 +4,7 @@ ghost use Rattle.market_types.specs.State.{State};
 ghost use Rattle.market_types.specs.Step.{limits_of};
 ghost use Rattle.journal_chart.specs.Numbering.{AreNumbered};
 ghost use Rattle.journal_chart.specs.Shares.{shared_of};
-ghost use Rattle.journal_chart.specs.Steps.{after_seat, arena_lines, begun_lines, each_row, empty_lines, empty_row, first_rows, changed, halved_lines, known_rows, limited_lines, near_lines, near_rows, now_shared, passed_lines, seat_rows, subject, taken_lines};
+ghost use Rattle.journal_chart.specs.Steps.{after_seat, arena_lines, begun_lines, each_row, empty_lines, empty_row, first_rows, changed, halved_lines, known_rows, limited_lines, near_lines, near_rows, now_shared, passed_lines, seat_rows, shared_after, subject, taken_lines};
 
 use crate::entry::{moves_seat, subject};
 use crate::line::Line;
@@ -134,6 +134,7 @@ impl Lines {
         let limits = market.limits();
         self.add_limits(place, &limits);
         shares.renew(market, &limits, cmd);
+        shares.rest();
         look_rows(&mut self.rows, known, place, market, cmd, reply);
         self.resting = Resting::of(&self.rows);
     }
@@ -157,6 +158,7 @@ impl Lines {
         let limits = market.limits();
         self.add_limits(place, &limits);
         shares.renew(market, &limits, cmd);
+        shares.rest();
         let about = subject(cmd, reply);
         let count = self.resting.awake(&self.rows, &about);
         first_rows(
@@ -253,7 +255,7 @@ impl Lines {
         requires about { about.now ≡ subject cmd.now reply.now }
         ensures lines { self.new ≡ arena_lines place market.now cmd.now reply.now shares.old known.old self.old }
         ensures known { known.new ≡ (each_row place market.now cmd.now reply.now shares.old self.old.rows known.old).1 }
-        ensures shares { shares.new ≡ shared_of market.now }
+        ensures shares { shares.new ≡ shared_after cmd.now shares.old market.now }
     {
         let limits = market.limits();
         self.add_changed(place, shares, &limits);

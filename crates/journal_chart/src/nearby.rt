@@ -9,13 +9,14 @@ ghost use Rattle.market_core.specs.Divided.{IsDivisionOf};
 ghost use Rattle.journal_chart.specs.Unkept.{AreUnkept};
 ghost use Rattle.journal_chart.specs.Numbering.{AreNumbered};
 ghost use Rattle.journal_chart.specs.Resting.{AreLeft};
-ghost use Rattle.journal_chart.specs.Shares.{shared_of};
-ghost use Rattle.journal_chart.specs.Steps.{after_seat, closed_row, each_row, first_row, first_rows, has_few, has_share, is_covered, is_covered_at, is_divided, is_idle, kept_levels, known_rows, near_row, needing_row, own_row, pairwise, requested, retold, seat_row, seat_rows, seated, settled_row, share_of, stands_kept, subject, taken_row};
+ghost use Rattle.journal_chart.specs.Shares.{shared_at, shared_of};
+ghost use Rattle.journal_chart.specs.Steps.{after_seat, closed_row, each_row, first_row, first_rows, has_few, has_share, is_covered, is_covered_at, is_divided, is_idle, is_spared, kept_levels, known_rows, near_row, needing_row, own_row, pairwise, requested, retold, seat_row, seat_rows, seated, settled_row, share_of, shared_after, spot_of, spotted, stands_kept, subject, taken_row};
 
 use crate::by_number::{own_row_numbered, rows_numbered, seat_row_numbered};
 use crate::covered::{Covered, exactly};
 use crate::row::{Known, Row};
 use crate::shares::Shares;
+use crate::spot::Spot;
 use crate::unkept::Unkept;
 use market_core::{Division, Market};
 use market_types::{ArenaId, Cmd, Level, LimitView, Reply};
@@ -91,6 +92,22 @@ fn is_covered_at<const DIVIDED: bool>(now: &Shares, known: &Known, stands: Optio
     }
 }
 
+/// A column has all that an arena of a level may be allotted, of which this is known, wherever in the level it may stand.
+#[inline(always)]
+fn is_spared<const DIVIDED: bool>(now: &Shares, known: &Known, level: Level) -> bool
+    requires { DIVIDED ≡ true → 0 < now.now.limit }
+    ensures { result ≡ is_spared now.now known.now level }
+{
+    is_divided::<DIVIDED>(now, level)
+        && known.spot.spares(
+            now.drift(),
+            known.covered,
+            known.request,
+            now.given(level),
+            now.asked(level),
+        )
+}
+
 /// An arena that stands at such a level, or at none, is allotted what it was.
 #[inline]
 fn stands_kept(kept: &[bool; 8], stands: Option<Level>) -> bool
@@ -144,7 +161,7 @@ fn share_of<const DIVIDED: bool>(
     level: Level,
 ) -> u32
     requires found { DIVIDED ≡ true → 0 < now.now.limit }
-    requires shares { DIVIDED ≡ true → now.now ≡ shared_of market.now }
+    requires shares { DIVIDED ≡ true → now.now ≡ shared_at market.now now.now.drift }
     requires divided { IfSome division.old (IsDivisionOf market.now) }
     ensures exact { result ≡ share_of market.now now.now known.now arena level }
     ensures divided { IfSome division.new (IsDivisionOf market.now) }
@@ -205,8 +222,44 @@ fn settle(
     }
 }
 
-/// The same in the column of the last moment, of an arena of a level, where the entry is not about it. A row whose column has what the arena is
-/// allotted is left as it is.
+/// What the market tells of an arena of a level, of which this is known, where it is asked: what it is allotted, and where it stands, if that may be of
+/// use.
+fn portion_of<const DIVIDED: bool>(
+    market: &Market,
+    division: &mut Option<Division>,
+    now: &Shares,
+    known: &Known,
+    arena: ArenaId,
+    level: Level,
+) -> (u32, Spot)
+    requires found { DIVIDED ≡ true → 0 < now.now.limit }
+    requires shares { now.now ≡ shared_at market.now now.now.drift }
+    requires divided { IfSome division.old (IsDivisionOf market.now) }
+    ensures share { result.0 ≡ share_of market.now now.now known.now arena level }
+    ensures spot { result.1 ≡ spot_of market.now now.now known.now arena (Some level) }
+    ensures divided { IfSome division.new (IsDivisionOf market.now) }
+{
+    if !is_divided::<DIVIDED>(now, level) {
+        let share = if is_idle(now) {
+            0
+        } else {
+            allotted(market, division, arena)
+        };
+        return (share, Spot::none());
+    }
+    let (given, asked) = (now.given(level), now.asked(level));
+    match exactly(known.request, given, asked) {
+        Some(share) => (share, Spot::none()),
+        None => {
+            let portion = market.portion_at(arena, level, given, asked);
+            let spot = Spot::of(portion.before, given, asked, now.drift());
+            (portion.workers, spot)
+        }
+    }
+}
+
+/// Takes the moment after an entry into the column of the last moment, of an arena of a level that it is not about, and what is then known of it. A row
+/// whose column has what the arena is allotted is left as it is.
 #[inline(never)]
 fn settle_other<const DIVIDED: bool>(
     row: &mut Row,
@@ -218,18 +271,19 @@ fn settle_other<const DIVIDED: bool>(
     level: Level,
 )
     requires found { DIVIDED ≡ true → 0 < now.now.limit }
-    requires shares { DIVIDED ≡ true → now.now ≡ shared_of market.now }
+    requires shares { now.now ≡ shared_at market.now now.now.drift }
     requires divided { IfSome division.old (IsDivisionOf market.now) }
-    ensures exact { (cmd : Cmd) (reply : Reply) → (row.new, known.new) ≡ closed_row place market.now cmd reply known.old row.old row.old (Some (share_of market.now now.now known.old row.old.arena level)) }
+    ensures exact { (cmd : Cmd) (reply : Reply) → (row.new, known.new) ≡ spotted (spot_of market.now now.now known.old row.old.arena (Some level)) (closed_row place market.now cmd reply known.old row.old row.old (Some (share_of market.now now.now known.old row.old.arena level))) }
     ensures divided { IfSome division.new (IsDivisionOf market.now) }
 {
-    let share = share_of::<DIVIDED>(market, division, now, known, row.arena(), level);
+    let (share, spot) = portion_of::<DIVIDED>(market, division, now, known, row.arena(), level);
     if !has_share(known, share) {
         *known = row.tell(place, known, share);
     }
+    known.spot = spot;
 }
 
-/// The same where the entry is about the arena, of which this was known before it: what it asks for and has is put into the column, where that
+/// The same of the arena that the entry is about, of which this was known before it: what it asks for and has is put into the column, where that
 /// changed.
 #[inline(never)]
 fn settle_own<const DIVIDED: bool>(
@@ -244,7 +298,7 @@ fn settle_own<const DIVIDED: bool>(
     now: &Shares,
 )
     requires found { DIVIDED ≡ true → 0 < now.now.limit }
-    requires shares { DIVIDED ≡ true → now.now ≡ shared_of market.now }
+    requires shares { DIVIDED ≡ true → now.now ≡ shared_at market.now now.now.drift }
     requires divided { IfSome division.old (IsDivisionOf market.now) }
     ensures exact { (row.new, known.new) ≡ closed_row place market.now cmd.now reply.now known.old row.old (needing_row place was.now known.old row.old) (option_map (share_of market.now now.now known.old row.old.arena) row.old.stands) }
     ensures divided { IfSome division.new (IsDivisionOf market.now) }
@@ -271,6 +325,7 @@ fn requested(reply: &Reply, known: &Known) -> Option<Known>
             request: *request,
             active: known.active,
             covered: known.covered,
+            spot: Spot::none(),
         }),
         _ => None,
     }
@@ -322,7 +377,7 @@ pub(crate) fn own_row<const DIVIDED: bool>(
     told: Option<Known>,
 )
     requires found { DIVIDED ≡ true → 0 < now.now.limit }
-    requires shares { DIVIDED ≡ true → now.now ≡ shared_of market.now }
+    requires shares { DIVIDED ≡ true → now.now ≡ shared_at market.now now.now.drift }
     requires divided { IfSome division.old (IsDivisionOf market.now) }
     ensures exact { (row.new, known.new) ≡ own_row place market.now cmd.now reply.now now.now known.old row.old told }
     ensures divided { IfSome division.new (IsDivisionOf market.now) }
@@ -353,7 +408,7 @@ fn other_row<const DIVIDED: bool>(
     kept: &[bool; 8],
 )
     requires found { DIVIDED ≡ true → 0 < now.now.limit }
-    requires shares { DIVIDED ≡ true → now.now ≡ shared_of market.now }
+    requires shares { now.now ≡ shared_at market.now now.now.drift }
     requires divided { IfSome division.old (IsDivisionOf market.now) }
     ensures exact { (cmd : Cmd) (reply : Reply) → is_just row.old.arena (subject cmd reply) ≡ false → (row.new, known.new) ≡ near_row place market.now cmd reply now.now kept.now row.old known.old }
     ensures divided { IfSome division.new (IsDivisionOf market.now) }
@@ -365,9 +420,13 @@ fn other_row<const DIVIDED: bool>(
     let Some(level) = row.stands() else {
         return;
     };
-    if !is_covered::<DIVIDED>(now, known, level) {
-        settle_other::<DIVIDED>(row, known, place, market, division, now, level);
+    if is_covered::<DIVIDED>(now, known, level) {
+        return;
     }
+    if is_spared::<DIVIDED>(now, known, level) {
+        return;
+    }
+    settle_other::<DIVIDED>(row, known, place, market, division, now, level);
 }
 
 /// Takes the moment after a command and its reply, which are about one arena, into the column of a row at a place, which has the moment
@@ -387,7 +446,7 @@ fn near_row<const DIVIDED: bool>(
     kept: &[bool; 8],
 )
     requires found { DIVIDED ≡ true → 0 < now.now.limit }
-    requires shares { DIVIDED ≡ true → now.now ≡ shared_of market.now }
+    requires shares { now.now ≡ shared_at market.now now.now.drift }
     requires divided { IfSome division.old (IsDivisionOf market.now) }
     requires about { about.now ≡ subject cmd.now reply.now }
     ensures exact { (row.new, known.new) ≡ near_row place market.now cmd.now reply.now now.now kept.now row.old known.old }
@@ -396,6 +455,7 @@ fn near_row<const DIVIDED: bool>(
     if is_just(row.arena(), about) {
         let told = retold(cmd, reply, known);
         own_row::<DIVIDED>(row, known, place, market, division, cmd, reply, now, told);
+        known.spot = Spot::none();
         return;
     }
     other_row::<DIVIDED>(row, known, place, market, division, now, kept);
@@ -417,7 +477,7 @@ fn rows_about<const DIVIDED: bool>(
     kept: &[bool; 8],
 )
     requires found { DIVIDED ≡ true → 0 < now.now.limit }
-    requires shares { DIVIDED ≡ true → now.now ≡ shared_of market.now }
+    requires shares { now.now ≡ shared_at market.now now.now.drift }
     requires each { length known.old ≡ length rows.old }
     requires about { about.now ≡ subject cmd.now reply.now }
     requires within { count ≤ length rows.old }
@@ -462,7 +522,7 @@ fn rows_of_any_level(
     requires about { about.now ≡ subject cmd.now reply.now }
     requires within { count ≤ length rows.old }
     requires left { AreLeft count (subject cmd.now reply.now) rows.old }
-    requires shares { now.now ≡ shared_of market.now }
+    requires shares { now.now ≡ shared_at market.now now.now.drift }
     ensures rows { rows.new ≡ (pairwise (near_row place market.now cmd.now reply.now now.now kept.now) rows.old known.old).0 }
     ensures known { known.new ≡ (pairwise (near_row place market.now cmd.now reply.now now.now kept.now) rows.old known.old).1 }
     ensures rest { drop count rows.new ≡ drop count rows.old }
@@ -508,7 +568,7 @@ fn each_row(
     requires left { AreLeft count (subject cmd.now reply.now) rows.old }
     requires numbered { AreNumbered first rows.old }
     requires unkept { AreUnkept kept.now unkept }
-    requires shares { now.now ≡ shared_of market.now }
+    requires shares { now.now ≡ shared_at market.now now.now.drift }
     ensures rows { rows.new ≡ (pairwise (near_row place market.now cmd.now reply.now now.now kept.now) rows.old known.old).0 }
     ensures known { known.new ≡ (pairwise (near_row place market.now cmd.now reply.now now.now kept.now) rows.old known.old).1 }
     ensures rest { drop count rows.new ≡ drop count rows.old }
@@ -564,7 +624,7 @@ pub(crate) fn near_rows(
     requires left { AreLeft count (subject cmd.now reply.now) rows.old }
     ensures rows { rows.new ≡ (each_row place market.now cmd.now reply.now shares.old rows.old known.old).0 }
     ensures known { known.new ≡ (each_row place market.now cmd.now reply.now shares.old rows.old known.old).1 }
-    ensures shares { shares.new ≡ shared_of market.now }
+    ensures shares { shares.new ≡ shared_after cmd.now shares.old market.now }
     ensures rest { drop count rows.new ≡ drop count rows.old }
 {
     let (kept, unkept) = shares.renew(market, limits, cmd);
@@ -594,6 +654,7 @@ pub(crate) fn seat_row(
     if is_just(row.arena(), moved) {
         let told = seated(place, more, reply, known, row);
         own_row::<false>(row, known, place, market, &mut None, cmd, reply, now, told);
+        known.spot = Spot::none();
     }
 }
 

@@ -3,6 +3,7 @@ ghost use Rattle.std.specs.Prelude.{◌≡◌, IfOk, Some, map};
 ghost use Rattle.market_types.specs.Allotment.{is_just};
 ghost use Rattle.journal_chart.specs.Unkept.{IsAtLevel};
 ghost use Rattle.journal_chart.specs.Covering.{covered};
+ghost use Rattle.journal_chart.specs.Spots.{no_spot};
 ghost use Rattle.journal_chart.specs.Lines.{added};
 ghost use Rattle.journal_chart.specs.Cells.{actives_of, allots_of, hires_of, levels_of, recalls_of, requests_of};
 ghost use Rattle.journal_chart.specs.Steps.{empty_row, halved_row, known_in, needing_row, nothing_known, passed_row, seen_row, shared_row, standing_row, stands_after, taken_row, viewed_row};
@@ -10,6 +11,7 @@ ghost use Rattle.journal_chart.specs.Steps.{empty_row, halved_row, known_in, nee
 use crate::cell::{Cell, cell_at, put_cell};
 use crate::covered::Covered;
 use crate::halving::halve;
+use crate::spot::Spot;
 use crate::stands::Standing;
 use market_core::Market;
 use market_types::{ArenaId, ArenaView, Cmd, Level, Reply};
@@ -25,6 +27,8 @@ pub(crate) struct Known {
     pub(crate) active: u32,
     /// The allotments that add nothing to its column.
     pub(crate) covered: Covered,
+    /// Where it stands in its level.
+    pub(crate) spot: Spot,
 }
 
 impl Known {
@@ -36,6 +40,7 @@ impl Known {
             request: 0,
             active: 0,
             covered: Covered { from: 0, below: 0 },
+            spot: Spot::none(),
         }
     }
 }
@@ -46,11 +51,13 @@ fn known_by(cell: Cell, request: u32, active: u32) -> Known
     ensures request { result.request ≡ request }
     ensures active { result.active ≡ active }
     ensures covered { result.covered ≡ covered cell.allot cell.recall cell.hire active }
+    ensures spot { result.spot ≡ no_spot }
 {
     Known {
         request,
         active,
         covered: Covered::of(cell.allot, cell.recall, cell.hire, active),
+        spot: Spot::none(),
     }
 }
 

@@ -1,9 +1,9 @@
 //! What the levels of a market are given of what they ask for.
-ghost use Rattle.std.specs.Prelude.{◌≡◌, ◌-◌, ◌*◌, ◌≤◌, ◌==◌, ◌&&◌, ◌||◌, nat_lt, slice_index};
+ghost use Rattle.std.specs.Prelude.{◌≡◌, ℕ, ◌-◌, ◌*◌, ◌≤◌, ◌==◌, ◌&&◌, ◌||◌, nat_lt, slice_index};
 ghost use Rattle.market_types.specs.Step.{limits_of};
 ghost use Rattle.journal_chart.specs.Unkept.{AreUnkept};
-ghost use Rattle.journal_chart.specs.Shares.{no_shares, shared_of};
-ghost use Rattle.journal_chart.specs.Steps.{after_seat, is_joined, is_same_part, keeps_order, kept_levels};
+ghost use Rattle.journal_chart.specs.Shares.{Shared, apart, no_shares, shared_of};
+ghost use Rattle.journal_chart.specs.Steps.{after_seat, drifted, is_joined, is_same_part, keeps_order, kept_levels, shared_after};
 
 use crate::entry::keeps_order;
 use crate::unkept::Unkept;
@@ -22,6 +22,8 @@ pub(crate) struct Shares {
     levels: usize,
     given: [u64; 8],
     asked: [u64; 8],
+    /// How far what they ask for has drifted since the column began, 2^64 - 1 where that is more than can be counted.
+    drift: u64,
 }
 
 impl Model for Shares {
@@ -29,7 +31,7 @@ impl Model for Shares {
 
     ghost Value = { Shared };
 
-    ghost view = { λ s. record { limit = s.limit; effective = s.effective; placed = s.placed; given = s.given; asked = s.asked } };
+    ghost view = { λ s. record { limit = s.limit; effective = s.effective; placed = s.placed; given = s.given; asked = s.asked; drift = s.drift } };
 
     ghost invariant = { λ s. AreFew s.given s.asked × AreNoneAbove s.levels s.given s.asked };
 }
@@ -72,6 +74,36 @@ fn is_kept(idle: bool, divided: bool, same: bool) -> bool
     idle || (divided && same)
 }
 
+/// How much what the levels ask for differs.
+#[inline(always)]
+fn apart(asked: &[u64; 8], other: &[u64; 8]) -> u64
+    requires asked { (place : ℕ) → slice_index asked.now place ≤ 1024 * 65535 }
+    requires other { (place : ℕ) → slice_index other.now place ≤ 1024 * 65535 }
+    ensures exact { result ≡ apart 8 asked.now other.now }
+    ensures few { result ≤ 8 * (1024 * 65535) }
+{
+    let mut apart = 0;
+    for place in 0..8 {
+        apart += asked[place].abs_diff(other[place]);
+    }
+    apart
+}
+
+/// How far what the levels ask for has drifted after a command, which made of what they asked for what they ask for.
+#[inline(always)]
+fn drifted(drift: u64, cmd: &Cmd, was: &[u64; 8], asked: &[u64; 8]) -> u64
+    requires was { (place : ℕ) → slice_index was.now place ≤ 1024 * 65535 }
+    requires asked { (place : ℕ) → slice_index asked.now place ≤ 1024 * 65535 }
+    ensures { (s : Shared) → s.drift ≡ drift → s.asked ≡ was.now → result ≡ drifted cmd.now s asked.now }
+{
+    let moved = if keeps_order(cmd) {
+        0
+    } else {
+        2 * apart(&[0; 8], was)
+    };
+    drift.saturating_add(apart(was, asked) + moved)
+}
+
 impl Shares {
     /// Those of no market.
     pub(crate) fn none() -> Shares
@@ -84,6 +116,7 @@ impl Shares {
             levels: 0,
             given: [0; 8],
             asked: [0; 8],
+            drift: 0,
         }
     }
 
@@ -99,7 +132,7 @@ impl Shares {
         cmd: &Cmd,
     ) -> ([bool; 8], Unkept)
         requires { limits.now ≡ limits_of market.now }
-        ensures shares { self.new ≡ shared_of market.now }
+        ensures shares { self.new ≡ shared_after cmd.now self.old market.now }
         ensures kept { result.0 ≡ kept_levels cmd.now self.old (shared_of market.now) market.now.levels }
         ensures unkept { AreUnkept result.0 result.1 }
     {
@@ -109,6 +142,7 @@ impl Shares {
         let mut kept = [true; 8];
         let (mut count, mut last) = (0, 0);
         let mut left = u64::from(limits.effective);
+        let (was, drift) = (self.asked, self.drift);
         // No level above those of the market, whose number most often is small, takes any time.
         for place in 0..levels {
             let demand = market.demand(Level::from_index(place));
@@ -128,11 +162,28 @@ impl Shares {
             self.given[place] = 0;
             self.asked[place] = 0;
         }
+        self.drift = drifted(drift, cmd, &was, &self.asked);
         self.limit = limits.limit;
         self.effective = limits.effective;
         self.placed = market.placed();
         self.levels = levels;
         (kept, Unkept::of(count, last))
+    }
+
+    /// Nothing has drifted, as far as anybody has to know.
+    #[inline(always)]
+    pub(crate) fn rest(&mut self)
+        ensures { self.new ≡ record self.old { drift = 0 } }
+    {
+        self.drift = 0;
+    }
+
+    /// How far what the levels ask for has drifted.
+    #[inline]
+    pub(crate) fn drift(&self) -> u64
+        ensures { result ≡ self.now.drift }
+    {
+        self.drift
     }
 
     /// Those after a command of a seat, and whether one more seat is placed than before.

@@ -1,54 +1,108 @@
 use Rattle.std.specs.Prelude.{nat_le, nat_lt, slice_index, unwrap_or}
-use Rattle.std.proofs.Common.{◌≡◌, ◌-◌, ◌<◌, Some, true, false, refl, sym, ap, ◌∙◌, arith, subst}
+use Rattle.std.proofs.Common.{◌≡◌, ℕ, ◌-◌, ◌<◌, Bool, List, Option, Some, true, false, refl, sym, ap, ◌∙◌, arith, subst}
 use Rattle.std.proofs.lemmas.Bool.{le-leb}
 use Rattle.std.proofs.lemmas.Bool.Decides.{nat_tests}
-use Rattle.market_types.specs.Allotment.{allotment_of}
+use Rattle.market_core.specs.Ahead.{asked_ahead}
+use Rattle.market_types.specs.Allotment.{allotment_of, at_level}
+use Rattle.market_types.specs.State.{State}
+use Rattle.journal_chart.specs.declared.row.Known.{Known}
+use Rattle.journal_chart.specs.declared.spot.Spot.{Spot}
 use Rattle.journal_chart.specs.Covering.{covers, exactly}
 use Rattle.journal_chart.specs.Shares.{Shared}
-use Rattle.journal_chart.specs.Unkept.{IsAtLevel}
-use Rattle.journal_chart.specs.Steps.{closed_row, is_covered, share_of, stands_kept}
-use Rattle.journal_chart.proofs.Numbered.{covered-row, just-is, other-level, other-row}
+use Rattle.journal_chart.specs.Spots.{spares, spot_by}
+use Rattle.journal_chart.specs.Unkept.{IsAlone, IsAtLevel}
+use Rattle.journal_chart.specs.Steps.{closed_row, is_covered, is_spared, share_of, spot_of, spotted, stands_kept}
+use Rattle.journal_chart.proofs.Numbered.{covered-row, just-is, other-level, other-row, spared-row}
 use Rattle.journal_chart.proofs.Sharing.{shared-asked, shared-given}
 use Rattle.journal_chart.proofs.by_number.level_row.Goals as goal
+
+-- a level that is given this of what it asks for, in a market in which some worker may be active, whose levels have drifted so far
+module _ (now : Shared) (known : Known) (level given asked drift : ℕ) (found : 0 < now.limit) (fits : IsAtLevel (Some level))
+    (given_is : given ≡ slice_index now.given (level - 1)) (asked_is : asked ≡ slice_index now.asked (level - 1)) (drift_is : drift ≡ now.drift) where
+  any : nat_lt 0 now.limit ≡ true
+  any = grind (arith, nat_tests, found)
+
+  low : nat_le 1 level ≡ true
+  low = le-leb 1 level fits.0
+
+  high : nat_le level 8 ≡ true
+  high = le-leb level 8 fits.1
+
+  -- it is not kept where it alone is not
+  moved : (kept : List Bool) → IsAlone kept level → (stands : Option ℕ) → stands ≡ Some level → stands_kept kept stands ≡ false
+  moved kept alone stands at = ap (stands_kept kept) at ∙ rw (low, alone.open_) refl
+
+  -- whether an arena at it is covered, and whether it is spared, is told by these numbers
+  is-covered : (told : Bool) → covers known.covered known.request given asked ≡ told → is_covered now known level ≡ told
+  is-covered told h = rw (any, low, high) ((λ i. covers known.covered known.request (sym given_is i) (sym asked_is i)) ∙ h)
+
+  is-spared : (told : Bool) → spares known.spot drift known.covered known.request given asked ≡ told → is_spared now known level ≡ told
+  is-spared told h = rw (any, low, high) ((λ i. spares known.spot (sym drift_is i) known.covered known.request (sym given_is i) (sym asked_is i)) ∙ h)
+
+  -- so is what it is allotted, and where it stands
+  share-is : (s : State) (arena : ℕ) → unwrap_or (exactly known.request given asked) (allotment_of s arena) ≡ share_of s now known arena level
+  share-is s arena = (λ i. unwrap_or (exactly known.request (given_is i) (asked_is i)) (allotment_of s arena)) ∙ sym (rw (any, low, high) refl)
+
+  spot-is : (s : State) (arena : ℕ)
+      → spot_by (exactly known.request given asked) (asked_ahead arena (at_level level s.arenas)) given asked drift ≡ spot_of s now known arena (Some level)
+  spot-is s arena =
+      (λ i. spot_by (exactly known.request (given_is i) (asked_is i)) (asked_ahead arena (at_level level s.arenas)) (given_is i) (asked_is i) (drift_is i))
+      ∙ sym (rw (any, low, high) refl)
 
 pub returns-then-not-is_at : goal.returns-then-not-is_at
 returns-then-not-is_at c cmd reply kept alone other =
     sym (other-level c.args.place c.args.market.now cmd reply c.args.now.now kept c.args.row.now c.args.known.now c.args.level alone other c.is_at.ensures.somewhere
     (sym c.is_at.ensures.exact ∙ c.if-not-is_at.true))
 
-pub returns-then-not-covers_some : goal.returns-then-not-covers_some
-returns-then-not-covers_some c cmd reply kept alone other =
-    let level = c.args.level in
+pub returns-then-covers_some : goal.returns-then-covers_some
+returns-then-covers_some c cmd reply kept alone other =
     let now = c.args.now.now in
     let known = c.args.known.now in
+    let level = c.args.level in
+    let given = c.args.given in
+    let asked = c.args.asked in
+    let drift = c.args.drift in
     let at = just-is c.args.row.now.stands level (sym c.is_at.ensures.exact ∙ c.if-not-is_at.false) in
     let fits : IsAtLevel (Some level) = subst IsAtLevel at c.is_at.ensures.somewhere in
-    let low : nat_le 1 level ≡ true = le-leb 1 level fits.0 in
-    let high : nat_le level 8 ≡ true = le-leb level 8 fits.1 in
-    let any : nat_lt 0 now.limit ≡ true = let e = c.requires.found in grind (arith, nat_tests) in
-    let moved : stands_kept kept c.args.row.now.stands ≡ false = ap (stands_kept kept) at ∙ rw (low, alone.open_) refl in
-    let uncovered : is_covered now known level ≡ false =
-    rw (any, low, high) ((λ i. covers known.covered known.request (sym c.requires.given i) (sym c.requires.asked i)) ∙ sym c.covers_some.ensures ∙ c.if-not-covers_some.true) in
-    let told : unwrap_or (exactly known.request c.args.given c.args.asked) (allotment_of c.args.market.now c.args.row.now.arena) ≡ share_of c.args.market.now now known c.args.row.now.arena level =
-    (λ i. unwrap_or (exactly known.request (c.requires.given i) (c.requires.asked i)) (allotment_of c.args.market.now c.args.row.now.arena)) ∙ sym (rw (any, low, high) refl) in
-    c.settle_given.ensures cmd reply
-    ∙ ap (λ share. closed_row c.args.place c.args.market.now cmd reply known c.args.row.now c.args.row.now (Some share)) told
-    ∙ sym (other-row c.args.place c.args.market.now cmd reply now kept c.args.row.now known level other moved at uncovered)
+    let held = moved now known level given asked drift c.requires.found fits c.requires.given c.requires.asked c.requires.drift kept alone c.args.row.now.stands at in
+    let covered = is-covered now known level given asked drift c.requires.found fits c.requires.given c.requires.asked c.requires.drift true (sym c.covers_some.ensures ∙ c.if-covers_some.true) in
+    sym (covered-row c.args.place c.args.market.now cmd reply now kept c.args.row.now known level other held at covered)
 
-pub returns-else-not-covers_some : goal.returns-else-not-covers_some
-returns-else-not-covers_some c cmd reply kept alone other =
-    let level = c.args.level in
+pub returns-then-spares : goal.returns-then-spares
+returns-then-spares c cmd reply kept alone other =
     let now = c.args.now.now in
     let known = c.args.known.now in
+    let level = c.args.level in
+    let given = c.args.given in
+    let asked = c.args.asked in
+    let drift = c.args.drift in
     let at = just-is c.args.row.now.stands level (sym c.is_at.ensures.exact ∙ c.if-not-is_at.false) in
     let fits : IsAtLevel (Some level) = subst IsAtLevel at c.is_at.ensures.somewhere in
-    let low : nat_le 1 level ≡ true = le-leb 1 level fits.0 in
-    let high : nat_le level 8 ≡ true = le-leb level 8 fits.1 in
-    let any : nat_lt 0 now.limit ≡ true = let e = c.requires.found in grind (arith, nat_tests) in
-    let moved : stands_kept kept c.args.row.now.stands ≡ false = ap (stands_kept kept) at ∙ rw (low, alone.open_) refl in
-    let covered : is_covered now known level ≡ true =
-    rw (any, low, high) ((λ i. covers known.covered known.request (sym c.requires.given i) (sym c.requires.asked i)) ∙ sym c.covers_some.ensures ∙ c.if-not-covers_some.false) in
-    sym (covered-row c.args.place c.args.market.now cmd reply now kept c.args.row.now known level other moved at covered)
+    let held = moved now known level given asked drift c.requires.found fits c.requires.given c.requires.asked c.requires.drift kept alone c.args.row.now.stands at in
+    let uncovered = is-covered now known level given asked drift c.requires.found fits c.requires.given c.requires.asked c.requires.drift false (sym c.covers_some.ensures ∙ c.if-covers_some.false) in
+    let spared = is-spared now known level given asked drift c.requires.found fits c.requires.given c.requires.asked c.requires.drift true (sym c.spares.ensures ∙ c.if-spares.true) in
+    sym (spared-row c.args.place c.args.market.now cmd reply now kept c.args.row.now known level other held at uncovered spared)
+
+pub returns : goal.returns
+returns c cmd reply kept alone other =
+    let s = c.args.market.now in
+    let now = c.args.now.now in
+    let row = c.args.row.now in
+    let known = c.args.known.now in
+    let level = c.args.level in
+    let given = c.args.given in
+    let asked = c.args.asked in
+    let drift = c.args.drift in
+    let at = just-is row.stands level (sym c.is_at.ensures.exact ∙ c.if-not-is_at.false) in
+    let fits : IsAtLevel (Some level) = subst IsAtLevel at c.is_at.ensures.somewhere in
+    let held = moved now known level given asked drift c.requires.found fits c.requires.given c.requires.asked c.requires.drift kept alone row.stands at in
+    let uncovered = is-covered now known level given asked drift c.requires.found fits c.requires.given c.requires.asked c.requires.drift false (sym c.covers_some.ensures ∙ c.if-covers_some.false) in
+    let unspared = is-spared now known level given asked drift c.requires.found fits c.requires.given c.requires.asked c.requires.drift false (sym c.spares.ensures ∙ c.if-spares.false) in
+    let share = share-is now known level given asked drift c.requires.found fits c.requires.given c.requires.asked c.requires.drift s row.arena in
+    let spot = spot-is now known level given asked drift c.requires.found fits c.requires.given c.requires.asked c.requires.drift s row.arena in
+    c.settle_given.ensures cmd reply
+    ∙ (λ i. spotted (spot i) (closed_row c.args.place s cmd reply known row row (Some (share i))))
+    ∙ sym (other-row c.args.place s cmd reply now kept row known level other held at uncovered unspared)
 
 -- what the level is given is what the market gives it
 pub settle_given-requires-clause-some : goal.settle_given-requires-clause-some

@@ -1,9 +1,9 @@
-use Rattle.std.proofs.Common.{◌≡◌, List, length, ◌+◌, false, nat_le, nat_lt, refl, sym, ap, ◌∙◌, subst, arith}
+use Rattle.std.proofs.Common.{◌≡◌, List, length, ◌+◌, false, true, nat_le, nat_lt, refl, sym, ap, ◌∙◌, subst, arith}
 use Rattle.std.proofs.lemmas.Bool.Decides.{nat_tests}
 use Rattle.std.proofs.lemmas.List.{length-map}
 use Rattle.journal_chart.specs.Rows.{Row}
 use Rattle.journal_chart.specs.Numbers.{Charted}
-use Rattle.journal_chart.specs.Steps.{Followed, Making, made_more, next_chart}
+use Rattle.journal_chart.specs.Steps.{Followed, Making, made_more, next_chart, passed_chart}
 use Rattle.journal_chart.specs.Numbering.{AreNumbered, arenas_of}
 use Rattle.journal_chart.proofs.Arenas.{next-arenas, numbered-still, passed-arenas}
 use Rattle.journal_chart.proofs.Next.{next-more}
@@ -53,5 +53,29 @@ returns c =
     ≡ made_more (record { before = inside.before; to = inside.to; seen = inside.seen; followed = record { chart = inside.chart; known = inside.notes.known.items; shares = inside.notes.shares } }) s cmd reply =
     rw (open_, late) refl in
     (λ i. record { before = inside.before; to = inside.to; seen = inside.seen + 1; followed = followed i })
+    ∙ made
+    ∙ ap (λ (m : Making). made_more m s cmd reply) c.self.view_is
+
+pub returns-then-self : goal.returns-then-self
+returns-then-self c =
+    let inside = c.self.inside in
+    let was : Making = record { before = inside.before; to = inside.to; seen = inside.seen; followed = record { chart = inside.chart; known = inside.notes.known.items; shares = inside.notes.shares } } in
+    let past : nat_le inside.to inside.seen ≡ true = let e = c.if-self.true in grind (arith, nat_tests) in
+    let made : was ≡ made_more was c.args.market.now c.args.cmd.now c.args.reply.now = rw (past) refl in
+    sym c.self.view_is ∙ made ∙ ap (λ (m : Making). made_more m c.args.market.now c.args.cmd.now c.args.reply.now) c.self.view_is
+
+pub returns-then-self-2 : goal.returns-then-self-2
+returns-then-self-2 c =
+    let s = c.args.market.now in
+    let cmd = c.args.cmd.now in
+    let reply = c.args.reply.now in
+    let inside = c.self.inside in
+    let was : Making = record { before = inside.before; to = inside.to; seen = inside.seen; followed = record { chart = inside.chart; known = inside.notes.known.items; shares = inside.notes.shares } } in
+    let open_ : nat_le inside.to inside.seen ≡ false = let e = c.if-self.false in grind (arith, nat_tests) in
+    let early : nat_lt inside.seen inside.before ≡ true = let e = c.if-self-2.true in grind (arith, nat_tests) in
+    let made : record { before = inside.before; to = inside.to; seen = inside.seen + 1; followed = record { chart = passed_chart cmd reply inside.chart; known = inside.notes.known.items; shares = inside.notes.shares } }
+    ≡ made_more was s cmd reply =
+    rw (open_, early) refl in
+    (λ i. record { before = inside.before; to = inside.to; seen = inside.seen + 1; followed = record { chart = c.pass.ensures.step i; known = inside.notes.known.items; shares = inside.notes.shares } })
     ∙ made
     ∙ ap (λ (m : Making). made_more m s cmd reply) c.self.view_is

@@ -46,4 +46,5 @@ returns-clause-known c =
       request = c.known_by.ensures.request i;
       active = c.known_by.ensures.active i;
       covered = (c.known_by.ensures.covered ∙ (λ j. covered (allot j) (recall j) (hire j) k.active)) i;
+      spot = c.known_by.ensures.spot i;
     }

@@ -9,8 +9,8 @@ use Rattle.market_types.specs.Allotment.{demand, effective_limit_of}
 use Rattle.market_types.specs.declared.command.Cmd.{Cmd}
 use Rattle.market_types.specs.declared.reply.LimitView.{LimitView}
 use Rattle.journal_chart.specs.Unkept.{AreUnkept, unkept_of}
-use Rattle.journal_chart.specs.Shares.{Shared, shared_of}
-use Rattle.journal_chart.specs.Steps.{is_kept, is_same_part, keeps_order, kept_levels}
+use Rattle.journal_chart.specs.Shares.{Shared, all_asked, shared_of}
+use Rattle.journal_chart.specs.Steps.{drifted, is_kept, is_same_part, keeps_order, kept_levels}
 use Rattle.journal_chart.proofs.Levels.{AreSoFar, kept-above, kept-at, so-far-all, so-far-kept, so-far-more}
 use Rattle.journal_chart.proofs.Assigning.{Assigning, Cleared, Renewing, asked-all, assigning-all, cleared-none, given-all, renewing-more}
 use Rattle.journal_chart.proofs.shares.Shares.renew.Goals as goal
@@ -208,7 +208,25 @@ invariant_of-self c =
 pub returns-clause-shares : goal.returns-clause-shares
 returns-clause-shares c =
     let here = (goal.at.returns-clause-shares c).After-loop-place-2 in
-    λ i. record { limit = limit_is here i; effective = effective_is here i; placed = c.placed-self-inside.ensures.exact i; given = given_all here i; asked = asked_all here i }
+    let was : Shared = c.args.self.now in
+    let before : was.drift ≡ c.self.inside.drift = ap (λ (v : Shared). v.drift) (sym c.self.view_is) in
+    let asked : was.asked ≡ c.self.inside.asked = ap (λ (v : Shared). v.asked) (sym c.self.view_is) in
+    let moved : c.drifted-self-inside.result ≡ drifted c.args.cmd.now was (all_asked c.args.market.now) =
+    c.drifted-self-inside.ensures was before asked ∙ ap (drifted c.args.cmd.now was) (asked_all here) in
+    λ i. record {
+      limit = limit_is here i;
+      effective = effective_is here i;
+      placed = c.placed-self-inside.ensures.exact i;
+      given = given_all here i;
+      asked = asked_all here i;
+      drift = moved i;
+    }
+
+pub drifted-self-inside-requires-clause-was : goal.drifted-self-inside-requires-clause-was
+drifted-self-inside-requires-clause-was c place = c.self.invariant.0.small place
+
+pub drifted-self-inside-requires-clause-asked : goal.drifted-self-inside-requires-clause-asked
+drifted-self-inside-requires-clause-asked c place = (whole (goal.at.drifted-self-inside-requires-clause-asked c).After-loop-place-2).small place
 
 pub returns-clause-kept : goal.returns-clause-kept
 returns-clause-kept c =
