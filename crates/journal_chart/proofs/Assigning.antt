@@ -7,7 +7,7 @@ use Rattle.std.proofs.Math.ListN.{length-set}
 use Rattle.std.proofs.Math.Seq.{take-suc-set}
 use Rattle.market_types.specs.State.{State}
 use Rattle.market_types.specs.Allotment.{assigned_to, demand}
-use Rattle.journal_chart.specs.Shares.{AreFew, AreNoneAbove, all_asked, asked_at}
+use Rattle.journal_chart.specs.Shares.{AreFew, AreNoneAbove, all_asked, apart, asked_at}
 use Rattle.journal_chart.proofs.Sharing.{all-asked, asked-demand}
 
 -- of levels whose demands stand in one list, those before a place are given in the other what they are due, and the rest nothing yet
@@ -84,6 +84,37 @@ renewing-more s workers was_given was_asked given asked left place wanted share 
       ];
       due = due-more given (all_asked s) place left share given_in few (share_is ∙ ap (λ n. min n left) (at ∙ sym (all-asked s place few))) ∙ h.due;
     }
+
+-- ---- how much what levels ask for differs
+
+-- what is put behind so many levels does not count among them
+apart-set : (n place v : ℕ) (xs ys : List ℕ) → n ≤ place → apart n xs (set ys place v) ≡ apart n xs ys
+apart-set zero place v xs ys low = refl
+apart-set (suc n) place v xs ys low =
+    let here : slice_index (set ys place v) n ≡ slice_index ys n = get_or-set_other ys place n v 0 (λ e. omega (arith, e, low)) in
+    let before = apart-set n place v xs ys (omega (arith, low)) in
+    λ i. before i + (slice_index xs n - here i + (here i - slice_index xs n))
+
+-- one level more
+pub apart-more : (place wanted moved more : ℕ) (xs ys : List ℕ) → place < length ys → slice_index ys place ≡ slice_index xs place → moved ≡ apart place xs ys
+    → more ≡ slice_index ys place - wanted + (wanted - slice_index ys place) → moved + more ≡ apart (place + 1) xs (set ys place wanted)
+apart-more place wanted moved more xs ys inside was is differs =
+    let next : suc place ≡ place + 1 = omega arith in
+    let here : slice_index (set ys place wanted) place ≡ wanted = get_or-set_same ys place wanted 0 inside in
+    let before : apart place xs (set ys place wanted) ≡ apart place xs ys = apart-set place place wanted xs ys (omega arith) in
+    let sum : moved + more ≡ apart place xs (set ys place wanted) + (slice_index xs place - wanted + (wanted - slice_index xs place)) =
+    (λ i. (is ∙ sym before) i + (differs ∙ (λ j. was j - wanted + (wanted - was j))) i) in
+    sum
+    ∙ (λ i. apart place xs (set ys place wanted) + (slice_index xs place - sym here i + (sym here i - slice_index xs place)))
+    ∙ ap (λ n. apart n xs (set ys place wanted)) next
+
+-- by what levels ask for now, where that is so for each of them
+pub apart-same : (n : ℕ) (xs ys zs : List ℕ) → ((j : ℕ) → j < n → slice_index ys j ≡ slice_index zs j) → apart n xs ys ≡ apart n xs zs
+apart-same zero xs ys zs same = refl
+apart-same (suc n) xs ys zs same =
+    let here = same n (omega arith) in
+    let before = apart-same n xs ys zs (λ j less. same j (omega (arith, less))) in
+    λ i. before i + (slice_index xs n - here i + (here i - slice_index xs n))
 
 -- ---- what stood above the levels
 

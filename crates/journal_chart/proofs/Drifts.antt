@@ -12,7 +12,7 @@ use Rattle.market_types.specs.Step.{Outcome, arena_at, join_at, join_from, leave
 use Rattle.market_core.specs.Ahead.{asked_ahead}
 use Rattle.journal_chart.specs.declared.spot.Spot.{Spot}
 use Rattle.journal_chart.specs.Shares.{all_asked, apart, shared_at}
-use Rattle.journal_chart.specs.Steps.{drifted, keeps_order, moves_seat, subject}
+use Rattle.journal_chart.specs.Steps.{drifted, keeps_order, moves_seat, reordered, subject}
 use Rattle.journal_chart.proofs.Ahead.{Within}
 use Rattle.journal_chart.proofs.Kept.{Fine, ahead-within, apart-stands}
 use Rattle.journal_chart.proofs.Sharing.{leveled, shared-asked}
@@ -101,15 +101,15 @@ still-placed s t a drift more slack o x was within enough =
 -- what a level asks for, and what stands for another order, changes by no more than how far all levels drift
 drift-enough : (s t : State) (cmd : Cmd) (level : ℕ) → 1 ≤ level → level ≤ 8 → level ≤ s.levels → level ≤ t.levels
     → (demand s level - demand t level) + (demand t level - demand s level) + 2 * cond (keeps_order cmd) 0 (demand s level)
-    ≤ apart 8 (all_asked s) (all_asked t) + cond (keeps_order cmd) 0 (2 * apart 8 (replicate 8 0) (all_asked s))
+    ≤ apart t.levels (all_asked s) (all_asked t) + reordered cmd (all_asked s)
 drift-enough s t cmd level low few was_high high =
     let inside : level - 1 < 8 = omega (arith, low, few) in
     let was : slice_index (all_asked s) (level - 1) ≡ demand s level = shared-asked s level low few was_high in
     let is : slice_index (all_asked t) (level - 1) ≡ demand t level = shared-asked t level low few high in
     let among : slice_index (all_asked s) (level - 1) ≤ apart 8 (replicate 8 0) (all_asked s) = apart-zeros (all_asked s) (level - 1) inside in
     together (slice_index (all_asked s) (level - 1)) (slice_index (all_asked t) (level - 1)) (demand s level) (demand t level)
-    (apart 8 (all_asked s) (all_asked t)) (cond (keeps_order cmd) 0 (demand s level))
-    (cond (keeps_order cmd) 0 (2 * apart 8 (replicate 8 0) (all_asked s))) was is (apart-place (all_asked s) (all_asked t) (level - 1) inside)
+    (apart t.levels (all_asked s) (all_asked t)) (cond (keeps_order cmd) 0 (demand s level))
+    (reordered cmd (all_asked s)) was is (apart-within t.levels (all_asked s) (all_asked t) (level - 1) (omega (arith, low, high)))
     (twice-within (keeps_order cmd) (demand s level) (apart 8 (replicate 8 0) (all_asked s))
     (subst (λ n. n ≤ apart 8 (replicate 8 0) (all_asked s)) was among))
   where
@@ -118,11 +118,11 @@ drift-enough s t cmd level low few was_high high =
 
 -- a spot stays right through an entry that is about another arena
 pub spot-step : (s t : State) (seat a d : ℕ) (cmd : Cmd) (reply : Reply) (o : Spot) → step s seat cmd ≡ (reply, t)
-    → is_just a (subject cmd reply) ≡ false → Fine s → Fine t → IsSpot s a d o → IsSpot t a (drifted cmd (shared_at s d) (all_asked t)) o
+    → is_just a (subject cmd reply) ≡ false → Fine s → Fine t → IsSpot s a d o → IsSpot t a (drifted cmd (shared_at s d) t.levels (all_asked t)) o
 spot-step s t seat a d cmd reply o answered other was_fine fine spot some small x found =
-    let more : ℕ = apart 8 (all_asked s) (all_asked t) + cond (keeps_order cmd) 0 (2 * apart 8 (replicate 8 0) (all_asked s)) in
-    let free = below-most (d + more) (2 ^ 64 - 1) small in
-    let was_small : d < 2 ^ 64 - 1 = smaller d more (2 ^ 64 - 1) free.1 in
+    let more : ℕ = apart t.levels (all_asked s) (all_asked t) + reordered cmd (all_asked s) in
+    let free = below-most (d + more) (2 ^ 32 - 1) small in
+    let was_small : d < 2 ^ 32 - 1 = smaller d more (2 ^ 32 - 1) free.1 in
     let was_found : arena_at a s.arenas ≡ Some x = sym (apart-stands s t seat a cmd reply answered other).arena ∙ found in
     let was : IsPlaced s a d o x = spot some was_small x was_found in
     let within = ahead-within s t seat a cmd reply answered other was_fine.once x.level in

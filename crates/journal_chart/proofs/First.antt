@@ -20,9 +20,9 @@ use Rattle.journal_chart.specs.Shares.{shared_of}
 use Rattle.journal_chart.specs.Steps.{first_row, known_in, known_of, nothing_known, seen_row, settled_at, settled_row, share_of, shared_row, stands_after, subject, taken_row, told_row}
 use Rattle.journal_chart.proofs.Bounds.{Whole}
 use Rattle.journal_chart.proofs.Kept.{Fine, Stands, apart-stands, found-number}
-use Rattle.journal_chart.proofs.Near.{bare, bared, known-bare, known-unspotted, share-is}
+use Rattle.journal_chart.proofs.Near.{share-is}
 use Rattle.journal_chart.proofs.Spared.{spot-none}
-use Rattle.journal_chart.proofs.Spots.{IsSpot}
+use Rattle.journal_chart.proofs.Spots.{IsSpot, bare, bared, known-bare, known-unspotted}
 use Rattle.journal_chart.proofs.Thinned.{added-none}
 
 module _ (whole : Whole) (place : ℕ) (s t : State) (seat : ℕ) (cmd : Cmd) (reply : Reply) (answered : step s seat cmd ≡ (reply, t)) (fine' : Fine t) (a : ℕ)

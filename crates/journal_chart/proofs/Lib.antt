@@ -21,6 +21,7 @@ pub mod Spots
 pub mod Drifts
 pub mod Spared
 pub mod Told
+pub mod Placing
 pub mod Still
 pub mod Near
 pub mod First

@@ -23,15 +23,14 @@ use Rattle.journal_chart.specs.Covering.{covered, covers, exactly, least_covered
 use Rattle.journal_chart.specs.Lines.{added, at}
 use Rattle.journal_chart.specs.Numbers.{level_at, line_of, row_of, shown, view_at}
 use Rattle.journal_chart.specs.declared.spot.Spot.{Spot}
-use Rattle.journal_chart.specs.Spots.{no_spot, spot_by}
-use Rattle.market_core.specs.Ahead.{asked_ahead}
+use Rattle.journal_chart.specs.Spots.{no_spot}
 use Rattle.journal_chart.specs.Shares.{Shared, shared_at, shared_of}
 use Rattle.journal_chart.specs.Steps.{after_seat, has_few, is_covered, is_covered_at, is_divided, is_idle, is_joined, is_same_part, is_same_share, is_spared_at, changed, closed_row, has_share, is_kept, keeps_order, kept_levels, known_in, known_of, moves_seat, near_row, needing_row, own_row, retold, seat_row, seated, seen_row, share_of, shared_row, spot_of, spotted, stands_after, stands_kept, subject}
 use Rattle.journal_chart.proofs.Bounds.{IsShare, Whole, allotment-level, at-level, both, covered-share, exact-share, same-carried, share-of-all, share-of-nothing}
 use Rattle.journal_chart.proofs.Charts.{line-if, readied-row}
 use Rattle.journal_chart.proofs.Kept.{Fine, Stands, Steady, apart-stands, found-number, steady-step}
-use Rattle.journal_chart.proofs.Spared.{spared-covers, spot-new, spot-none}
-use Rattle.journal_chart.proofs.Spots.{IsSpot}
+use Rattle.journal_chart.proofs.Spared.{spared-covers}
+use Rattle.journal_chart.proofs.Spots.{IsSpot, bared, known-bare}
 use Rattle.journal_chart.proofs.Sharing.{divides, leveled, share, shared-asked, shared-given}
 use Rattle.journal_chart.proofs.Still.{GoesOn, added-twice}
 use Rattle.journal_chart.proofs.Told.{Retold, seated-step, told-step}
@@ -269,22 +268,6 @@ share-is whole t a y k fine found asks = go (is_divided (shared_of t) y.level) (
     go true idle some i = told some (exactly k.request given asked) refl
     go false true off i = idle-allotted t y.number i
     go false false off i = number
-
--- ---- what is known, but for the spot
-
-abbrev pub bare : Known → Known
-bare k = record k { spot = no_spot }
-
-abbrev pub bared : Row × Known → Row × Known
-bared p = (p.0, bare p.1)
-
-pub known-bare : (place : ℕ) (view : Option ArenaView) (r : Row) → bare (known_of place view r) ≡ known_of place view r
-known-bare place None r = refl
-known-bare place (Some v) r = refl
-
-pub known-unspotted : (place : ℕ) (view : Option ArenaView) (r : Row) → (known_of place view r).spot ≡ no_spot
-known-unspotted place None r = refl
-known-unspotted place (Some v) r = refl
 
 -- ---- a number at the next moment
 
@@ -808,52 +791,4 @@ module _ (most : ℕ) (before : List State) (s t : State) (some : 0 < most) (on 
               let rows = row-same a stands (even-lines a stands (λ y found. even.allotted y.number)) in
               let known = known-bare place (view_at a s) (row a) ∙ known-same a stands rows in
               rw apart (λ i. (rows i, known i))
-        ]
-
-    -- ---- the spot that is then known
-
-    asked-spot : Stands s t a → (b : Option Arena) → arena_at a s.arenas ≡ b → IsSpot t a e (spot_of t (shared_at t e) was a (option_map (λ (c : Arena). c.level) b))
-    asked-spot stands None is = spot-none t a e
-    asked-spot stands (Some x) is = go (is_divided (shared_at t e) x.level) refl
-      where
-        given : ℕ
-        given = slice_index (shared_at t e).given (x.level - 1)
-
-        asked : ℕ
-        asked = slice_index (shared_at t e).asked (x.level - 1)
-
-        go : (divided : Bool) → is_divided (shared_at t e) x.level ≡ divided
-            → IsSpot t a e (cond divided (spot_by (exactly was.request given asked) (asked_ahead a (at_level x.level t.arenas)) given asked e) no_spot)
-        go true some =
-            let d = divides t x.level some in
-            spot-new t a e given x (exactly was.request given asked) fine' (stands.arena ∙ is) d.low d.few
-        go false off = spot-none t a e
-
-    pub near-spot : (is_just a (subject cmd reply) ≡ false → IsSpot t a e o) → IsSpot t a e (near_row place t cmd reply (shared_at t e) kept (row a) was).1.spot
-    near-spot right =
-        elim (cases_Bool (is_just a (subject cmd reply))) [
-          | inl about ↦ rw about (spot-none t a e)
-          | inr apart ↦
-              rw apart
-              (elim (cases_Bool (stands_kept kept (level_at a s))) [
-                | inl held ↦ rw held (right apart)
-                | inr not ↦
-                    rw not
-                    (elim (cases_Bool (is_covered_at (shared_at t e) was (level_at a s))) [
-                      | inl cover ↦ rw cover (right apart)
-                      | inr more ↦
-                          rw more
-                          (elim (cases_Bool (is_spared_at (shared_at t e) was (level_at a s))) [
-                            | inl spared ↦ rw spared (right apart)
-                            | inr asked ↦ rw asked (asked-spot (apart-stands s t seat a cmd reply answered apart) (arena_at a s.arenas) refl)
-                          ])
-                    ])
-              ])
-        ]
-
-    pub seat-spot : IsSpot t a e o → IsSpot t a e (seat_row place t cmd reply more (shared_at t e) (row a) was).1.spot
-    seat-spot right =
-        elim (cases_Bool (is_just a (subject cmd reply))) [
-          | inl about ↦ rw about (spot-none t a e)
-          | inr apart ↦ rw apart right
         ]

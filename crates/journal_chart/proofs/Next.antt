@@ -22,9 +22,10 @@ use Rattle.journal_chart.proofs.Charts.{chart-taken, readied-row, stood-after}
 use Rattle.journal_chart.proofs.Drifts.{spot-seat, spot-step}
 use Rattle.journal_chart.proofs.First.{first-row, first-spot}
 use Rattle.journal_chart.proofs.Spared.{spot-none}
-use Rattle.journal_chart.proofs.Spots.{IsSpot}
+use Rattle.journal_chart.proofs.Spots.{IsSpot, bare, bared, known-bare, known-unspotted}
 use Rattle.journal_chart.proofs.Kept.{Fine}
-use Rattle.journal_chart.proofs.Near.{bare, bared, even-step, known-bare, known-unspotted, limited-next, near-row, near-spot, seat-row, seat-spot}
+use Rattle.journal_chart.proofs.Near.{even-step, limited-next, near-row, seat-row}
+use Rattle.journal_chart.proofs.Placing.{near-spot, seat-spot}
 use Rattle.journal_chart.proofs.Still.{GoesOn, chart-still, goes-on, row-still, stays-so}
 
 -- the column of the last of some moments more than so many
@@ -262,7 +263,7 @@ module _ (whole : Whole) (most : ℕ) (before : List State) (s t : State) (seat 
   module _ (d : ℕ) where
     -- how far the levels have then drifted
     abbrev e : ℕ
-    e = drifted cmd (shared_at s d) (all_asked t)
+    e = drifted cmd (shared_at s d) t.levels (all_asked t)
 
     abbrev kept : List Bool
     kept = kept_levels cmd (shared_of s) (shared_of t) t.levels
@@ -278,14 +279,14 @@ module _ (whole : Whole) (most : ℕ) (before : List State) (s t : State) (seat 
         let was : k ≡ record (known_of place (view_at a s) row) { spot = k.spot } = spot-back place d s row a k h.0 in
         let right : is_just a (subject cmd reply) ≡ false → IsSpot t a e k.spot = λ apart. spot-step s t seat a d cmd reply k.spot answered apart fine fine' h.0.spot in
         let first = near-row most before s t some on whole seat cmd reply answered fine fine' a k.spot e (stood-after s t seat cmd reply answered a) right in
-        let spot = near-spot most before s t some on whole seat cmd reply answered fine fine' a k.spot e (stood-after s t seat cmd reply answered a) right in
+        let spot = near-spot s t seat cmd reply answered fine' place a e k row kept right in
         let made = ap (λ (l : Known). bared (near_row place t cmd reply (shared_at t e) kept row l)) was ∙ first in
         let more = rows-near arenas ks h.1 in (
           λ i. (made i).0 ∷ more.0 i,
           (
             record {
               is = ap (λ (p : Row × Known). p.1) made;
-              spot = subst (λ (l : Known). IsSpot t a e (near_row place t cmd reply (shared_at t e) kept row l).1.spot) (sym was) spot;
+              spot = spot;
             },
             more.1,
           ),
@@ -303,14 +304,14 @@ module _ (whole : Whole) (most : ℕ) (before : List State) (s t : State) (seat 
         let was : k ≡ record (known_of place (view_at a s) row) { spot = k.spot } = spot-back place d s row a k h.0 in
         let right : IsSpot t a d k.spot = spot-seat s t seat a d cmd reply k.spot answered moves h.0.spot in
         let first = seat-row most before s t some on whole seat cmd reply answered fine fine' a k.spot d (stood-after s t seat cmd reply answered a) moves in
-        let spot = seat-spot most before s t some on whole seat cmd reply answered fine fine' a k.spot d (stood-after s t seat cmd reply answered a) right in
+        let spot = seat-spot s t seat cmd reply answered fine' place a d k row more_ right in
         let made = ap (λ (l : Known). bared (seat_row place t cmd reply more_ (shared_at t d) row l)) was ∙ first in
         let more = rows-seat moves arenas ks h.1 in (
           λ i. (made i).0 ∷ more.0 i,
           (
             record {
               is = ap (λ (p : Row × Known). p.1) made;
-              spot = subst (λ (l : Known). IsSpot t a d (seat_row place t cmd reply more_ (shared_at t d) row l).1.spot) (sym was) spot;
+              spot = spot;
             },
             more.1,
           ),

@@ -1,5 +1,5 @@
 -- The row of an arena among rows whose arenas are numbered one after another.
-use Rattle.std.proofs.Common.{◌≡◌, ℕ, ◌+◌, ◌-◌, ◌<◌, ◌≤◌, ◌⊎◌, zero, suc, Bool, false, true, true≢false, eqb, List, [], ◌∷◌, Option, None, Some, length, drop, get_or, refl, sym, ap, ◌∙◌, subst, arith, inl, inr}
+use Rattle.std.proofs.Common.{◌≡◌, ℕ, ◌+◌, ◌-◌, ◌<◌, ◌≤◌, ◌⊎◌, zero, suc, Bool, false, true, true≢false, cond, eqb, List, [], ◌∷◌, Option, None, Some, length, drop, get_or, refl, sym, ap, ◌∙◌, subst, arith, inl, inr}
 use Rattle.std.specs.Prelude.{nat_le}
 use Rattle.std.proofs.lemmas.Bool.{cases_lt, eq-eqb, eqb-true, le-leb}
 use Rattle.std.proofs.lemmas.Bool.Decides.{nat_tests}
@@ -96,18 +96,12 @@ kept-others place s cmd reply now kept first about own count rows alone numbered
     let held : stands_kept kept (get_or rows j d).stands ≡ true = stands-kept kept all (get_or rows j d).stands (levels j d inside) in
     rw (none, held) refl
 
--- a row that is neither told, nor left, nor spared
+-- a row that is neither told nor left: it is spared, or the market is asked
 pub other-row : (place : ℕ) (s : State) (cmd : Cmd) (reply : Reply) (now : Shared) (kept : List Bool) (r : Row) (k : Known) (level : ℕ)
     → is_just r.arena (subject cmd reply) ≡ false → stands_kept kept r.stands ≡ false → r.stands ≡ Some level → is_covered now k level ≡ false
-    → is_spared now k level ≡ false
-    → near_row place s cmd reply now kept r k ≡ spotted (spot_of s now k r.arena (Some level)) (closed_row place s cmd reply k r r (Some (share_of s now k r.arena level)))
-other-row place s cmd reply now kept r k level other moved at uncovered unspared = rw (other, moved, at, uncovered, unspared) refl
-
--- a row at it whose column has all that its arena may be allotted, wherever it stands
-pub spared-row : (place : ℕ) (s : State) (cmd : Cmd) (reply : Reply) (now : Shared) (kept : List Bool) (r : Row) (k : Known) (level : ℕ)
-    → is_just r.arena (subject cmd reply) ≡ false → stands_kept kept r.stands ≡ false → r.stands ≡ Some level → is_covered now k level ≡ false → is_spared now k level ≡ true
-    → near_row place s cmd reply now kept r k ≡ (r, k)
-spared-row place s cmd reply now kept r k level other moved at uncovered spared = rw (other, moved, at, uncovered, spared) refl
+    → near_row place s cmd reply now kept r k
+    ≡ cond (is_spared now k level) (r, k) (spotted (spot_of s now k r.arena (Some level)) (closed_row place s cmd reply k r r (Some (share_of s now k r.arena level))))
+other-row place s cmd reply now kept r k level other moved at uncovered = rw (other, moved, at, uncovered) refl
 
 -- a row at it whose column has all that its arena may be allotted
 pub covered-row : (place : ℕ) (s : State) (cmd : Cmd) (reply : Reply) (now : Shared) (kept : List Bool) (r : Row) (k : Known) (level : ℕ)

@@ -54,16 +54,15 @@ spot-new t a drift given y None fine found low few = λ some before x is.
 -- ---- what a place spares
 
 -- a place that is near was told, of a level that asks for somebody, and the drift has not come to its end
-near-parts : (was asked moved drift few top : ℕ) → ((nat_lt 0 was && nat_lt 0 asked) && (nat_lt moved few && nat_lt drift top)) ≡ true
+near-parts : (was asked moved drift top : ℕ) → (nat_lt moved asked && (nat_lt 0 was && nat_lt drift top)) ≡ true
     → (0 < was) × ((0 < asked) × (drift < top))
-near-parts was asked moved drift few top h =
-    let t = both (nat_lt 0 was && nat_lt 0 asked) (nat_lt moved few && nat_lt drift top) h in
-    let asks = both (nat_lt 0 was) (nat_lt 0 asked) t.0 in
-    let near = both (nat_lt moved few) (nat_lt drift top) t.1 in
-    let told : 0 < was = let e = asks.0 in grind (arith, nat_tests) in
-    let some : 0 < asked = let e = asks.1 in grind (arith, nat_tests) in
+near-parts was asked moved drift top h =
+    let t = both (nat_lt moved asked) (nat_lt 0 was && nat_lt drift top) h in
+    let near = both (nat_lt 0 was) (nat_lt drift top) t.1 in
+    let less : moved < asked = let e = t.0 in grind (arith, nat_tests) in
+    let told : 0 < was = let e = near.0 in grind (arith, nat_tests) in
     let below : drift < top = let e = near.1 in grind (arith, nat_tests) in
-    (told, (some, below))
+    (told, (omega (arith, less), below))
 
 -- no less is asked for before an arena than its place says
 least-placed : (before since was now d p : ℕ) → since ≤ now → 2 * before + d + since ≤ 2 * p + now + was
@@ -104,8 +103,8 @@ spared-at whole t a e y o c fine found d spot h =
     let p : ℕ = asked_ahead a (at_level y.level t.arenas) in
     let least : ℕ = least_before o e asked in
     let most : ℕ = most_before o e asked in
-    let s = both (is_near o e asked) (is_from c.from r given asked least most o.workers && is_below c.below r given asked least most o.workers) h in
-    let near = near-parts o.asked asked (e - o.drift) e (2 ^ 32) (2 ^ 64 - 1) s.0 in
+    let s = both (is_near o e given asked) (is_from c.from r given asked least most o.workers && is_below c.below r given asked least most o.workers) h in
+    let near = near-parts o.asked asked ((e - o.drift) * given) e (2 ^ 32 - 1) s.0 in
     let is : IsPlaced t a e o y = spot near.0 near.1.1 y found in
     placed-covers o e c r given asked p (allotment_of t a) near.1.0 (least-placed o.before o.drift o.asked e asked p is.past is.least)
     (most-placed o.before o.drift o.asked e asked p is.past is.most)

@@ -34,13 +34,13 @@ least_before o drift asked = (2 * o.before + asked - (drift - o.drift + o.asked)
 abbrev pub most_before : Spot → ℕ → ℕ → ℕ
 most_before o drift asked = (2 * o.before + (drift - o.drift) + asked - o.asked) / 2
 
--- the spot is told, and the levels have drifted little since
-abbrev pub is_near : Spot → ℕ → ℕ → Bool
-is_near o drift asked = (nat_lt 0 o.asked && nat_lt 0 asked) && (nat_lt (drift - o.drift) (2 ^ 32) && nat_lt drift (2 ^ 64 - 1))
+-- the spot is told, and the levels have drifted by less since than the place of one worker
+abbrev pub is_near : Spot → ℕ → ℕ → ℕ → Bool
+is_near o drift given asked = nat_lt ((drift - o.drift) * given) asked && (nat_lt 0 o.asked && nat_lt drift (2 ^ 32 - 1))
 
 -- all are covered that an arena may be allotted at any place at which it may stand
 abbrev pub spares : Spot → ℕ → Covered → ℕ → ℕ → ℕ → Bool
 spares o drift c request given asked =
-    is_near o drift asked
+    is_near o drift given asked
     && (is_from c.from request given asked (least_before o drift asked) (most_before o drift asked) o.workers
     && is_below c.below request given asked (least_before o drift asked) (most_before o drift asked) o.workers)

@@ -167,10 +167,14 @@ keeps_order _ = true
 abbrev pub is_divided : Shared → ℕ → Bool
 is_divided now level = nat_lt 0 now.limit && (nat_le 1 level && nat_le level 8)
 
--- how far what levels ask for has drifted, once they ask for this: what is asked for before an arena changes by no more than what its level asks for,
--- or where arenas change their order by no more than all that it asked for
-abbrev pub drifted : Cmd → Shared → List ℕ → ℕ
-drifted cmd was asked = min (was.drift + (apart 8 was.asked asked + (if keeps_order cmd then 0 else 2 * apart 8 (replicate 8 0) was.asked))) (2 ^ 64 - 1)
+-- what is asked for before an arena changes by no more than what its level asks for does, or where arenas change their order by no more than all
+-- that it asked for: for these it counts twice
+abbrev pub reordered : Cmd → List ℕ → ℕ
+reordered cmd was = if keeps_order cmd then 0 else 2 * apart 8 (replicate 8 0) was
+
+-- how far what so many levels ask for has drifted, once they ask for this
+abbrev pub drifted : Cmd → Shared → ℕ → List ℕ → ℕ
+drifted cmd was levels asked = min (was.drift + (apart levels was.asked asked + reordered cmd was.asked)) (2 ^ 32 - 1)
 
 -- a level that is given this of what it asks for shares it out as it did: it is given what it was of what it asked for, or nothing each time,
 -- or each time all
@@ -322,7 +326,7 @@ abbrev pub after_seat : State → Shared → Shared
 after_seat s was = record was { placed = placed_of s }
 
 abbrev pub shared_after : Cmd → Shared → State → Shared
-shared_after cmd was s = shared_at s (drifted cmd was (all_asked s))
+shared_after cmd was s = shared_at s (drifted cmd was s.levels (all_asked s))
 
 abbrev pub now_shared : Cmd → State → Shared → Shared
 now_shared cmd s was = if moves_seat cmd then after_seat s was else shared_after cmd was s

@@ -1,7 +1,7 @@
 //! The rows of a chart whose arenas are numbered one after another, at a moment that goes into the column of the last: the row of the arena that an
 //! entry is about is found by its number, so that no other asks whether it is that one, and none is looked at where no level's arenas are allotted
 //! anything else.
-ghost use Rattle.std.specs.Prelude.{◌≡◌, ◌-◌, ◌*◌, ◌<◌, ◌≤◌, Bool, List, Some, drop, false, length, slice_index, unwrap_or};
+ghost use Rattle.std.specs.Prelude.{◌≡◌, ◌-◌, ◌*◌, ◌<◌, ◌≤◌, Bool, List, Some, if◌then◌else◌, drop, false, length, slice_index, unwrap_or};
 ghost use Rattle.market_types.specs.Allotment.{allotment_of, assigned, at_level, demand, is_just, limit_of};
 ghost use Rattle.market_types.specs.declared.command.Cmd.{Cmd};
 ghost use Rattle.market_types.specs.declared.reply.Reply.{Reply};
@@ -11,13 +11,14 @@ ghost use Rattle.journal_chart.specs.Numbering.{AreNumbered};
 ghost use Rattle.journal_chart.specs.Resting.{AreLeft};
 ghost use Rattle.journal_chart.specs.Shares.{shared_at};
 ghost use Rattle.journal_chart.specs.Covering.{exactly};
-ghost use Rattle.journal_chart.specs.Spots.{no_spot, spot_by};
+ghost use Rattle.journal_chart.specs.Spots.{no_spot, spares, spot_by};
 ghost use Rattle.market_core.specs.Ahead.{asked_ahead};
 ghost use Rattle.journal_chart.specs.Steps.{closed_row, near_row, own_row, pairwise, retold, seat_row, spotted, subject};
 
 use crate::covered::exactly;
-use crate::nearby::{has_share, own_row, retold, seat_row};
+use crate::nearby::{own_row, retold, seat_row};
 use crate::numbering::place_of;
+use crate::passing::has_share;
 use crate::row::{Known, Row};
 use crate::shares::Shares;
 use crate::spot::Spot;
@@ -25,7 +26,7 @@ use market_core::Market;
 use market_types::{ArenaId, Cmd, Level, Reply};
 
 /// Takes the moment after an entry, which is about another arena, into the column of the last moment, of an arena of a level that is given this of
-/// what it asks for. A row whose column has what the arena is allotted is left as it is.
+/// what it asks for. A row whose column has what the arena is allotted, or all that it may be wherever it stands, is left as it is.
 // By what the level is given, so that the market need not reckon that anew for each arena that it is asked about.
 #[inline(never)]
 fn settle_given(
@@ -36,7 +37,7 @@ fn settle_given(
     level: Level,
     given: u64,
     asked: u64,
-    drift: u64,
+    drift: u32,
 )
     requires some { 0 < limit_of market.now }
     requires any { 0 < asked }
@@ -44,8 +45,15 @@ fn settle_given(
     requires small { asked ≤ 1024 * 65535 }
     requires given { level ≤ market.now.levels → given ≡ assigned market.now level }
     requires asked { level ≤ market.now.levels → asked ≡ demand market.now level }
-    ensures { (cmd : Cmd) (reply : Reply) → (row.new, known.new) ≡ spotted (spot_by (exactly known.old.request given asked) (asked_ahead row.old.arena (at_level level market.now.arenas)) given asked drift) (closed_row place market.now cmd reply known.old row.old row.old (Some (unwrap_or (exactly known.old.request given asked) (allotment_of market.now row.old.arena)))) }
+    ensures { (cmd : Cmd) (reply : Reply) → (row.new, known.new) ≡ (if spares known.old.spot drift known.old.covered known.old.request given asked then (row.old, known.old) else spotted (spot_by (exactly known.old.request given asked) (asked_ahead row.old.arena (at_level level market.now.arenas)) given asked drift) (closed_row place market.now cmd reply known.old row.old row.old (Some (unwrap_or (exactly known.old.request given asked) (allotment_of market.now row.old.arena))))) }
 {
+    // Here, and not in the walk over the rows, whose few words it would drive out of the registers.
+    if known
+        .spot
+        .spares(drift, known.covered, known.request, given, asked)
+    {
+        return;
+    }
     let (share, spot) = match exactly(known.request, given, asked) {
         Some(share) => (share, Spot::none()),
         None => {
@@ -73,7 +81,7 @@ fn level_row(
     level: Level,
     given: u64,
     asked: u64,
-    drift: u64,
+    drift: u32,
 )
     requires found { 0 < now.now.limit }
     requires shares { now.now ≡ shared_at market.now now.now.drift }
@@ -88,14 +96,9 @@ fn level_row(
     if !row.is_at(level) {
         return;
     }
-    if known.covered.covers_some(known.request, given, asked) {
-        return;
+    if !known.covered.covers_some(known.request, given, asked) {
+        settle_given(row, known, place, market, level, given, asked, drift);
     }
-    let spot = known.spot;
-    if spot.spares(drift, known.covered, known.request, given, asked) {
-        return;
-    }
-    settle_given(row, known, place, market, level, given, asked, drift);
 }
 
 /// Takes the moment after an entry that is about this arena into the column of its row, and what is then known of it, where some worker may be

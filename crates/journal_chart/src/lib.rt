@@ -21,6 +21,7 @@ mod nearby;
 mod notes;
 mod numbering;
 mod page;
+mod passing;
 mod picture;
 mod resting;
 mod row;

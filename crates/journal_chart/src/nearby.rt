@@ -1,5 +1,5 @@
 //! The rows of a chart at a moment that goes into the column of the last, and at one that begins a column after another.
-ghost use Rattle.std.specs.Prelude.{◌≡◌, ℕ, ◌<◌, ◌≤◌, false, true, IfSome, Some, drop, length, map, option_map, unwrap_or};
+ghost use Rattle.std.specs.Prelude.{◌≡◌, ℕ, ◌<◌, ◌≤◌, false, true, IfSome, Some, drop, if◌then◌else◌, length, map, option_map, unwrap_or};
 ghost use Rattle.market_types.specs.Allotment.{allotment_of, is_just};
 ghost use Rattle.market_types.specs.State.{State};
 ghost use Rattle.market_types.specs.declared.command.Cmd.{Cmd};
@@ -10,10 +10,13 @@ ghost use Rattle.journal_chart.specs.Unkept.{AreUnkept};
 ghost use Rattle.journal_chart.specs.Numbering.{AreNumbered};
 ghost use Rattle.journal_chart.specs.Resting.{AreLeft};
 ghost use Rattle.journal_chart.specs.Shares.{shared_at, shared_of};
-ghost use Rattle.journal_chart.specs.Steps.{after_seat, closed_row, each_row, first_row, first_rows, has_few, has_share, is_covered, is_covered_at, is_divided, is_idle, is_spared, kept_levels, known_rows, near_row, needing_row, own_row, pairwise, requested, retold, seat_row, seat_rows, seated, settled_row, share_of, shared_after, spot_of, spotted, stands_kept, subject, taken_row};
+ghost use Rattle.journal_chart.specs.Steps.{after_seat, closed_row, each_row, first_row, first_rows, is_spared, kept_levels, known_rows, near_row, needing_row, own_row, pairwise, requested, retold, seat_row, seat_rows, seated, settled_row, share_of, shared_after, spot_of, spotted, subject, taken_row};
 
 use crate::by_number::{own_row_numbered, rows_numbered, seat_row_numbered};
-use crate::covered::{Covered, exactly};
+use crate::covered::exactly;
+use crate::passing::{
+    has_share, is_covered, is_covered_at, is_divided, is_idle, is_spared, stands_kept,
+};
 use crate::row::{Known, Row};
 use crate::shares::Shares;
 use crate::spot::Spot;
@@ -28,94 +31,6 @@ fn is_just(arena: ArenaId, option: &Option<ArenaId>) -> bool
     match option {
         Some(other) => *other == arena,
         None => false,
-    }
-}
-
-/// What levels are given tells what the arenas of this one are allotted: some worker may be active, as whoever calls may know (`DIVIDED`).
-#[inline]
-fn is_divided<const DIVIDED: bool>(now: &Shares, level: Level) -> bool
-    requires { DIVIDED ≡ true → 0 < now.now.limit }
-    ensures { result ≡ is_divided now.now level }
-{
-    // That there are 8 levels at most is what this call promises.
-    let _ = level.index();
-    DIVIDED || now.limit() > 0
-}
-
-/// Nothing is added to the column of an arena of which this is known, if it is allotted so many workers.
-#[inline]
-pub(crate) fn has_share(known: &Known, share: u32) -> bool
-    ensures { result ≡ has_share known.now share }
-{
-    known.covered.from <= share && share < known.covered.below
-}
-
-/// No worker may be active, not even one for enqueued work.
-#[inline]
-fn is_idle(now: &Shares) -> bool
-    ensures { result ≡ is_idle now.now }
-{
-    now.effective() == 0
-}
-
-/// A column has all that an arena may be allotted of which this is covered, where the limit is 0.
-#[inline]
-fn has_few(now: &Shares, covered: Covered) -> bool
-    ensures { result ≡ has_few now.now covered }
-{
-    now.limit() == 0 && covered.from == 0 && now.effective() < covered.below
-}
-
-/// A column has all that an arena of a level may be allotted, of which this is known.
-#[inline(always)]
-fn is_covered<const DIVIDED: bool>(now: &Shares, known: &Known, level: Level) -> bool
-    requires { DIVIDED ≡ true → 0 < now.now.limit }
-    ensures { result ≡ is_covered now.now known.now level }
-{
-    if !is_divided::<DIVIDED>(now, level) {
-        return has_few(now, known.covered);
-    }
-    known
-        .covered
-        .covers(known.request, now.given(level), now.asked(level))
-}
-
-/// The same of the level at which the arena stands, if it lives.
-#[inline(always)]
-fn is_covered_at<const DIVIDED: bool>(now: &Shares, known: &Known, stands: Option<Level>) -> bool
-    requires { DIVIDED ≡ true → 0 < now.now.limit }
-    ensures { result ≡ is_covered_at now.now known.now stands }
-{
-    match stands {
-        Some(level) => is_covered::<DIVIDED>(now, known, level),
-        None => false,
-    }
-}
-
-/// A column has all that an arena of a level may be allotted, of which this is known, wherever in the level it may stand.
-#[inline(always)]
-fn is_spared<const DIVIDED: bool>(now: &Shares, known: &Known, level: Level) -> bool
-    requires { DIVIDED ≡ true → 0 < now.now.limit }
-    ensures { result ≡ is_spared now.now known.now level }
-{
-    is_divided::<DIVIDED>(now, level)
-        && known.spot.spares(
-            now.drift(),
-            known.covered,
-            known.request,
-            now.given(level),
-            now.asked(level),
-        )
-}
-
-/// An arena that stands at such a level, or at none, is allotted what it was.
-#[inline]
-fn stands_kept(kept: &[bool; 8], stands: Option<Level>) -> bool
-    ensures { result ≡ stands_kept kept.now stands }
-{
-    match stands {
-        Some(level) => kept[level.index()],
-        None => true,
     }
 }
 
@@ -259,7 +174,7 @@ fn portion_of<const DIVIDED: bool>(
 }
 
 /// Takes the moment after an entry into the column of the last moment, of an arena of a level that it is not about, and what is then known of it. A row
-/// whose column has what the arena is allotted is left as it is.
+/// whose column has what the arena is allotted, or all that it may be wherever it stands, is left as it is.
 #[inline(never)]
 fn settle_other<const DIVIDED: bool>(
     row: &mut Row,
@@ -273,9 +188,12 @@ fn settle_other<const DIVIDED: bool>(
     requires found { DIVIDED ≡ true → 0 < now.now.limit }
     requires shares { now.now ≡ shared_at market.now now.now.drift }
     requires divided { IfSome division.old (IsDivisionOf market.now) }
-    ensures exact { (cmd : Cmd) (reply : Reply) → (row.new, known.new) ≡ spotted (spot_of market.now now.now known.old row.old.arena (Some level)) (closed_row place market.now cmd reply known.old row.old row.old (Some (share_of market.now now.now known.old row.old.arena level))) }
+    ensures exact { (cmd : Cmd) (reply : Reply) → (row.new, known.new) ≡ (if is_spared now.now known.old level then (row.old, known.old) else spotted (spot_of market.now now.now known.old row.old.arena (Some level)) (closed_row place market.now cmd reply known.old row.old row.old (Some (share_of market.now now.now known.old row.old.arena level)))) }
     ensures divided { IfSome division.new (IsDivisionOf market.now) }
 {
+    if is_spared::<DIVIDED>(now, known, level) {
+        return;
+    }
     let (share, spot) = portion_of::<DIVIDED>(market, division, now, known, row.arena(), level);
     if !has_share(known, share) {
         *known = row.tell(place, known, share);
@@ -420,13 +338,9 @@ fn other_row<const DIVIDED: bool>(
     let Some(level) = row.stands() else {
         return;
     };
-    if is_covered::<DIVIDED>(now, known, level) {
-        return;
+    if !is_covered::<DIVIDED>(now, known, level) {
+        settle_other::<DIVIDED>(row, known, place, market, division, now, level);
     }
-    if is_spared::<DIVIDED>(now, known, level) {
-        return;
-    }
-    settle_other::<DIVIDED>(row, known, place, market, division, now, level);
 }
 
 /// Takes the moment after a command and its reply, which are about one arena, into the column of a row at a place, which has the moment

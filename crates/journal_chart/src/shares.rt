@@ -1,9 +1,9 @@
 //! What the levels of a market are given of what they ask for.
-ghost use Rattle.std.specs.Prelude.{◌≡◌, ℕ, ◌-◌, ◌*◌, ◌≤◌, ◌==◌, ◌&&◌, ◌||◌, nat_lt, slice_index};
+ghost use Rattle.std.specs.Prelude.{◌≡◌, ℕ, ◌+◌, ◌-◌, ◌*◌, ◌^◌, ◌≤◌, min, replicate, ◌==◌, ◌&&◌, ◌||◌, nat_lt, slice_index};
 ghost use Rattle.market_types.specs.Step.{limits_of};
 ghost use Rattle.journal_chart.specs.Unkept.{AreUnkept};
-ghost use Rattle.journal_chart.specs.Shares.{Shared, apart, no_shares, shared_of};
-ghost use Rattle.journal_chart.specs.Steps.{after_seat, drifted, is_joined, is_same_part, keeps_order, kept_levels, shared_after};
+ghost use Rattle.journal_chart.specs.Shares.{apart, no_shares, shared_of};
+ghost use Rattle.journal_chart.specs.Steps.{after_seat, is_joined, is_same_part, keeps_order, kept_levels, reordered, shared_after};
 
 use crate::entry::keeps_order;
 use crate::unkept::Unkept;
@@ -22,8 +22,8 @@ pub(crate) struct Shares {
     levels: usize,
     given: [u64; 8],
     asked: [u64; 8],
-    /// How far what they ask for has drifted since the column began, 2^64 - 1 where that is more than can be counted.
-    drift: u64,
+    /// How far what they ask for has drifted since the column began, 2^32 - 1 where that is more than can be counted.
+    drift: u32,
 }
 
 impl Model for Shares {
@@ -89,19 +89,39 @@ fn apart(asked: &[u64; 8], other: &[u64; 8]) -> u64
     apart
 }
 
-/// How far what the levels ask for has drifted after a command, which made of what they asked for what they ask for.
-#[inline(always)]
-fn drifted(drift: u64, cmd: &Cmd, was: &[u64; 8], asked: &[u64; 8]) -> u64
-    requires was { (place : ℕ) → slice_index was.now place ≤ 1024 * 65535 }
+/// How much all levels ask for together.
+// Apart, since few commands change the order of arenas.
+#[cold]
+#[inline(never)]
+fn all_of(asked: &[u64; 8]) -> u64
     requires asked { (place : ℕ) → slice_index asked.now place ≤ 1024 * 65535 }
-    ensures { (s : Shared) → s.drift ≡ drift → s.asked ≡ was.now → result ≡ drifted cmd.now s asked.now }
+    ensures exact { result ≡ apart 8 (replicate 8 0) asked.now }
+    ensures few { result ≤ 8 * (1024 * 65535) }
 {
-    let moved = if keeps_order(cmd) {
-        0
-    } else {
-        2 * apart(&[0; 8], was)
-    };
-    drift.saturating_add(apart(was, asked) + moved)
+    apart(&[0; 8], asked)
+}
+
+/// What a command adds to the drift that changes the order of arenas, where their levels asked for this.
+#[inline(always)]
+fn reordered(cmd: &Cmd, was: &[u64; 8]) -> u64
+    requires was { (place : ℕ) → slice_index was.now place ≤ 1024 * 65535 }
+    ensures exact { result ≡ reordered cmd.now was.now }
+    ensures few { result ≤ 16 * (1024 * 65535) }
+{
+    if keeps_order(cmd) {
+        return 0;
+    }
+    2 * all_of(was)
+}
+
+/// How far the levels have drifted, once what they ask for has moved by so much, and the order of arenas by this.
+#[inline(always)]
+fn drifted(drift: u32, moved: u64, reordered: u64) -> u32
+    requires moved { moved ≤ 8 * (1024 * 65535) }
+    requires reordered { reordered ≤ 16 * (1024 * 65535) }
+    ensures { result ≡ min (drift + (moved + reordered)) (2 ^ 32 - 1) }
+{
+    (u64::from(drift) + (moved + reordered)).min(u64::from(u32::MAX)) as u32
 }
 
 impl Shares {
@@ -142,13 +162,16 @@ impl Shares {
         let mut kept = [true; 8];
         let (mut count, mut last) = (0, 0);
         let mut left = u64::from(limits.effective);
-        let (was, drift) = (self.asked, self.drift);
+        let reordered = reordered(cmd, &self.asked);
+        let drift = self.drift;
+        let mut moved = 0;
         // No level above those of the market, whose number most often is small, takes any time.
         for place in 0..levels {
             let demand = market.demand(Level::from_index(place));
             let share = demand.min(left);
             left -= share;
             let same = is_same(self.given[place], share, self.asked[place], demand);
+            moved += self.asked[place].abs_diff(demand);
             self.given[place] = share;
             self.asked[place] = demand;
             if is_kept(idle, divided, same) {
@@ -162,7 +185,7 @@ impl Shares {
             self.given[place] = 0;
             self.asked[place] = 0;
         }
-        self.drift = drifted(drift, cmd, &was, &self.asked);
+        self.drift = drifted(drift, moved, reordered);
         self.limit = limits.limit;
         self.effective = limits.effective;
         self.placed = market.placed();
@@ -180,7 +203,7 @@ impl Shares {
 
     /// How far what the levels ask for has drifted.
     #[inline]
-    pub(crate) fn drift(&self) -> u64
+    pub(crate) fn drift(&self) -> u32
         ensures { result ≡ self.now.drift }
     {
         self.drift

@@ -28,7 +28,7 @@ pub(crate) struct Spot {
     /// How many workers those before it were given, which is a guess of how many they are given now.
     pub(crate) workers: u32,
     /// How far the levels had drifted.
-    pub(crate) drift: u64,
+    pub(crate) drift: u32,
 }
 
 impl Spot {
@@ -47,7 +47,7 @@ impl Spot {
     /// The place of an arena before which so much is asked for, where its level is given so many of what it asks for, and the levels have drifted so
     /// far.
     #[inline(always)]
-    pub(crate) fn of(before: u32, given: u64, asked: u64, drift: u64) -> Spot
+    pub(crate) fn of(before: u32, given: u64, asked: u64, drift: u32) -> Spot
         requires any { 0 < asked }
         requires small { asked ≤ 1024 * 65535 }
         requires within { given ≤ asked }
@@ -61,36 +61,35 @@ impl Spot {
         }
     }
 
-    /// The place is told, and the levels have drifted little since.
+    /// The place is told, and the levels have drifted by less since than the place of one worker: else nothing can be told by it.
     #[inline(always)]
-    fn is_near(self, drift: u64, asked: u64) -> bool
-        ensures { result ≡ is_near self drift asked }
+    fn is_near(self, drift: u32, given: u64, asked: u64) -> bool
+        requires some { given ≤ 1024 * 65535 }
+        ensures { result ≡ is_near self drift given asked }
     {
-        (self.asked > 0 && asked > 0)
-            && (drift.saturating_sub(self.drift) < 1 << 32 && drift < u64::MAX)
+        let moved = u64::from(drift.saturating_sub(self.drift));
+        moved * given < asked && (self.asked > 0 && drift < u32::MAX)
     }
 
     /// What is asked for before the arena at least, once the levels have drifted so far, and its own asks for so many.
     #[inline(always)]
-    fn least_before(self, drift: u64, asked: u64) -> u64
-        requires near { is_near self drift asked ≡ true }
+    fn least_before(self, drift: u32, asked: u64) -> u64
         requires small { asked ≤ 1024 * 65535 }
         ensures exact { result ≡ least_before self drift asked }
         ensures few { result < 2 ^ 33 }
     {
-        let moved = drift.saturating_sub(self.drift);
+        let moved = u64::from(drift.saturating_sub(self.drift));
         (2 * u64::from(self.before) + asked).saturating_sub(moved + u64::from(self.asked)) / 2
     }
 
     /// The same at most.
     #[inline(always)]
-    fn most_before(self, drift: u64, asked: u64) -> u64
-        requires near { is_near self drift asked ≡ true }
+    fn most_before(self, drift: u32, asked: u64) -> u64
         requires small { asked ≤ 1024 * 65535 }
         ensures exact { result ≡ most_before self drift asked }
         ensures few { result < 2 ^ 33 }
     {
-        let moved = drift.saturating_sub(self.drift);
+        let moved = u64::from(drift.saturating_sub(self.drift));
         (2 * u64::from(self.before) + moved + asked).saturating_sub(u64::from(self.asked)) / 2
     }
 
@@ -99,7 +98,7 @@ impl Spot {
     #[inline(always)]
     pub(crate) fn spares(
         self,
-        drift: u64,
+        drift: u32,
         covered: Covered,
         request: u32,
         given: u64,
@@ -109,7 +108,7 @@ impl Spot {
         requires small { asked ≤ 1024 * 65535 }
         ensures { result ≡ spares self drift covered request given asked }
     {
-        if !self.is_near(drift, asked) {
+        if !self.is_near(drift, given, asked) {
             return false;
         }
         let least = self.least_before(drift, asked);

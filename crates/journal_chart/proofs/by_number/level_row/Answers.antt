@@ -1,5 +1,5 @@
 use Rattle.std.specs.Prelude.{nat_le, nat_lt, slice_index, unwrap_or}
-use Rattle.std.proofs.Common.{◌≡◌, ℕ, ◌-◌, ◌<◌, Bool, List, Option, Some, true, false, refl, sym, ap, ◌∙◌, arith, subst}
+use Rattle.std.proofs.Common.{◌≡◌, ℕ, ◌-◌, ◌<◌, Bool, List, Option, Some, true, false, cond, refl, sym, ap, ◌∙◌, arith, subst}
 use Rattle.std.proofs.lemmas.Bool.{le-leb}
 use Rattle.std.proofs.lemmas.Bool.Decides.{nat_tests}
 use Rattle.market_core.specs.Ahead.{asked_ahead}
@@ -12,7 +12,7 @@ use Rattle.journal_chart.specs.Shares.{Shared}
 use Rattle.journal_chart.specs.Spots.{spares, spot_by}
 use Rattle.journal_chart.specs.Unkept.{IsAlone, IsAtLevel}
 use Rattle.journal_chart.specs.Steps.{closed_row, is_covered, is_spared, share_of, spot_of, spotted, stands_kept}
-use Rattle.journal_chart.proofs.Numbered.{covered-row, just-is, other-level, other-row, spared-row}
+use Rattle.journal_chart.proofs.Numbered.{covered-row, just-is, other-level, other-row}
 use Rattle.journal_chart.proofs.Sharing.{shared-asked, shared-given}
 use Rattle.journal_chart.proofs.by_number.level_row.Goals as goal
 
@@ -36,8 +36,8 @@ module _ (now : Shared) (known : Known) (level given asked drift : ℕ) (found :
   is-covered : (told : Bool) → covers known.covered known.request given asked ≡ told → is_covered now known level ≡ told
   is-covered told h = rw (any, low, high) ((λ i. covers known.covered known.request (sym given_is i) (sym asked_is i)) ∙ h)
 
-  is-spared : (told : Bool) → spares known.spot drift known.covered known.request given asked ≡ told → is_spared now known level ≡ told
-  is-spared told h = rw (any, low, high) ((λ i. spares known.spot (sym drift_is i) known.covered known.request (sym given_is i) (sym asked_is i)) ∙ h)
+  is-spared : is_spared now known level ≡ spares known.spot drift known.covered known.request given asked
+  is-spared = rw (any, low, high) (λ i. spares known.spot (sym drift_is i) known.covered known.request (sym given_is i) (sym asked_is i))
 
   -- so is what it is allotted, and where it stands
   share-is : (s : State) (arena : ℕ) → unwrap_or (exactly known.request given asked) (allotment_of s arena) ≡ share_of s now known arena level
@@ -54,37 +54,8 @@ returns-then-not-is_at c cmd reply kept alone other =
     sym (other-level c.args.place c.args.market.now cmd reply c.args.now.now kept c.args.row.now c.args.known.now c.args.level alone other c.is_at.ensures.somewhere
     (sym c.is_at.ensures.exact ∙ c.if-not-is_at.true))
 
-pub returns-then-covers_some : goal.returns-then-covers_some
-returns-then-covers_some c cmd reply kept alone other =
-    let now = c.args.now.now in
-    let known = c.args.known.now in
-    let level = c.args.level in
-    let given = c.args.given in
-    let asked = c.args.asked in
-    let drift = c.args.drift in
-    let at = just-is c.args.row.now.stands level (sym c.is_at.ensures.exact ∙ c.if-not-is_at.false) in
-    let fits : IsAtLevel (Some level) = subst IsAtLevel at c.is_at.ensures.somewhere in
-    let held = moved now known level given asked drift c.requires.found fits c.requires.given c.requires.asked c.requires.drift kept alone c.args.row.now.stands at in
-    let covered = is-covered now known level given asked drift c.requires.found fits c.requires.given c.requires.asked c.requires.drift true (sym c.covers_some.ensures ∙ c.if-covers_some.true) in
-    sym (covered-row c.args.place c.args.market.now cmd reply now kept c.args.row.now known level other held at covered)
-
-pub returns-then-spares : goal.returns-then-spares
-returns-then-spares c cmd reply kept alone other =
-    let now = c.args.now.now in
-    let known = c.args.known.now in
-    let level = c.args.level in
-    let given = c.args.given in
-    let asked = c.args.asked in
-    let drift = c.args.drift in
-    let at = just-is c.args.row.now.stands level (sym c.is_at.ensures.exact ∙ c.if-not-is_at.false) in
-    let fits : IsAtLevel (Some level) = subst IsAtLevel at c.is_at.ensures.somewhere in
-    let held = moved now known level given asked drift c.requires.found fits c.requires.given c.requires.asked c.requires.drift kept alone c.args.row.now.stands at in
-    let uncovered = is-covered now known level given asked drift c.requires.found fits c.requires.given c.requires.asked c.requires.drift false (sym c.covers_some.ensures ∙ c.if-covers_some.false) in
-    let spared = is-spared now known level given asked drift c.requires.found fits c.requires.given c.requires.asked c.requires.drift true (sym c.spares.ensures ∙ c.if-spares.true) in
-    sym (spared-row c.args.place c.args.market.now cmd reply now kept c.args.row.now known level other held at uncovered spared)
-
-pub returns : goal.returns
-returns c cmd reply kept alone other =
+pub returns-then-not-covers_some : goal.returns-then-not-covers_some
+returns-then-not-covers_some c cmd reply kept alone other =
     let s = c.args.market.now in
     let now = c.args.now.now in
     let row = c.args.row.now in
@@ -96,13 +67,27 @@ returns c cmd reply kept alone other =
     let at = just-is row.stands level (sym c.is_at.ensures.exact ∙ c.if-not-is_at.false) in
     let fits : IsAtLevel (Some level) = subst IsAtLevel at c.is_at.ensures.somewhere in
     let held = moved now known level given asked drift c.requires.found fits c.requires.given c.requires.asked c.requires.drift kept alone row.stands at in
-    let uncovered = is-covered now known level given asked drift c.requires.found fits c.requires.given c.requires.asked c.requires.drift false (sym c.covers_some.ensures ∙ c.if-covers_some.false) in
-    let unspared = is-spared now known level given asked drift c.requires.found fits c.requires.given c.requires.asked c.requires.drift false (sym c.spares.ensures ∙ c.if-spares.false) in
+    let uncovered = is-covered now known level given asked drift c.requires.found fits c.requires.given c.requires.asked c.requires.drift false (sym c.covers_some.ensures ∙ c.if-not-covers_some.true) in
+    let spared = is-spared now known level given asked drift c.requires.found fits c.requires.given c.requires.asked c.requires.drift in
     let share = share-is now known level given asked drift c.requires.found fits c.requires.given c.requires.asked c.requires.drift s row.arena in
     let spot = spot-is now known level given asked drift c.requires.found fits c.requires.given c.requires.asked c.requires.drift s row.arena in
     c.settle_given.ensures cmd reply
-    ∙ (λ i. spotted (spot i) (closed_row c.args.place s cmd reply known row row (Some (share i))))
-    ∙ sym (other-row c.args.place s cmd reply now kept row known level other held at uncovered unspared)
+    ∙ (λ i. cond (sym spared i) (row, known) (spotted (spot i) (closed_row c.args.place s cmd reply known row row (Some (share i)))))
+    ∙ sym (other-row c.args.place s cmd reply now kept row known level other held at uncovered)
+
+pub returns-else-not-covers_some : goal.returns-else-not-covers_some
+returns-else-not-covers_some c cmd reply kept alone other =
+    let now = c.args.now.now in
+    let known = c.args.known.now in
+    let level = c.args.level in
+    let given = c.args.given in
+    let asked = c.args.asked in
+    let drift = c.args.drift in
+    let at = just-is c.args.row.now.stands level (sym c.is_at.ensures.exact ∙ c.if-not-is_at.false) in
+    let fits : IsAtLevel (Some level) = subst IsAtLevel at c.is_at.ensures.somewhere in
+    let held = moved now known level given asked drift c.requires.found fits c.requires.given c.requires.asked c.requires.drift kept alone c.args.row.now.stands at in
+    let covered = is-covered now known level given asked drift c.requires.found fits c.requires.given c.requires.asked c.requires.drift true (sym c.covers_some.ensures ∙ c.if-not-covers_some.false) in
+    sym (covered-row c.args.place c.args.market.now cmd reply now kept c.args.row.now known level other held at covered)
 
 -- what the level is given is what the market gives it
 pub settle_given-requires-clause-some : goal.settle_given-requires-clause-some

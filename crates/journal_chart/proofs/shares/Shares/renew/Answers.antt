@@ -1,5 +1,5 @@
 use Rattle.std.specs.Prelude.{◌==◌, ◌&&◌, ◌||◌, nat_lt, nat_le, slice_index}
-use Rattle.std.proofs.Common.{◌≡◌, ℕ, suc, ◌+◌, ◌-◌, ◌<◌, Bool, true, false, List, get_or, length, set, refl, sym, ap, subst, ◌∙◌, arith, inl, inr}
+use Rattle.std.proofs.Common.{◌≡◌, ℕ, suc, ◌+◌, ◌-◌, ◌*◌, ◌^◌, ◌<◌, ◌≤◌, min, Bool, true, false, List, get_or, length, set, refl, sym, ap, subst, ◌∙◌, arith, inl, inr}
 use Rattle.std.proofs.lemmas.Bool.{cases_eq, cases_lt, le-leb}
 use Rattle.std.proofs.lemmas.Bool.Decides.{nat_tests}
 use Rattle.std.proofs.lemmas.List.{ext_get_or, get_or-set_same, get_or-set_other}
@@ -9,10 +9,11 @@ use Rattle.market_types.specs.Allotment.{demand, effective_limit_of}
 use Rattle.market_types.specs.declared.command.Cmd.{Cmd}
 use Rattle.market_types.specs.declared.reply.LimitView.{LimitView}
 use Rattle.journal_chart.specs.Unkept.{AreUnkept, unkept_of}
-use Rattle.journal_chart.specs.Shares.{Shared, all_asked, shared_of}
-use Rattle.journal_chart.specs.Steps.{drifted, is_kept, is_same_part, keeps_order, kept_levels}
+use Rattle.journal_chart.specs.Shares.{Shared, all_asked, apart, shared_of}
+use Rattle.journal_chart.specs.Steps.{drifted, is_kept, is_same_part, keeps_order, kept_levels, reordered}
 use Rattle.journal_chart.proofs.Levels.{AreSoFar, kept-above, kept-at, so-far-all, so-far-kept, so-far-more}
-use Rattle.journal_chart.proofs.Assigning.{Assigning, Cleared, Renewing, asked-all, assigning-all, cleared-none, given-all, renewing-more}
+use Rattle.journal_chart.proofs.Sharing.{all-asked}
+use Rattle.journal_chart.proofs.Assigning.{Assigning, Cleared, Renewing, apart-more, apart-same, asked-all, assigning-all, cleared-none, given-all, renewing-more}
 use Rattle.journal_chart.proofs.shares.Shares.renew.Goals as goal
 use Rattle.journal_chart.proofs.shares.Shares.renew.Goals.{After-is_kept, After-loop-place-2}
 
@@ -69,6 +70,19 @@ module _ (c : After-is_kept) where
       c.loop-place.invariant.renewing few (omega (arith, c.loop-place-test.true, c.levels-levels.ensures.exact))
       (c.demand-demand.ensures.exact ∙ ap (demand s) (c.from_index.ensures ∙ next)) c.demand-demand.ensures.small c.min-share.ensures
 
+  -- how much what the levels so far ask for differs
+  moved : c.loop-place.moved + c.abs_diff-moved.result ≡ apart (place + 1) c.self.inside.asked new_asked
+  moved =
+      apart-more place wanted c.loop-place.moved c.abs_diff-moved.result c.self.inside.asked c.loop-place.self-inside.asked
+      (omega (arith, few, c.loop-place.invariant.renewing.size_asked)) (c.loop-place.invariant.renewing.rest_asked place (omega arith)) c.loop-place.invariant.moved differs
+    where
+      differs : c.abs_diff-moved.result ≡ slice_index c.loop-place.self-inside.asked place - wanted + (wanted - slice_index c.loop-place.self-inside.asked place)
+      differs = c.abs_diff-moved.ensures
+
+  small : c.loop-place.moved + c.abs_diff-moved.result ≤ (place + 1) * (1024 * 65535)
+  small =
+      omega (arith, c.loop-place.invariant.small, c.abs_diff-moved.ensures, c.demand-demand.ensures.small, c.loop-place.invariant.renewing.small place)
+
   held : c.is_kept.result ≡ test place new_given new_asked
   held =
       let h = c.loop-place.invariant in
@@ -106,6 +120,8 @@ loop-place-preserved-then-is_kept c =
       told = told_so_far here c.loop-place.kept (stands ∙ sym c.if-is_kept.true) (λ j less. refl);
       rest = λ j past low. h.rest j (omega (arith, past)) low;
       few = omega (arith, h.few);
+      moved = moved here;
+      small = small here;
       last = h.last;
       open_ = so-far-kept c.loop-place.kept c.loop-place.place (unkept_of c.loop-place.count c.loop-place.last) stands h.open_;
     }
@@ -125,6 +141,8 @@ loop-place-preserved c =
       told = told_so_far here new_kept (now ∙ sym c.if-is_kept.false) (λ j less. get_or-set_other c.loop-place.kept place j false false (λ e. omega (arith, e, less)));
       rest = λ j past low. get_or-set_other c.loop-place.kept place j false false (λ e. omega (arith, e, past)) ∙ h.rest j (omega (arith, past)) low;
       few = omega (arith, h.few);
+      moved = moved here;
+      small = small here;
       last = few here;
       open_ =
           subst (λ n. AreSoFar new_kept (place + 1) (unkept_of n place)) more
@@ -162,6 +180,15 @@ module _ (c : After-loop-place-2) where
       assigning-all s (effective_limit_of s) c.self.inside.levels c.self.inside.given c.self.inside.asked c.loop-place.self-inside.given c.loop-place.self-inside.asked
       c.loop-place-2.self-inside.given c.loop-place-2.self-inside.asked c.loop-place.left c.loop-place-2.place renewed c.self.invariant.1 given asked
       (omega (arith, c.loop-place-2-test.false, c.loop-place.invariant.old))
+
+  -- the first loop renewed all levels
+  all_levels : c.loop-place.place ≡ s.levels
+  all_levels = omega (arith, c.loop-place-test.false, c.loop-place.auto.place-end, levels)
+
+  asked_now : (j : ℕ) → j < s.levels → slice_index c.loop-place.self-inside.asked j ≡ slice_index (all_asked s) j
+  asked_now j inside =
+      let few : j < 8 = omega (arith, inside, levels, c.levels-levels.ensures.high) in
+      c.loop-place.invariant.renewing.done j (omega (arith, inside, all_levels)) ∙ sym (all-asked s j few)
 
   given_all : c.loop-place-2.self-inside.given ≡ (shared_of s).given
   given_all = given-all s (effective_limit_of s) c.loop-place-2.self-inside.given c.loop-place-2.self-inside.asked c.loop-place.left whole
@@ -209,24 +236,29 @@ pub returns-clause-shares : goal.returns-clause-shares
 returns-clause-shares c =
     let here = (goal.at.returns-clause-shares c).After-loop-place-2 in
     let was : Shared = c.args.self.now in
-    let before : was.drift ≡ c.self.inside.drift = ap (λ (v : Shared). v.drift) (sym c.self.view_is) in
-    let asked : was.asked ≡ c.self.inside.asked = ap (λ (v : Shared). v.asked) (sym c.self.view_is) in
-    let moved : c.drifted-self-inside.result ≡ drifted c.args.cmd.now was (all_asked c.args.market.now) =
-    c.drifted-self-inside.ensures was before asked ∙ ap (drifted c.args.cmd.now was) (asked_all here) in
+    let n : ℕ = c.args.market.now.levels in
+    let before : c.self.inside.drift ≡ was.drift = ap (λ (v : Shared). v.drift) c.self.view_is in
+    let asked : c.self.inside.asked ≡ was.asked = ap (λ (v : Shared). v.asked) c.self.view_is in
+    let apart_ : c.loop-place.moved ≡ apart n was.asked (all_asked c.args.market.now) =
+    c.loop-place.invariant.moved
+    ∙ (λ i. apart (all_levels here i) (asked i) c.loop-place.self-inside.asked)
+    ∙ apart-same n was.asked c.loop-place.self-inside.asked (all_asked c.args.market.now) (asked_now here) in
+    let drift : c.drifted-self-inside.result ≡ drifted c.args.cmd.now was n (all_asked c.args.market.now) =
+    c.drifted-self-inside.ensures ∙ (λ i. min (before i + (apart_ i + (c.reordered-reordered.ensures.exact ∙ ap (reordered c.args.cmd.now) asked) i)) (2 ^ 32 - 1)) in
     λ i. record {
       limit = limit_is here i;
       effective = effective_is here i;
       placed = c.placed-self-inside.ensures.exact i;
       given = given_all here i;
       asked = asked_all here i;
-      drift = moved i;
+      drift = drift i;
     }
 
-pub drifted-self-inside-requires-clause-was : goal.drifted-self-inside-requires-clause-was
-drifted-self-inside-requires-clause-was c place = c.self.invariant.0.small place
+pub reordered-reordered-requires : goal.reordered-reordered-requires
+reordered-reordered-requires c = record { was = λ j. c.self.invariant.0.small j }
 
-pub drifted-self-inside-requires-clause-asked : goal.drifted-self-inside-requires-clause-asked
-drifted-self-inside-requires-clause-asked c place = (whole (goal.at.drifted-self-inside-requires-clause-asked c).After-loop-place-2).small place
+pub drifted-self-inside-requires-clause-moved : goal.drifted-self-inside-requires-clause-moved
+drifted-self-inside-requires-clause-moved c = omega (arith, c.loop-place.invariant.small, c.loop-place.auto.place-end, c.levels-levels.ensures.high)
 
 pub returns-clause-kept : goal.returns-clause-kept
 returns-clause-kept c =

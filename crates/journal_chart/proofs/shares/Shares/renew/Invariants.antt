@@ -1,6 +1,7 @@
 use Rattle.std.specs.Prelude.{◌&&◌, ◌||◌, slice_index}
-use Rattle.std.proofs.Common.{◌≡◌, ◌<◌, ◌≤◌, ℕ, false, get_or, length, true}
+use Rattle.std.proofs.Common.{◌≡◌, ◌*◌, ◌<◌, ◌≤◌, ℕ, false, get_or, length, true}
 use Rattle.market_types.specs.Allotment.{effective_limit_of}
+use Rattle.journal_chart.specs.Shares.{apart}
 use Rattle.journal_chart.specs.Unkept.{unkept_of}
 use Rattle.journal_chart.specs.Steps.{is_same_part}
 use Rattle.journal_chart.proofs.Assigning.{Cleared, Renewing}
@@ -17,6 +18,8 @@ invariant-loop-place l = record {
       ≡ (l.idle || (l.divided && is_same_part (slice_index l.initial.self-inside.given j) (slice_index l.self-inside.given j) (slice_index l.initial.self-inside.asked j) (slice_index l.self-inside.asked j)));
   rest : (j : ℕ) → l.place ≤ j → j < 8 → get_or l.kept j false ≡ true;
   few : l.count ≤ l.place;
+  moved : l.moved ≡ apart l.place l.initial.self-inside.asked l.self-inside.asked;
+  small : l.moved ≤ l.place * (1024 * 65535);
   last : l.last < 8;
   open_ : AreSoFar l.kept l.place (unkept_of l.count l.last);
 }
