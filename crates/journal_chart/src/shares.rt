@@ -52,18 +52,22 @@ fn both_divided(cmd: &Cmd, was: u32, now: u32) -> bool
     keeps_order(cmd) && (was > 0 && now > 0)
 }
 
-/// A level shares out what it is given as it did: it is given what it was of what it asked for, or nothing each time, or each time all.
+/// A level shares out what it is given as it did: it is given what it was of what it asked for, or nothing each time, or each time all. And how much what
+/// it asks for has moved.
+// Both at once, since most levels ask for what they did: then one test tells both.
 #[inline(always)]
-fn is_same(was_given: u64, given: u64, was_asked: u64, asked: u64) -> bool
-    ensures { result ≡ is_same_part was_given given was_asked asked }
+fn change_of(was_given: u64, given: u64, was_asked: u64, asked: u64) -> (bool, u64)
+    ensures same { result.0 ≡ is_same_part was_given given was_asked asked }
+    ensures moved { result.1 ≡ was_asked - asked + (asked - was_asked) }
 {
     if was_given == given && was_asked == asked {
-        return true;
+        return (true, 0);
     }
+    let moved = was_asked.abs_diff(asked);
     if given == asked && was_given == was_asked {
-        return true;
+        return (true, moved);
     }
-    given == 0 && was_given == 0
+    (given == 0 && was_given == 0, moved)
 }
 
 /// A level's arenas are allotted what they were, but for the one that a command is about.
@@ -170,8 +174,8 @@ impl Shares {
             let demand = market.demand(Level::from_index(place));
             let share = demand.min(left);
             left -= share;
-            let same = is_same(self.given[place], share, self.asked[place], demand);
-            moved += self.asked[place].abs_diff(demand);
+            let (same, by) = change_of(self.given[place], share, self.asked[place], demand);
+            moved += by;
             self.given[place] = share;
             self.asked[place] = demand;
             if is_kept(idle, divided, same) {

@@ -71,17 +71,17 @@ module _ (c : After-is_kept) where
       (c.demand-demand.ensures.exact ∙ ap (demand s) (c.from_index.ensures ∙ next)) c.demand-demand.ensures.small c.min-share.ensures
 
   -- how much what the levels so far ask for differs
-  moved : c.loop-place.moved + c.abs_diff-moved.result ≡ apart (place + 1) c.self.inside.asked new_asked
+  moved : c.loop-place.moved + c.change_of-same.result.1 ≡ apart (place + 1) c.self.inside.asked new_asked
   moved =
-      apart-more place wanted c.loop-place.moved c.abs_diff-moved.result c.self.inside.asked c.loop-place.self-inside.asked
+      apart-more place wanted c.loop-place.moved c.change_of-same.result.1 c.self.inside.asked c.loop-place.self-inside.asked
       (omega (arith, few, c.loop-place.invariant.renewing.size_asked)) (c.loop-place.invariant.renewing.rest_asked place (omega arith)) c.loop-place.invariant.moved differs
     where
-      differs : c.abs_diff-moved.result ≡ slice_index c.loop-place.self-inside.asked place - wanted + (wanted - slice_index c.loop-place.self-inside.asked place)
-      differs = c.abs_diff-moved.ensures
+      differs : c.change_of-same.result.1 ≡ slice_index c.loop-place.self-inside.asked place - wanted + (wanted - slice_index c.loop-place.self-inside.asked place)
+      differs = c.change_of-same.ensures.moved
 
-  small : c.loop-place.moved + c.abs_diff-moved.result ≤ (place + 1) * (1024 * 65535)
+  small : c.loop-place.moved + c.change_of-same.result.1 ≤ (place + 1) * (1024 * 65535)
   small =
-      omega (arith, c.loop-place.invariant.small, c.abs_diff-moved.ensures, c.demand-demand.ensures.small, c.loop-place.invariant.renewing.small place)
+      omega (arith, c.loop-place.invariant.small, c.change_of-same.ensures.moved, c.demand-demand.ensures.small, c.loop-place.invariant.renewing.small place)
 
   held : c.is_kept.result ≡ test place new_given new_asked
   held =
@@ -92,8 +92,8 @@ module _ (c : After-is_kept) where
       let asked_here : slice_index new_asked place ≡ wanted = get_or-set_same c.loop-place.self-inside.asked place wanted 0 asked_in in
       let was_given : slice_index c.loop-place.self-inside.given place ≡ slice_index c.self.inside.given place = h.renewing.rest_given place (omega arith) in
       let was_asked : slice_index c.loop-place.self-inside.asked place ≡ slice_index c.self.inside.asked place = h.renewing.rest_asked place (omega arith) in
-      let same : c.is_same-same.result ≡ is_same_part (slice_index c.self.inside.given place) (slice_index new_given place) (slice_index c.self.inside.asked place) (slice_index new_asked place) =
-      c.is_same-same.ensures ∙ (λ i. is_same_part (was_given i) (sym given_here i) (was_asked i) (sym asked_here i)) in
+      let same : c.change_of-same.result.0 ≡ is_same_part (slice_index c.self.inside.given place) (slice_index new_given place) (slice_index c.self.inside.asked place) (slice_index new_asked place) =
+      c.change_of-same.ensures.same ∙ (λ i. is_same_part (was_given i) (sym given_here i) (was_asked i) (sym asked_here i)) in
       c.is_kept.ensures ∙ ap (λ b. c.both_idle-idle.result || (c.both_divided-divided.result && b)) same
 
   -- so for each level so far
