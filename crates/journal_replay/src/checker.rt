@@ -78,12 +78,14 @@ fn replay<W: Watcher>(
     ensures same { IfOk result (λ same. same ≡ bytes_eq (reply_text (step market.old entry.now.seat entry.now.cmd).0) entry.now.reply.now) }
     ensures seen { OnOk result (W.made watcher.new ≡ W.seen (W.made watcher.old) (step market.old entry.now.seat entry.now.cmd).1 entry.now.cmd (step market.old entry.now.seat entry.now.cmd).0) }
 {
-    let Ok(reply) = market.apply(alloc, entry.seat, entry.cmd) else {
+    // A copy, so that nothing but the command has to stand in memory for the watcher.
+    let cmd = entry.cmd;
+    let Ok(reply) = market.apply(alloc, entry.seat, cmd) else {
         return Err(AllocError);
     };
     due.clear();
     let pushed = push_reply(due, &reply);
-    watcher.see(market, &entry.cmd, &reply);
+    watcher.see(market, &cmd, &reply);
     drop(reply);
     pushed?;
     Ok(due.as_slice() == entry.reply)
