@@ -15,7 +15,7 @@ use Rattle.journal_chart.specs.Numbers.{Charted, Drawn, chart_of, row_of}
 use Rattle.journal_chart.specs.Numbering.{AreNumbered, arenas_of}
 use Rattle.journal_chart.specs.Shares.{Shared, shared_of}
 use Rattle.journal_chart.specs.Spots.{no_spot}
-use Rattle.journal_chart.specs.Steps.{Followed, after_seat, begun_chart, closed_row, counted_chart, each_row, first_chart, first_row, goes_on, halved_lines, halved_row, has_share, is_covered_at, is_joined, is_spared_at, is_still, kept_levels, moves_seat, near_chart, near_row, near_rows, needing_row, next_chart, own_row, pairwise, passed_row, retold, roomed_lines, seat_row, seat_rows, seated, seen_row, settled_at, settled_row, share_of, shared_after, spot_of, spotted, stands_kept, subject, taken_row, told_row}
+use Rattle.journal_chart.specs.Steps.{Followed, after_seat, begun_chart, closed_row, counted_chart, each_row, first_chart, first_row, goes_on, halved_lines, halved_row, has_share, is_covered_at, is_joined, is_spared_at, is_still, kept_levels, moves_seat, near_chart, near_row, near_rows, needing_row, next_chart, own_row, pairwise, passed_row, respotted, retold, roomed_lines, seat_row, seat_rows, seated, seen_row, settled_at, settled_row, share_of, shared_after, spot_of, spotted, stands_kept, subject, taken_row, told_row}
 
 -- ---- a row
 
@@ -44,7 +44,7 @@ near-arena : (place : ℕ) (s : State) (cmd : Cmd) (reply : Reply) (now : Shared
 near-arena place s cmd reply now kept r k =
     let share : Option ℕ = option_map (share_of s now k r.arena) r.stands in
     let closed : Row × Known = closed_row place s cmd reply k r r share in
-    let asked : Row × Known = spotted (spot_of s now k r.arena r.stands) closed in
+    let asked : Row × Known = respotted (spot_of s now k r.arena r.stands) closed in
     let near : Row × Known = cond (is_spared_at now k r.stands) (r, k) asked in
     let open_ : Row × Known = cond (is_covered_at now k r.stands) (r, k) near in
     kept-arena (is_just r.arena (subject cmd reply)) (spotted no_spot (own_row place s cmd reply now k r (retold cmd reply k))) (cond (stands_kept kept r.stands) (r, k) open_) r.arena

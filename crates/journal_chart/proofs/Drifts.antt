@@ -10,13 +10,15 @@ use Rattle.market_types.specs.State.{Arena, State}
 use Rattle.market_types.specs.Allotment.{at_level, demand, is_just, need, recall, total_request}
 use Rattle.market_types.specs.Step.{Outcome, arena_at, join_at, join_from, leave_from, place_of, stay_from, step, with_place}
 use Rattle.market_core.specs.Ahead.{asked_ahead}
+use Rattle.journal_chart.specs.declared.covered.Covered.{Covered}
+use Rattle.journal_chart.specs.declared.row.Known.{Known}
 use Rattle.journal_chart.specs.declared.spot.Spot.{Spot}
 use Rattle.journal_chart.specs.Shares.{all_asked, apart, shared_at}
 use Rattle.journal_chart.specs.Steps.{drifted, keeps_order, moves_seat, reordered, subject}
 use Rattle.journal_chart.proofs.Ahead.{Within}
 use Rattle.journal_chart.proofs.Kept.{Fine, ahead-within, apart-stands}
 use Rattle.journal_chart.proofs.Sharing.{leveled, shared-asked}
-use Rattle.journal_chart.proofs.Spots.{IsPlaced, IsSpot}
+use Rattle.journal_chart.proofs.Spots.{IsNear, IsPlaced, IsSpot, Spares}
 
 -- ---- what levels ask for
 
@@ -73,30 +75,30 @@ twice-within false n m less = omega (arith, less)
 
 -- ---- spots
 
+-- what is as near to an arena after what stands before it and what its level asks for have changed was so before, less what the levels have drifted
+nearer : (o : Spot) (drift more slack b c d e p q : ℕ) → Within b c d e slack → (d - e) + (e - d) + 2 * slack ≤ more
+    → IsNear o (drift + more) c e p q → IsNear o drift b d p q
+nearer o drift more slack b c d e p q within enough near =
+    record {
+      up = omega (arith, within.more, enough, near.up);
+      more = omega (arith, within.less, enough, near.more);
+      down = omega (arith, within.less, enough, near.down);
+      less = omega (arith, within.more, enough, near.less);
+    }
+
 -- what stands before an arena and what its level asks for change by so much: its spot is right once the levels have drifted by as much more
-still-placed : (s t : State) (a drift more slack : ℕ) (o : Spot) (x : Arena) → IsPlaced s a drift o x
+still-placed : (s t : State) (a drift more slack request : ℕ) (k : Covered) (o : Spot) (x : Arena) → IsPlaced s a drift k request o x
     → Within (asked_ahead a (at_level x.level s.arenas)) (asked_ahead a (at_level x.level t.arenas)) (demand s x.level) (demand t x.level) slack
-    → (demand s x.level - demand t x.level) + (demand t x.level - demand s x.level) + 2 * slack ≤ more → IsPlaced t a (drift + more) o x
-still-placed s t a drift more slack o x was within enough =
+    → (demand s x.level - demand t x.level) + (demand t x.level - demand s x.level) + 2 * slack ≤ more → IsPlaced t a (drift + more) k request o x
+still-placed s t a drift more slack request k o x was within enough =
     record {
       low = was.low;
       few = was.few;
-      past = omega (arith, was.past);
-      least =
-          least o.before o.drift o.asked (asked_ahead a (at_level x.level s.arenas)) (asked_ahead a (at_level x.level t.arenas))
-          (demand s x.level) (demand t x.level) drift more slack was.least within enough;
-      most =
-          most o.before o.drift o.asked (asked_ahead a (at_level x.level s.arenas)) (asked_ahead a (at_level x.level t.arenas))
-          (demand s x.level) (demand t x.level) drift more slack was.most within enough;
+      spares = λ p q n near some is.
+          was.spares p q n
+          (nearer o drift more slack (asked_ahead a (at_level x.level s.arenas)) (asked_ahead a (at_level x.level t.arenas)) (demand s x.level) (demand t x.level) p q
+          within enough near) some is;
     }
-  where
-    least : (before since asked p q d e drift more slack : ℕ) → 2 * before + d + since ≤ 2 * p + drift + asked → Within p q d e slack
-        → (d - e) + (e - d) + 2 * slack ≤ more → 2 * before + e + since ≤ 2 * q + (drift + more) + asked
-    least before since asked p q d e drift more slack was within enough = omega (arith, was, within.less, enough)
-
-    most : (before since asked p q d e drift more slack : ℕ) → 2 * p + asked + since ≤ 2 * before + drift + d → Within p q d e slack
-        → (d - e) + (e - d) + 2 * slack ≤ more → 2 * q + asked + since ≤ 2 * before + (drift + more) + e
-    most before since asked p q d e drift more slack was within enough = omega (arith, was, within.more, enough)
 
 -- what a level asks for, and what stands for another order, changes by no more than how far all levels drift
 drift-enough : (s t : State) (cmd : Cmd) (level : ℕ) → 1 ≤ level → level ≤ 8 → level ≤ s.levels → level ≤ t.levels
@@ -117,17 +119,18 @@ drift-enough s t cmd level low few was_high high =
     together n m d e k slack more was is among twice = omega (arith, was, is, among, twice)
 
 -- a spot stays right through an entry that is about another arena
-pub spot-step : (s t : State) (seat a d : ℕ) (cmd : Cmd) (reply : Reply) (o : Spot) → step s seat cmd ≡ (reply, t)
-    → is_just a (subject cmd reply) ≡ false → Fine s → Fine t → IsSpot s a d o → IsSpot t a (drifted cmd (shared_at s d) t.levels (all_asked t)) o
-spot-step s t seat a d cmd reply o answered other was_fine fine spot some small x found =
+pub spot-step : (s t : State) (seat a d : ℕ) (cmd : Cmd) (reply : Reply) (k : Known) → step s seat cmd ≡ (reply, t)
+    → is_just a (subject cmd reply) ≡ false → Fine s → Fine t → IsSpot s a d k → IsSpot t a (drifted cmd (shared_at s d) t.levels (all_asked t)) k
+spot-step s t seat a d cmd reply k answered other was_fine fine spot some small x found =
     let more : ℕ = apart t.levels (all_asked s) (all_asked t) + reordered cmd (all_asked s) in
     let free = below-most (d + more) (2 ^ 32 - 1) small in
     let was_small : d < 2 ^ 32 - 1 = smaller d more (2 ^ 32 - 1) free.1 in
     let was_found : arena_at a s.arenas ≡ Some x = sym (apart-stands s t seat a cmd reply answered other).arena ∙ found in
-    let was : IsPlaced s a d o x = spot some was_small x was_found in
+    let was : IsPlaced s a d k.covered k.request k.spot x = spot some was_small x was_found in
     let within = ahead-within s t seat a cmd reply answered other was_fine.once x.level in
     let enough = drift-enough s t cmd x.level was.low was.few (leveled s a x was_fine was_found) (leveled t a x fine found) in
-    subst (λ n. IsPlaced t a n o x) (sym free.0) (still-placed s t a d more (cond (keeps_order cmd) 0 (demand s x.level)) o x was within enough)
+    subst (λ n. IsPlaced t a n k.covered k.request k.spot x) (sym free.0)
+    (still-placed s t a d more (cond (keeps_order cmd) 0 (demand s x.level)) k.request k.covered k.spot x was within enough)
   where
     smaller : (n m most : ℕ) → n + m < most → n < most
     smaller n m most less = omega (arith, less)
@@ -175,20 +178,16 @@ seats-arenas s seat Lists h = absurd (true≢false (sym h))
 seats-arenas s seat Limit h = absurd (true≢false (sym h))
 
 -- a command of a seat changes no arena
-pub spot-seat : (s t : State) (seat a d : ℕ) (cmd : Cmd) (reply : Reply) (o : Spot) → step s seat cmd ≡ (reply, t)
-    → moves_seat cmd ≡ true → IsSpot s a d o → IsSpot t a d o
-spot-seat s t seat a d cmd reply o answered moves spot some small x found =
+pub spot-seat : (s t : State) (seat a d : ℕ) (cmd : Cmd) (reply : Reply) (k : Known) → step s seat cmd ≡ (reply, t)
+    → moves_seat cmd ≡ true → IsSpot s a d k → IsSpot t a d k
+spot-seat s t seat a d cmd reply k answered moves spot some small x found =
     let same : t.arenas ≡ s.arenas = subst (λ (p : Outcome). p.1.arenas ≡ s.arenas) answered (seats-arenas s seat cmd moves) in
     let back : s.arenas ≡ t.arenas = sym same in
-    let was : IsPlaced s a d o x = spot some small x (ap (arena_at a) back ∙ found) in
+    let was : IsPlaced s a d k.covered k.request k.spot x = spot some small x (ap (arena_at a) back ∙ found) in
     record {
       low = was.low;
       few = was.few;
-      past = was.past;
-      least =
+      spares =
           subst (λ (xs : List Arena).
-          2 * o.before + total_request (at_level x.level xs) + o.drift ≤ 2 * asked_ahead a (at_level x.level xs) + d + o.asked) back was.least;
-      most =
-          subst (λ (xs : List Arena).
-          2 * asked_ahead a (at_level x.level xs) + o.asked + o.drift ≤ 2 * o.before + d + total_request (at_level x.level xs)) back was.most;
+          Spares k.covered k.request k.spot d (asked_ahead a (at_level x.level xs)) (total_request (at_level x.level xs))) back was.spares;
     }

@@ -124,17 +124,17 @@ module _ (whole : Whole) (place : ℕ) (s t : State) (seat : ℕ) (cmd : Cmd) (r
         ]
 
     -- no spot is known then, but of an arena that does not live
-    settled-spot : Stands s t a → (b : Option Arena) → arena_at a s.arenas ≡ b → IsSpot t a 0 (settled_at place t cmd reply (shared_of t) was r (option_map (λ (c : Arena). c.level) b)).1.spot
+    settled-spot : Stands s t a → (b : Option Arena) → arena_at a s.arenas ≡ b → IsSpot t a 0 (settled_at place t cmd reply (shared_of t) was r (option_map (λ (c : Arena). c.level) b)).1
     settled-spot stands None is = λ told little x found. let bad : None ≡ Some x = sym (stands.arena ∙ is) ∙ found in absurd (cc)
-    settled-spot stands (Some x) is = spot-none t a 0
+    settled-spot stands (Some x) is = spot-none t a 0 (settled_at place t cmd reply (shared_of t) was r (Some x.level)).1 refl
 
-    pub first-spot : IsSpot t a 0 (first_row place t cmd reply (shared_of t) r was).1.spot
+    pub first-spot : IsSpot t a 0 (first_row place t cmd reply (shared_of t) r was).1
     first-spot =
         elim (cases_Bool (is_just r.arena (subject cmd reply))) [
-          | inl about ↦ rw about (subst (IsSpot t a 0) (sym (known-unspotted place (view_at r.arena t) (taken_row place t cmd reply r))) (spot-none t a 0))
+          | inl about ↦ rw about (spot-none t a 0 (known_of place (view_at r.arena t) (taken_row place t cmd reply r)) (known-unspotted place (view_at r.arena t) (taken_row place t cmd reply r)))
           | inr apart ↦
               let apart_ : is_just a (subject cmd reply) ≡ false = ap (λ n. is_just n (subject cmd reply)) (sym arena_is) ∙ apart in
               let stands : Stands s t a = apart-stands s t seat a cmd reply answered apart_ in
               rw apart
-              (subst (λ l. IsSpot t a 0 (settled_at place t cmd reply (shared_of t) was r l).1.spot) (sym stands_is) (settled-spot stands (arena_at a s.arenas) refl))
+              (subst (λ l. IsSpot t a 0 (settled_at place t cmd reply (shared_of t) was r l).1) (sym stands_is) (settled-spot stands (arena_at a s.arenas) refl))
         ]

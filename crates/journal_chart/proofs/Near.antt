@@ -25,7 +25,7 @@ use Rattle.journal_chart.specs.Numbers.{level_at, line_of, row_of, shown, view_a
 use Rattle.journal_chart.specs.declared.spot.Spot.{Spot}
 use Rattle.journal_chart.specs.Spots.{no_spot}
 use Rattle.journal_chart.specs.Shares.{Shared, shared_at, shared_of}
-use Rattle.journal_chart.specs.Steps.{after_seat, has_few, is_covered, is_covered_at, is_divided, is_idle, is_joined, is_same_part, is_same_share, is_spared_at, changed, closed_row, has_share, is_kept, keeps_order, kept_levels, known_in, known_of, moves_seat, near_row, needing_row, own_row, retold, seat_row, seated, seen_row, share_of, shared_row, spot_of, spotted, stands_after, stands_kept, subject}
+use Rattle.journal_chart.specs.Steps.{after_seat, changed, closed_row, has_few, has_share, is_covered, is_covered_at, is_divided, is_idle, is_joined, is_kept, is_same_part, is_same_share, is_spared_at, keeps_order, kept_levels, known_in, known_of, moves_seat, near_row, needing_row, own_row, respotted, retold, seat_row, seated, seen_row, share_of, shared_row, spot_of, stands_after, stands_kept, subject}
 use Rattle.journal_chart.proofs.Bounds.{IsShare, Whole, allotment-level, at-level, both, covered-share, exact-share, same-carried, share-of-all, share-of-nothing}
 use Rattle.journal_chart.proofs.Charts.{line-if, readied-row}
 use Rattle.journal_chart.proofs.Kept.{Fine, Stands, Steady, apart-stands, found-number, steady-step}
@@ -553,7 +553,7 @@ module _ (most : ℕ) (before : List State) (s t : State) (some : 0 < most) (on 
         go (Some x) is h = cover-lines whole a x (record (known_of place (Some (view_of s x)) (row a)) { spot = o }) fine' (stands.arena ∙ is) refl (active-same a stands x is) refl h
 
     -- a row of an arena all of whose allotments are covered wherever it stands
-    spared-lines : IsSpot t a e o → Stands s t a → is_spared_at (shared_at t e) was (level_at a s) ≡ true → SameLines a
+    spared-lines : IsSpot t a e was → Stands s t a → is_spared_at (shared_at t e) was (level_at a s) ≡ true → SameLines a
     spared-lines right stands h = go (arena_at a s.arenas) refl h
       where
         go : (b : Option Arena) → arena_at a s.arenas ≡ b
@@ -562,7 +562,8 @@ module _ (most : ℕ) (before : List State) (s t : State) (some : 0 < most) (on 
         go (Some x) is h =
             let k : Known = record (known_of place (Some (view_of s x)) (row a)) { spot = o } in
             let found : arena_at a t.arenas ≡ Some x = stands.arena ∙ is in
-            let within = spared-covers whole t a e x k fine' found refl right h in
+            let known : was ≡ k = ap (λ b. record (known_of place (option_map (view_of s) b) (row a)) { spot = o }) is in
+            let within = spared-covers whole t a e x k fine' found refl (subst (IsSpot t a e) known right) h in
             let covers_ : k.covered ≡ covered (at (row a).allot place) (at (row a).recall place) (at (row a).hire place) (active t x.number) =
             ap (covered (at (row a).allot place) (at (row a).recall place) (at (row a).hire place)) (sym (active-same a stands x is)) in
             covered-lines a x k.covered found covers_ within.0 within.1
@@ -737,11 +738,11 @@ module _ (most : ℕ) (before : List State) (s t : State) (some : 0 < most) (on 
     was-own (Some x) is not =
         ap (λ (k : Known). k.covered) (was-known x is) ∙ ap (λ (k : Known). covered (at (row a).allot place) (at (row a).recall place) (at (row a).hire place) k.active) (sym (was-known x is))
 
-    other : IsSpot t a e o → is_just a (subject cmd reply) ≡ false
+    other : IsSpot t a e was → is_just a (subject cmd reply) ≡ false
         → bared (cond (stands_kept kept (level_at a s)) (row a, was)
         (cond (is_covered_at (shared_at t e) was (level_at a s)) (row a, was)
         (cond (is_spared_at (shared_at t e) was (level_at a s)) (row a, was)
-        (spotted (spot_of t (shared_at t e) was a (level_at a s)) (closed_row place t cmd reply was (row a) (row a) (option_map (share_of t (shared_at t e) was a) (level_at a s)))))))
+        (respotted (spot_of t (shared_at t e) was a (level_at a s)) (closed_row place t cmd reply was (row a) (row a) (option_map (share_of t (shared_at t e) was a) (level_at a s)))))))
         ≡ due a
     other right apart =
         let stands : Stands s t a = apart-stands s t seat a cmd reply answered apart in
@@ -774,7 +775,7 @@ module _ (most : ℕ) (before : List State) (s t : State) (some : 0 < most) (on 
               ])
         ]
 
-    pub near-row : (is_just a (subject cmd reply) ≡ false → IsSpot t a e o) → bared (near_row place t cmd reply (shared_at t e) kept (row a) was) ≡ due a
+    pub near-row : (is_just a (subject cmd reply) ≡ false → IsSpot t a e was) → bared (near_row place t cmd reply (shared_at t e) kept (row a) was) ≡ due a
     near-row right =
         elim (cases_Bool (is_just a (subject cmd reply))) [
           | inl about ↦ rw about (own-near about)

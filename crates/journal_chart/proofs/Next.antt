@@ -39,7 +39,7 @@ known_at most before s arenas = map (λ a. known_of (place_of most (length befor
 -- an arena is known as it is, but for its spot, and that is right
 pub record IsKnown (place drift : ℕ) (s : State) (r : Row) (a : ℕ) (k : Known) : Type 0 where
   pub is : bare k ≡ known_of place (view_at a s) r
-  pub spot : IsSpot s a drift k.spot
+  pub spot : IsSpot s a drift k
 
 -- so are all
 abbrev pub AreKnown : ℕ → ℕ → State → (ℕ → Row) → List ℕ → List Known → Type 0
@@ -72,7 +72,7 @@ followed_chart most arenas moments s =
 known-are : (place : ℕ) (s : State) (row : ℕ → Row) (arenas : List ℕ) → AreKnown place 0 s row arenas (map (λ a. known_of place (view_at a s) (row a)) arenas)
 known-are place s row [] = tt
 known-are place s row (a ∷ arenas) = (
-  record { is = known-bare place (view_at a s) (row a); spot = subst (IsSpot s a 0) (sym (known-unspotted place (view_at a s) (row a))) (spot-none s a 0) },
+  record { is = known-bare place (view_at a s) (row a); spot = spot-none s a 0 (known_of place (view_at a s) (row a)) (known-unspotted place (view_at a s) (row a)) },
   known-are place s row arenas,
 )
 
@@ -161,7 +161,7 @@ module _ (whole : Whole) (most : ℕ) (before : List State) (s t : State) (seat 
           (
             record {
               is = ap (λ (p : Row × Known). p.1) made ∙ (λ i. known_of place (view_at (arena_is a i) t) (taken_row place t cmd reply r));
-              spot = subst (λ (l : Known). IsSpot t a 0 (first_row place t cmd reply (shared_of t) r l).1.spot) (sym was) spot;
+              spot = subst (λ (l : Known). IsSpot t a 0 (first_row place t cmd reply (shared_of t) r l).1) (sym was) spot;
             },
             more.1,
           ),
@@ -277,8 +277,9 @@ module _ (whole : Whole) (most : ℕ) (before : List State) (s t : State) (seat 
     rows-near (a ∷ arenas) (k ∷ ks) h =
         let row : Row = row_of most moments s a in
         let was : k ≡ record (known_of place (view_at a s) row) { spot = k.spot } = spot-back place d s row a k h.0 in
-        let right : is_just a (subject cmd reply) ≡ false → IsSpot t a e k.spot = λ apart. spot-step s t seat a d cmd reply k.spot answered apart fine fine' h.0.spot in
-        let first = near-row most before s t some on whole seat cmd reply answered fine fine' a k.spot e (stood-after s t seat cmd reply answered a) right in
+        let right : is_just a (subject cmd reply) ≡ false → IsSpot t a e k = λ apart. spot-step s t seat a d cmd reply k answered apart fine fine' h.0.spot in
+        let first = near-row most before s t some on whole seat cmd reply answered fine fine' a k.spot e (stood-after s t seat cmd reply answered a)
+        (λ apart. subst (IsSpot t a e) was (right apart)) in
         let spot = near-spot s t seat cmd reply answered fine' place a e k row kept right in
         let made = ap (λ (l : Known). bared (near_row place t cmd reply (shared_at t e) kept row l)) was ∙ first in
         let more = rows-near arenas ks h.1 in (
@@ -302,7 +303,7 @@ module _ (whole : Whole) (most : ℕ) (before : List State) (s t : State) (seat 
         let row : Row = row_of most moments s a in
         let more_ : Bool = is_joined (shared_of s) (shared_of t) in
         let was : k ≡ record (known_of place (view_at a s) row) { spot = k.spot } = spot-back place d s row a k h.0 in
-        let right : IsSpot t a d k.spot = spot-seat s t seat a d cmd reply k.spot answered moves h.0.spot in
+        let right : IsSpot t a d k = spot-seat s t seat a d cmd reply k answered moves h.0.spot in
         let first = seat-row most before s t some on whole seat cmd reply answered fine fine' a k.spot d (stood-after s t seat cmd reply answered a) moves in
         let spot = seat-spot s t seat cmd reply answered fine' place a d k row more_ right in
         let made = ap (λ (l : Known). bared (seat_row place t cmd reply more_ (shared_at t d) row l)) was ∙ first in

@@ -17,7 +17,7 @@ use Rattle.journal_chart.specs.Shares.{Shared}
 use Rattle.journal_chart.specs.declared.unkept.Unkept.TheVariants.{Nowhere}
 use Rattle.journal_chart.specs.Unkept.{AreAtLevels, AreUnkept, IsAlone, IsAtLevel}
 use Rattle.journal_chart.specs.Spots.{no_spot}
-use Rattle.journal_chart.specs.Steps.{closed_row, is_covered, is_spared, near_row, own_row, retold, seat_row, share_of, spot_of, spotted, stands_kept, subject}
+use Rattle.journal_chart.specs.Steps.{closed_row, is_covered, is_spared, near_row, own_row, respotted, retold, seat_row, share_of, spot_of, spotted, stands_kept, subject}
 
 arena-of : (rows : List Row) (j : ℕ) (d : Row) → get_or (arenas_of rows) j d.arena ≡ (get_or rows j d).arena
 arena-of [] j d = refl
@@ -100,7 +100,7 @@ kept-others place s cmd reply now kept first about own count rows alone numbered
 pub other-row : (place : ℕ) (s : State) (cmd : Cmd) (reply : Reply) (now : Shared) (kept : List Bool) (r : Row) (k : Known) (level : ℕ)
     → is_just r.arena (subject cmd reply) ≡ false → stands_kept kept r.stands ≡ false → r.stands ≡ Some level → is_covered now k level ≡ false
     → near_row place s cmd reply now kept r k
-    ≡ cond (is_spared now k level) (r, k) (spotted (spot_of s now k r.arena (Some level)) (closed_row place s cmd reply k r r (Some (share_of s now k r.arena level))))
+    ≡ cond (is_spared now k level) (r, k) (respotted (spot_of s now k r.arena (Some level)) (closed_row place s cmd reply k r r (Some (share_of s now k r.arena level))))
 other-row place s cmd reply now kept r k level other moved at uncovered = rw (other, moved, at, uncovered) refl
 
 -- a row at it whose column has all that its arena may be allotted

@@ -1,7 +1,6 @@
 -- An arena's allotment, by what is asked for before it at its level: what lies between two quotients.
-use Rattle.std.specs.Prelude.{◌&&◌, ◌||◌}
-use Rattle.std.proofs.Common.{◌≡◌, ℕ, ◌+◌, ◌-◌, ◌*◌, ◌/◌, ◌%◌, ◌<◌, ◌≤◌, Bool, true, false, cond, eqb, leb, ltb, List, [], ◌∷◌, Some, refl, sym, ap, ◌∙◌, arith, inl, inr}
-use Rattle.std.proofs.lemmas.Bool.{cases_Bool}
+use Rattle.std.proofs.Common.{◌≡◌, ℕ, ◌+◌, ◌-◌, ◌*◌, ◌/◌, ◌%◌, ◌<◌, ◌≤◌, cond, eqb, List, [], ◌∷◌, Some, refl, sym, ap, subst, ◌∙◌, arith, inl, inr}
+use Rattle.std.proofs.lemmas.Bool.{cases_Bool, cases_lt}
 use Rattle.std.proofs.lemmas.Bool.Decides.{nat_tests}
 use Rattle.std.proofs.lemmas.List.Elements.{All-head, All-tail}
 use Rattle.std.proofs.lemmas.Nat.{mod_below, div_below, le-div, mul-le}
@@ -11,8 +10,7 @@ use Rattle.market_types.specs.Claims.{request_of}
 use Rattle.market_types.specs.Allotment.{allotment_of, assigned, at_level, carried, carry_past, count_at, demand, limit_of}
 use Rattle.market_types.specs.Step.{arena_at}
 use Rattle.market_core.specs.Ahead.{asked_ahead}
-use Rattle.journal_chart.specs.Spots.{is_from, is_below}
-use Rattle.journal_chart.proofs.Bounds.{At, Finds, Once, Whole, allotment-level, at-level, both, found-own}
+use Rattle.journal_chart.proofs.Bounds.{At, Finds, Once, Whole, allotment-level, at-level, found-own}
 
 -- ---- two quotients
 
@@ -21,7 +19,7 @@ whole-parts : (p d w c : ℕ) → d * w + c ≡ p → c < d → (w * d ≤ p) ×
 whole-parts p d w c is less = (omega (arith, is), omega (arith, is, less))
 
 -- so does each number and its quotient
-quotient-parts : (p d : ℕ) → 0 < d → (p / d * d ≤ p) × (p < (p / d + 1) * d)
+pub quotient-parts : (p d : ℕ) → 0 < d → (p / d * d ≤ p) × (p < (p / d + 1) * d)
 quotient-parts p d some = whole-parts p d (p / d) (p % d) (div-add-mod p d) (mod_below p d some)
 
 -- two quotients lie apart by so much at least, if so many whole parts are between the numbers
@@ -40,82 +38,57 @@ apart-below below workers d p q n some low up high is =
     let most : q / d < workers + below = div_below q d (workers + below) some high in
     omega (arith, is, least, on, most)
 
--- where the first of two tests fails, the second holds
-second : (a b : Bool) → a ≡ false → (a || b) ≡ true → b ≡ true
-second true b fails h = absurd (cc)
-second false b fails h = h
-
 -- what is asked for before an arena with it, times what is given, is the sum of both
 with-own : (p r g : ℕ) → (p + r) * g ≡ p * g + r * g
 with-own p r g = omega arith
 
--- at any place: so many whole parts more reach so much further
-from-anywhere : (from r g d p n : ℕ) → 0 < d → n ≡ (p + r) * g / d - p * g / d → from * d ≤ r * g → from ≤ n
-from-anywhere from r g d p n some is low =
-    let parts = quotient-parts (p * g) d some in
-    let w : ℕ = p * g / d in
-    let spread : (w + from) * d ≡ w * d + from * d = with-own w from d in
-    let sum : (p + r) * g ≡ p * g + r * g = with-own p r g in
-    apart-from from w d (p * g) ((p + r) * g) n some (omega (arith, spread, sum, parts.0, low)) parts.1 is
+-- ---- within reach
 
--- and fewer reach less far
-below-anywhere : (below r g d p n : ℕ) → 0 < d → n ≡ (p + r) * g / d - p * g / d → r * g + d ≤ below * d → n < below
-below-anywhere below r g d p n some is high =
-    let parts = quotient-parts (p * g) d some in
-    let w : ℕ = p * g / d in
-    let next : (w + 1) * d ≡ w * d + d = omega arith in
-    let spread : (w + below) * d ≡ w * d + below * d = with-own w below d in
-    let sum : (p + r) * g ≡ p * g + r * g = with-own p r g in
-    apart-below below w d (p * g) ((p + r) * g) n some parts.0 (omega (arith, sum)) (omega (arith, next, spread, sum, parts.1, high)) is
+-- whole parts that are reached stay so, where no more is lacking before an arena than its reach, and no more has come from it on
+still-reached : (k r g b p a d reach : ℕ) → k ≤ g → k * a + reach * g ≤ (b + r) * g → b ≤ p + reach → d + b ≤ a + p + reach → k * d ≤ (p + r) * g
+still-reached k r g b p a d reach within far down up =
+    let h : ℕ = g - k in
+    let whole : k + h ≡ g = omega (arith, within) in
+    let far_ : k * a + reach * (k + h) ≤ (b + r) * (k + h) = subst (λ n. k * a + reach * n ≤ (b + r) * n) (sym whole) far in
+    let on : k * (d + b) ≤ k * (a + p + reach) = mul-le k (d + b) k (a + p + reach) (omega arith) up in
+    let before : b * h ≤ (p + reach) * h = mul-le b h (p + reach) h down (omega arith) in
+    subst (λ n. k * d ≤ (p + r) * n) whole (omega (arith, far_, on, before))
 
--- what such numbers tell of a place between two
-from-between : (from r g d least most workers p n : ℕ) → 0 < d → least ≤ p → p ≤ most → n ≡ (p + r) * g / d - p * g / d
-    → (leb ((workers + from) * d) ((least + r) * g) && ltb (most * g) ((workers + 1) * d)) ≡ true → from ≤ n
-from-between from r g d least most workers p n some low high is h =
-    let t = both (leb ((workers + from) * d) ((least + r) * g)) (ltb (most * g) ((workers + 1) * d)) h in
-    let reach : (workers + from) * d ≤ (least + r) * g = let e = t.0 in grind (arith, nat_tests) in
-    let start : most * g < (workers + 1) * d = let e = t.1 in grind (arith, nat_tests) in
-    let up : (least + r) * g ≤ (p + r) * g = mul-le (least + r) g (p + r) g (omega (arith, low)) (omega arith) in
-    let down : p * g ≤ most * g = mul-le p g most g high (omega arith) in
-    apart-from from workers d (p * g) ((p + r) * g) n some (omega (arith, reach, up)) (omega (arith, start, down)) is
+-- and those that are not reached, where no more has come before it, and no more is lacking from it on
+still-below : (k r g b p a d reach : ℕ) → k ≤ g → (b + r) * g + reach * g < k * a → p ≤ b + reach → a + p ≤ d + b + reach → (p + r) * g < k * d
+still-below k r g b p a d reach within far up down =
+    let h : ℕ = g - k in
+    let whole : k + h ≡ g = omega (arith, within) in
+    let far_ : (b + r) * (k + h) + reach * (k + h) < k * a = subst (λ n. (b + r) * n + reach * n < k * a) (sym whole) far in
+    let on : k * (a + p) ≤ k * (d + b + reach) = mul-le k (a + p) k (d + b + reach) (omega arith) down in
+    let before : p * h ≤ (b + reach) * h = mul-le p h (b + reach) h up (omega arith) in
+    subst (λ n. (p + r) * n < k * d) whole (omega (arith, far_, on, before))
 
--- the same from above
-below-between : (below r g d least most workers p n : ℕ) → 0 < d → least ≤ p → p ≤ most → n ≡ (p + r) * g / d - p * g / d
-    → (leb (workers * d) (least * g) && ltb ((most + r) * g) ((workers + below) * d)) ≡ true → n < below
-below-between below r g d least most workers p n some low high is h =
-    let t = both (leb (workers * d) (least * g)) (ltb ((most + r) * g) ((workers + below) * d)) h in
-    let start : workers * d ≤ least * g = let e = t.0 in grind (arith, nat_tests) in
-    let reach : (most + r) * g < (workers + below) * d = let e = t.1 in grind (arith, nat_tests) in
-    let down : least * g ≤ p * g = mul-le least g p g low (omega arith) in
-    let up : (p + r) * g ≤ (most + r) * g = mul-le (p + r) g (most + r) g (omega (arith, high)) (omega arith) in
-    let sum : (p + r) * g ≡ p * g + r * g = with-own p r g in
-    apart-below below workers d (p * g) ((p + r) * g) n some (omega (arith, start, down)) (omega (arith, sum)) (omega (arith, reach, up)) is
+-- of two products by one number the smaller is that of the smaller
+smaller : (n m d : ℕ) → n * d < m * d → n < m
+smaller n m d less = elim (cases_lt n m) [
+  | inl is ↦ is
+  | inr not ↦ absurd (omega (arith, less, mul-le m d n d not (omega arith)))
+]
 
--- what an arena is allotted at such a place is no fewer than the first test says
-pub from-placed : (from r g d least most workers p n : ℕ) → 0 < d → least ≤ p → p ≤ most → n ≡ (p + r) * g / d - p * g / d
-    → is_from from r g d least most workers ≡ true → from ≤ n
-from-placed from r g d least most workers p n some low high is h =
-    elim (cases_Bool (leb (from * d) (r * g))) [
-      | inl anywhere ↦
-          let less : from * d ≤ r * g = grind (arith, nat_tests) in
-          from-anywhere from r g d p n some is less
-      | inr not ↦
-          from-between from r g d least most workers p n some low high is
-          (second (leb (from * d) (r * g)) (leb ((workers + from) * d) ((least + r) * g) && ltb (most * g) ((workers + 1) * d)) not h)
-    ]
-
--- and fewer than the second test says
-pub below-placed : (below r g d least most workers p n : ℕ) → 0 < d → least ≤ p → p ≤ most → n ≡ (p + r) * g / d - p * g / d
-    → is_below below r g d least most workers ≡ true → n < below
-below-placed below r g d least most workers p n some low high is h =
-    elim (cases_Bool (leb (r * g + d) (below * d))) [
-      | inl anywhere ↦
-          let less : r * g + d ≤ below * d = grind (arith, nat_tests) in
-          below-anywhere below r g d p n some is less
-      | inr not ↦
-          below-between below r g d least most workers p n some low high is
-          (second (leb (r * g + d) (below * d)) (leb (workers * d) (least * g) && ltb ((most + r) * g) ((workers + below) * d)) not h)
-    ]
+-- what the arena is allotted that asks for `r` of a level that is given `g` of what it asks for is covered within reach, if it is so where `b` are asked
+-- for before it, `a` in all, and those before it are given so many workers
+pub within-reach : (from below workers r g b p a d reach n : ℕ) → 0 < d → n ≡ (p + r) * g / d - p * g / d → workers + below ≤ g
+    → workers * a + reach * g ≤ b * g → b * g + reach * g < (workers + 1) * a
+    → (workers + from) * a + reach * g ≤ (b + r) * g → (b + r) * g + reach * g < (workers + below) * a
+    → b ≤ p + reach → d + b ≤ a + p + reach → p ≤ b + reach → a + p ≤ d + b + reach → (from ≤ n) × (n < below)
+within-reach from below workers r g b p a d reach n some is enough low next start end down more up less =
+    let sum : (b + r) * g ≡ b * g + r * g = with-own b r g in
+    let any : workers < workers + below = smaller workers (workers + below) a (omega (arith, sum, low, end)) in
+    let apart : workers + from < workers + below = smaller (workers + from) (workers + below) a (omega (arith, start, end)) in
+    let own : (p + r) * g ≡ p * g + r * g = with-own p r g in
+    let low_ : workers * d ≤ (p + 0) * g = still-reached workers 0 g b p a d reach (omega (arith, enough)) (omega (arith, low)) down more in
+    let next_ : (p + 0) * g < (workers + 1) * d = still-below (workers + 1) 0 g b p a d reach (omega (arith, enough, any)) (omega (arith, next)) up less in
+    let start_ : (workers + from) * d ≤ (p + r) * g = still-reached (workers + from) r g b p a d reach (omega (arith, enough, apart)) start down more in
+    let end_ : (p + r) * g < (workers + below) * d = still-below (workers + below) r g b p a d reach enough end up less in (
+      apart-from from workers d (p * g) ((p + r) * g) n some start_ (omega (arith, next_)) is,
+      apart-below below workers d (p * g) ((p + r) * g) n some (omega (arith, low_)) (omega (arith, own)) end_ is,
+    )
 
 -- ---- arenas of one level
 

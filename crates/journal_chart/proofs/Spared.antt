@@ -1,8 +1,10 @@
 -- Where the place of an arena is known, no market is asked of it, and what it is allotted is covered all the same.
-use Rattle.std.specs.Prelude.{◌&&◌, nat_lt, slice_index}
-use Rattle.std.proofs.Common.{◌≡◌, ℕ, ◌+◌, ◌-◌, ◌*◌, ◌/◌, ◌^◌, ◌<◌, ◌≤◌, true, None, Some, Option, sym, ◌∙◌, subst, arith}
+use Rattle.std.specs.Prelude.{◌&&◌, ◌==◌, nat_le, nat_lt, slice_index}
+use Rattle.std.proofs.Common.{◌≡◌, ℕ, zero, suc, ◌+◌, ◌-◌, ◌*◌, ◌/◌, ◌%◌, ◌^◌, ◌<◌, ◌≤◌, min, true, None, Some, Option, refl, sym, ap, ◌∙◌, subst, arith, inl, inr}
+use Rattle.std.proofs.lemmas.Bool.{cases_Bool}
 use Rattle.std.proofs.lemmas.Bool.Decides.{nat_tests}
-use Rattle.std.proofs.lemmas.Nat.{div_below, le-div}
+use Rattle.std.proofs.lemmas.Nat.{mod_below}
+use Rattle.std.proofs.Math.Nat.{div-add-mod}
 use Rattle.market_types.specs.State.{Arena, State}
 use Rattle.market_types.specs.Claims.{request_of}
 use Rattle.market_types.specs.Allotment.{allotment_of, assigned, at_level, demand}
@@ -12,120 +14,155 @@ use Rattle.journal_chart.specs.declared.covered.Covered.{Covered}
 use Rattle.journal_chart.specs.declared.row.Known.{Known}
 use Rattle.journal_chart.specs.declared.spot.Spot.{Spot}
 use Rattle.journal_chart.specs.Shares.{shared_at, shared_of}
-use Rattle.journal_chart.specs.Spots.{is_below, is_from, is_near, least_before, most_before, no_spot, spares, spot_by}
+use Rattle.journal_chart.specs.Spots.{holds, is_told, no_spot, reach_of, spot_by, spot_told, spot_within}
 use Rattle.journal_chart.specs.Steps.{is_divided, is_spared}
 use Rattle.journal_chart.proofs.Bounds.{Whole, both}
 use Rattle.journal_chart.proofs.Kept.{Fine, found-number}
-use Rattle.journal_chart.proofs.Placed.{allotment-placed, below-placed, from-placed}
-use Rattle.journal_chart.proofs.Sharing.{Divides, divides, leveled, shared-asked, shared-given}
-use Rattle.journal_chart.proofs.Spots.{IsPlaced, IsSpot}
+use Rattle.journal_chart.proofs.Placed.{allotment-placed, quotient-parts, within-reach}
+use Rattle.journal_chart.proofs.Sharing.{divides, leveled, shared-asked, shared-given}
+use Rattle.journal_chart.proofs.Spots.{IsNear, IsPlaced, IsSpot, Spares}
 
 -- ---- places that are right
 
 -- no place is known
-pub spot-none : (s : State) (a drift : ℕ) → IsSpot s a drift no_spot
-spot-none s a drift = λ some before x found. absurd (omega (arith, some))
+pub spot-none : (s : State) (a drift : ℕ) (k : Known) → k.spot ≡ no_spot → IsSpot s a drift k
+spot-none s a drift k none = λ some small x found.
+    let nothing : k.spot.until + k.spot.asked ≡ 0 = ap (λ (o : Spot). o.until + o.asked) none in
+    absurd (omega (arith, some, nothing))
+
+-- a part of the least of four numbers is no more than each of them
+least-parts : (w x y z g : ℕ) → 0 < g
+    → (min (min w x) (min y z) / g * g ≤ w) × ((min (min w x) (min y z) / g * g ≤ x) × ((min (min w x) (min y z) / g * g ≤ y) × (min (min w x) (min y z) / g * g ≤ z)))
+least-parts w x y z g some =
+    let least : ℕ = min (min w x) (min y z) in
+    let part : least / g * g ≤ least = (quotient-parts least g some).0 in
+    (omega (arith, part), (omega (arith, part), (omega (arith, part), omega (arith, part))))
+
+-- a product that is greater than a number is of no 0
+some-factor : (n m d : ℕ) → n < m * d → 0 < d
+some-factor n m zero less = absurd (omega (arith, less))
+some-factor n m (suc d) less = omega arith
+
+-- within the reach of an arena what it is allotted is covered
+reach-spares : (c : Covered) (r b g a e : ℕ) → 0 < g → is_told c r b g a (b * g / a) ≡ true
+    → Spares c r (spot_within (reach_of c r b g a (b * g / a)) g a e) e b a
+reach-spares c r b g a e some told p d n near some_d is =
+    let w : ℕ = b * g / a in
+    let t = both (nat_le (w + c.below) g) (nat_le ((w + c.from) * a) ((b + r) * g) && nat_lt ((b + r) * g) ((w + c.below) * a)) told in
+    let u = both (nat_le ((w + c.from) * a) ((b + r) * g)) (nat_lt ((b + r) * g) ((w + c.below) * a)) t.1 in
+    let enough : w + c.below ≤ g = let h = t.0 in grind (arith, nat_tests) in
+    let start : (w + c.from) * a ≤ (b + r) * g = let h = u.0 in grind (arith, nat_tests) in
+    let end : (b + r) * g < (w + c.below) * a = let h = u.1 in grind (arith, nat_tests) in
+    let any : 0 < a = some-factor ((b + r) * g) (w + c.below) a end in
+    let over : ℕ = b * g % a in
+    let reach : ℕ = reach_of c r b g a w in
+    let parts = least-parts over (a - 1 - over) ((b + r) * g - (w + c.from) * a) ((w + c.below) * a - 1 - (b + r) * g) g some in
+    let whole : a * w + over ≡ b * g = div-add-mod (b * g) a in
+    let rest : over < a = mod_below (b * g) a any in
+    let turned : a * w ≡ w * a = omega arith in
+    let next : (w + 1) * a ≡ w * a + a = omega arith in
+    within-reach c.from c.below w r g b p a d reach n some_d is enough
+    (low (w * a) over (b * g) (reach * g) (sym (ap (λ k. k + over) turned) ∙ whole) parts.0)
+    (high (w * a) over (b * g) (reach * g) a ((w + 1) * a) (sym (ap (λ k. k + over) turned) ∙ whole) rest next parts.1.0)
+    (far ((w + c.from) * a) ((b + r) * g) (reach * g) start parts.1.1.0)
+    (short ((w + c.below) * a) ((b + r) * g) (reach * g) end parts.1.1.1)
+    (omega (arith, near.down)) (omega (arith, near.more)) (omega (arith, near.up)) (omega (arith, near.less))
+  where
+    low : (x over y k : ℕ) → x + over ≡ y → k ≤ over → x + k ≤ y
+    low x over y k is less = omega (arith, is, less)
+
+    high : (x over y k a next : ℕ) → x + over ≡ y → over < a → next ≡ x + a → k ≤ a - 1 - over → y + k < next
+    high x over y k a next is rest more less = omega (arith, is, rest, more, less)
+
+    far : (x y k : ℕ) → x ≤ y → k ≤ y - x → x + k ≤ y
+    far x y k on less = omega (arith, on, less)
+
+    short : (x y k : ℕ) → y < x → k ≤ x - 1 - y → y + k < x
+    short x y k on less = omega (arith, on, less)
 
 -- an arena stands just where it was found to stand
-placed-new : (t : State) (a drift given : ℕ) (y : Arena) → Fine t → arena_at a t.arenas ≡ Some y → 1 ≤ y.level → y.level ≤ 8
-    → IsPlaced t a drift (spot_by None (asked_ahead a (at_level y.level t.arenas)) given (slice_index (shared_of t).asked (y.level - 1)) drift) y
-placed-new t a drift given y fine found low few =
-    let asked : slice_index (shared_of t).asked (y.level - 1) ≡ demand t y.level = shared-asked t y.level low few (leveled t a y fine found) in
-    record {
-      low = low;
-      few = few;
-      past = omega arith;
-      least = omega (arith, asked);
-      most = omega (arith, asked);
-    }
+spot-placed : (t : State) (a e given asked : ℕ) (y : Arena) (k : Known) → arena_at a t.arenas ≡ Some y → 1 ≤ y.level → y.level ≤ 8
+    → asked ≡ demand t y.level
+    → IsSpot t a e (record k { spot = spot_by k.covered k.request (asked_ahead a (at_level y.level t.arenas)) given asked e })
+spot-placed t a e given asked y k found low few is =
+    let b : ℕ = asked_ahead a (at_level y.level t.arenas) in
+    let told : _ = nat_lt 0 given && (is_told k.covered k.request b given asked (b * given / asked) && nat_lt e (2 ^ 30)) in
+    elim (cases_Bool told) [
+      | inl yes_ ↦
+          let g = both (nat_lt 0 given) (is_told k.covered k.request b given asked (b * given / asked) && nat_lt e (2 ^ 30)) yes_ in
+          let h = both (is_told k.covered k.request b given asked (b * given / asked)) (nat_lt e (2 ^ 30)) g.1 in
+          let some : 0 < given = let p = g.0 in grind (arith, nat_tests) in
+          let spares = reach-spares k.covered k.request b given asked e some h.0 in
+          rw yes_ (λ any small x there.
+          let which : Some y ≡ Some x = sym found ∙ there in
+          let same : y ≡ x = cc in
+          subst (IsPlaced t a e k.covered k.request (spot_within (reach_of k.covered k.request b given asked (b * given / asked)) given asked e)) same
+          (record {
+            low = low;
+            few = few;
+            spares = subst (Spares k.covered k.request (spot_within (reach_of k.covered k.request b given asked (b * given / asked)) given asked e) e b) is spares;
+          }))
+      | inr not ↦ rw not (spot-none t a e (record k { spot = no_spot }) refl)
+    ]
 
--- where the market is asked, the place is right
-pub spot-new : (t : State) (a drift given : ℕ) (y : Arena) (told : Option ℕ) → Fine t → arena_at a t.arenas ≡ Some y
-    → 1 ≤ y.level → y.level ≤ 8
-    → IsSpot t a drift (spot_by told (asked_ahead a (at_level y.level t.arenas)) given (slice_index (shared_of t).asked (y.level - 1)) drift)
-spot-new t a drift given y (Some share) fine found low few = spot-none t a drift
-spot-new t a drift given y None fine found low few = λ some before x is.
-    let which : Some y ≡ Some x = sym found ∙ is in
-    let same : y ≡ x = cc in
-    let asked : ℕ = slice_index (shared_of t).asked (y.level - 1) in
-    subst (IsPlaced t a drift (spot_by None (asked_ahead a (at_level y.level t.arenas)) given asked drift)) same
-    (placed-new t a drift given y fine found low few)
+-- where the market is asked, the spot is right
+pub spot-new : (t : State) (a e given asked : ℕ) (y : Arena) (k : Known) (place : Option ℕ) → arena_at a t.arenas ≡ Some y → 1 ≤ y.level → y.level ≤ 8
+    → asked ≡ demand t y.level → ((before : ℕ) → place ≡ Some before → before ≡ asked_ahead a (at_level y.level t.arenas))
+    → IsSpot t a e (record k { spot = spot_told place k.covered k.request given asked e })
+spot-new t a e given asked y k None found low few is at = spot-none t a e (record k { spot = no_spot }) refl
+spot-new t a e given asked y k (Some before) found low few is at =
+    subst (λ b. IsSpot t a e (record k { spot = spot_by k.covered k.request b given asked e })) (sym (at before refl))
+    (spot-placed t a e given asked y k found low few is)
 
 -- ---- what a place spares
 
--- a place that is near was told, of a level that asks for somebody, and the drift has not come to its end
-near-parts : (was asked moved drift top : ℕ) → (nat_lt moved asked && (nat_lt 0 was && nat_lt drift top)) ≡ true
-    → (0 < was) × ((0 < asked) × (drift < top))
-near-parts was asked moved drift top h =
-    let t = both (nat_lt moved asked) (nat_lt 0 was && nat_lt drift top) h in
-    let near = both (nat_lt 0 was) (nat_lt drift top) t.1 in
-    let less : moved < asked = let e = t.0 in grind (arith, nat_tests) in
-    let told : 0 < was = let e = near.0 in grind (arith, nat_tests) in
-    let below : drift < top = let e = near.1 in grind (arith, nat_tests) in
-    (told, (omega (arith, less), below))
+-- what the tests of a spot say
+record Holds (o : Spot) (drift given asked : ℕ) : Type 0 where
+  given_is : o.given ≡ given
+  small : drift < 2 ^ 32 - 1
+  high : drift + asked ≤ o.until + o.asked
+  low : drift + o.asked ≤ o.until + asked
 
--- no less is asked for before an arena than its place says
-least-placed : (before since was now d p : ℕ) → since ≤ now → 2 * before + d + since ≤ 2 * p + now + was
-    → (2 * before + d - (now - since + was)) / 2 ≤ p
-least-placed before since was now d p past least =
-    let less : (2 * before + d - (now - since + was)) / 2 < p + 1 =
-    div_below (2 * before + d - (now - since + was)) 2 (p + 1) (omega arith) (omega (arith, past, least)) in
-    omega (arith, less)
-
--- and no more
-most-placed : (before since was now d p : ℕ) → since ≤ now → 2 * p + was + since ≤ 2 * before + now + d
-    → p ≤ (2 * before + (now - since) + d - was) / 2
-most-placed before since was now d p past most =
-    le-div p (2 * before + (now - since) + d - was) 2 (omega arith) (omega (arith, past, most))
-
--- what lies between the quotients of a place is covered, if the place spares it
-placed-covers : (o : Spot) (e : ℕ) (c : Covered) (r g d p n : ℕ) → 0 < d → least_before o e d ≤ p → p ≤ most_before o e d
-    → n ≡ (p + r) * g / d - p * g / d
-    → (is_from c.from r g d (least_before o e d) (most_before o e d) o.workers
-    && is_below c.below r g d (least_before o e d) (most_before o e d) o.workers) ≡ true
-    → (c.from ≤ n) × (n < c.below)
-placed-covers o e c r g d p n some low high is h =
-    let t =
-    both (is_from c.from r g d (least_before o e d) (most_before o e d) o.workers)
-    (is_below c.below r g d (least_before o e d) (most_before o e d) o.workers) h in (
-      from-placed c.from r g d (least_before o e d) (most_before o e d) o.workers p n some low high is t.0,
-      below-placed c.below r g d (least_before o e d) (most_before o e d) o.workers p n some low high is t.1,
-    )
-
--- an arena that stands where its place says is allotted what is covered, if its place spares it
-spared-at : (whole : Whole) (t : State) (a e : ℕ) (y : Arena) (o : Spot) (c : Covered) → Fine t → arena_at a t.arenas ≡ Some y → Divides t y.level
-    → IsSpot t a e o → spares o e c (request_of y.claim) (assigned t y.level) (demand t y.level) ≡ true
-    → (c.from ≤ allotment_of t a) × (allotment_of t a < c.below)
-spared-at whole t a e y o c fine found d spot h =
-    let r : ℕ = request_of y.claim in
-    let given : ℕ = assigned t y.level in
-    let asked : ℕ = demand t y.level in
-    let p : ℕ = asked_ahead a (at_level y.level t.arenas) in
-    let least : ℕ = least_before o e asked in
-    let most : ℕ = most_before o e asked in
-    let s = both (is_near o e given asked) (is_from c.from r given asked least most o.workers && is_below c.below r given asked least most o.workers) h in
-    let near = near-parts o.asked asked ((e - o.drift) * given) e (2 ^ 32 - 1) s.0 in
-    let is : IsPlaced t a e o y = spot near.0 near.1.1 y found in
-    placed-covers o e c r given asked p (allotment_of t a) near.1.0 (least-placed o.before o.drift o.asked e asked p is.past is.least)
-    (most-placed o.before o.drift o.asked e asked p is.past is.most)
-    (allotment-placed whole a t y fine.once d.any found d.low (leveled t a y fine found) near.1.0) s.1
+holding : (o : Spot) (drift given asked : ℕ) → holds o drift given asked ≡ true → Holds o drift given asked
+holding o drift given asked h =
+    let t = both (o.given == given) (nat_lt drift (2 ^ 32 - 1) && (nat_le (drift + asked) (o.until + o.asked) && nat_le (drift + o.asked) (o.until + asked))) h in
+    let u = both (nat_lt drift (2 ^ 32 - 1)) (nat_le (drift + asked) (o.until + o.asked) && nat_le (drift + o.asked) (o.until + asked)) t.1 in
+    let v = both (nat_le (drift + asked) (o.until + o.asked)) (nat_le (drift + o.asked) (o.until + asked)) u.1 in
+    record {
+      given_is = let e = t.0 in grind (arith, nat_tests);
+      small = let e = u.0 in grind (arith, nat_tests);
+      high = let e = v.0 in grind (arith, nat_tests);
+      low = let e = v.1 in grind (arith, nat_tests);
+    }
 
 -- what is spared is covered
 pub spared-covers : (whole : Whole) (t : State) (a e : ℕ) (y : Arena) (k : Known) → Fine t → arena_at a t.arenas ≡ Some y
-    → request_of y.claim ≡ k.request → IsSpot t a e k.spot → is_spared (shared_at t e) k y.level ≡ true
+    → request_of y.claim ≡ k.request → IsSpot t a e k → is_spared (shared_at t e) k y.level ≡ true
     → (k.covered.from ≤ allotment_of t y.number) × (allotment_of t y.number < k.covered.below)
 spared-covers whole t a e y k fine found request spot h =
     let g : ℕ = slice_index (shared_of t).given (y.level - 1) in
     let d : ℕ = slice_index (shared_of t).asked (y.level - 1) in
-    let s = both (is_divided (shared_of t) y.level) (spares k.spot e k.covered k.request g d) h in
+    let b : ℕ = asked_ahead a (at_level y.level t.arenas) in
+    let s = both (is_divided (shared_of t) y.level) (nat_lt 0 d && holds k.spot e g d) h in
+    let u = both (nat_lt 0 d) (holds k.spot e g d) s.1 in
+    let any : 0 < d = let p = u.0 in grind (arith, nat_tests) in
+    let held = holding k.spot e g d u.1 in
     let levels = divides t y.level s.0 in
     let high : y.level ≤ t.levels = leveled t a y fine found in
-    let given = shared-given t y.level levels.low levels.few high in
-    let asked = shared-asked t y.level levels.low levels.few high in
+    let given : g ≡ assigned t y.level = shared-given t y.level levels.low levels.few high in
+    let asked : d ≡ demand t y.level = shared-asked t y.level levels.low levels.few high in
     let number : y.number ≡ a = found-number a t.arenas y found in
-    let own : spares k.spot e k.covered (request_of y.claim) (assigned t y.level) (demand t y.level) ≡ true =
-    subst (λ r. spares k.spot e k.covered r (assigned t y.level) (demand t y.level) ≡ true) (sym request)
-    (subst (λ v. spares k.spot e k.covered k.request v (demand t y.level) ≡ true) given
-    (subst (λ v. spares k.spot e k.covered k.request g v ≡ true) asked s.1)) in
+    let placed : IsPlaced t a e k.covered k.request k.spot y = spot (omega (arith, any, held.high)) held.small y found in
+    let near : IsNear k.spot e b (demand t y.level) b (demand t y.level) =
+    record {
+      up = omega (arith, asked, held.high);
+      more = omega (arith, asked, held.high);
+      down = omega (arith, asked, held.low);
+      less = omega (arith, asked, held.low);
+    } in
+    let some : 0 < demand t y.level = subst (λ n. 0 < n) asked any in
+    let share : allotment_of t a ≡ (b + k.request) * k.spot.given / demand t y.level - b * k.spot.given / demand t y.level =
+    allotment-placed whole a t y fine.once levels.any found levels.low high some
+    ∙ (λ i. (b + request i) * (sym given ∙ sym held.given_is) i / demand t y.level - b * (sym given ∙ sym held.given_is) i / demand t y.level) in
     subst (λ n. (k.covered.from ≤ allotment_of t n) × (allotment_of t n < k.covered.below)) (sym number)
-    (spared-at whole t a e y k.spot k.covered fine found levels spot own)
+    (placed.spares b (demand t y.level) (allotment_of t a) near some share)

@@ -1,27 +1,40 @@
 -- What is known of the place of an arena in its level, from one moment to the next.
-use Rattle.std.proofs.Common.{◌≡◌, ℕ, ◌+◌, ◌-◌, ◌*◌, ◌^◌, ◌<◌, ◌≤◌, Option, None, Some, refl}
+use Rattle.std.proofs.Common.{◌≡◌, ℕ, ◌+◌, ◌-◌, ◌*◌, ◌/◌, ◌^◌, ◌<◌, ◌≤◌, Option, None, Some, refl}
 use Rattle.market_core.specs.Ahead.{asked_ahead}
 use Rattle.market_types.specs.State.{Arena, State}
-use Rattle.market_types.specs.Allotment.{at_level, demand}
+use Rattle.market_types.specs.Allotment.{at_level, total_request}
 use Rattle.market_types.specs.Step.{arena_at}
 use Rattle.market_types.specs.declared.reply.ArenaView.{ArenaView}
+use Rattle.journal_chart.specs.declared.covered.Covered.{Covered}
 use Rattle.journal_chart.specs.declared.row.Known.{Known}
 use Rattle.journal_chart.specs.declared.spot.Spot.{Spot}
 use Rattle.journal_chart.specs.Rows.{Row}
 use Rattle.journal_chart.specs.Spots.{no_spot}
 use Rattle.journal_chart.specs.Steps.{known_of}
 
--- what is asked for before an arena lies where its spot says, once the levels have drifted so far
-pub record IsPlaced (s : State) (a drift : ℕ) (o : Spot) (x : Arena) : Type 0 where
+-- where `p` are asked for before an arena, `d` in all, it is as near to where it stands as its spot allows, once the levels have drifted so far: where it
+-- stands `b` are asked for before it, `a` in all
+pub record IsNear (o : Spot) (drift b a p d : ℕ) : Type 0 where
+  pub up : 2 * p + drift + a ≤ 2 * b + o.until + o.asked
+  pub more : 2 * d + 2 * b + drift ≤ a + 2 * p + o.until + o.asked
+  pub down : 2 * b + drift + o.asked ≤ 2 * p + o.until + a
+  pub less : 2 * p + drift + o.asked + a ≤ 2 * d + 2 * b + o.until
+
+-- wherever it is as near as that, what it is allotted is covered
+abbrev pub Spares : Covered → ℕ → Spot → ℕ → ℕ → ℕ → Type 0
+Spares c request o drift b a =
+    (p d n : ℕ) → IsNear o drift b a p d → 0 < d → n ≡ (p + request) * o.given / d - p * o.given / d → (c.from ≤ n) × (n < c.below)
+
+pub record IsPlaced (s : State) (a drift : ℕ) (c : Covered) (request : ℕ) (o : Spot) (x : Arena) : Type 0 where
   pub low : 1 ≤ x.level
   pub few : x.level ≤ 8
-  pub past : o.drift ≤ drift
-  pub least : 2 * o.before + demand s x.level + o.drift ≤ 2 * asked_ahead a (at_level x.level s.arenas) + drift + o.asked
-  pub most : 2 * asked_ahead a (at_level x.level s.arenas) + o.asked + o.drift ≤ 2 * o.before + drift + demand s x.level
+  pub spares : Spares c request o drift (asked_ahead a (at_level x.level s.arenas)) (total_request (at_level x.level s.arenas))
 
--- a spot that says where its arena stands is right, if it lives
-abbrev pub IsSpot : State → ℕ → ℕ → Spot → Type 0
-IsSpot s a drift o = 0 < o.asked → drift < 2 ^ 32 - 1 → (x : Arena) → arena_at a s.arenas ≡ Some x → IsPlaced s a drift o x
+-- the spot that is known of an arena is right, if it lives, and its place is known
+abbrev pub IsSpot : State → ℕ → ℕ → Known → Type 0
+IsSpot s a drift k =
+    0 < k.spot.until + k.spot.asked → drift < 2 ^ 32 - 1 → (x : Arena) → arena_at a s.arenas ≡ Some x
+    → IsPlaced s a drift k.covered k.request k.spot x
 
 -- ---- what is known of an arena, but for its spot
 

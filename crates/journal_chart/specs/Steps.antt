@@ -16,7 +16,7 @@ use Rattle.journal_chart.specs.Lines.{added, at, halved}
 use Rattle.journal_chart.specs.Covering.{covered, covers, exactly, none_covered}
 use Rattle.market_core.specs.Ahead.{asked_ahead}
 use Rattle.journal_chart.specs.declared.spot.Spot.{Spot}
-use Rattle.journal_chart.specs.Spots.{no_spot, spares, spot_by}
+use Rattle.journal_chart.specs.Spots.{holds, no_spot, place_told, spot_told}
 use Rattle.journal_chart.specs.Shares.{Shared, all_asked, apart, placed_of, shared_at, shared_of}
 use Rattle.journal_chart.specs.Columns.{width_of}
 use Rattle.journal_chart.specs.Numbers.{Charted, Drawn, view_at}
@@ -227,23 +227,33 @@ share_of s now k a level =
 -- nothing is added to the column of an arena of a level, of which this is known, wherever in the level it may stand
 abbrev pub is_spared : Shared → Known → ℕ → Bool
 is_spared now k level =
-    is_divided now level && spares k.spot now.drift k.covered k.request (slice_index now.given (level - 1)) (slice_index now.asked (level - 1))
+    is_divided now level
+    && (nat_lt 0 (slice_index now.asked (level - 1)) && holds k.spot now.drift (slice_index now.given (level - 1)) (slice_index now.asked (level - 1)))
 
 abbrev pub is_spared_at : Shared → Known → Option ℕ → Bool
 is_spared_at now k None = false
 is_spared_at now k (Some level) = is_spared now k level
 
--- where an arena stands of which the market was asked, if it was
-abbrev pub spot_of : State → Shared → Known → ℕ → Option ℕ → Spot
-spot_of s now k a None = no_spot
-spot_of s now k a (Some level) =
+-- what is asked for before an arena of a level, of which this is known, if that may be of use
+abbrev pub place_of : State → Shared → Known → ℕ → ℕ → Option ℕ
+place_of s now k a level =
     if is_divided now level
-    then spot_by (exactly k.request (slice_index now.given (level - 1)) (slice_index now.asked (level - 1))) (asked_ahead a (at_level level s.arenas)) (slice_index now.given (level - 1)) (slice_index now.asked (level - 1)) now.drift
-    else no_spot
+    then place_told (exactly k.request (slice_index now.given (level - 1)) (slice_index now.asked (level - 1))) (asked_ahead a (at_level level s.arenas)) (slice_index now.given (level - 1)) (slice_index now.asked (level - 1))
+    else None
+
+-- where an arena stands of which the market was asked, if it was, once this is covered
+abbrev pub spot_of : State → Shared → Known → ℕ → Option ℕ → Covered → Spot
+spot_of s now k a None c = no_spot
+spot_of s now k a (Some level) c =
+    spot_told (place_of s now k a level) c k.request (slice_index now.given (level - 1)) (slice_index now.asked (level - 1)) now.drift
 
 -- what becomes of a row, and what is known of its arena, whose spot is this
 abbrev pub spotted : Spot → Row × Known → Row × Known
 spotted spot p = (p.0, record p.1 { spot = spot })
+
+-- the same of a spot that goes by what is then covered
+abbrev pub respotted : (Covered → Spot) → Row × Known → Row × Known
+respotted spot p = spotted (spot p.1.covered) p
 
 -- a number in the column of the last moment, at which it was this: it adds something only where it changed
 abbrev pub changed : ℕ → ℕ → ℕ → List (Option Span) → List (Option Span)
@@ -310,7 +320,7 @@ near_row place s cmd reply now kept r k =
     else if stands_kept kept r.stands then (r, k)
     else if is_covered_at now k r.stands then (r, k)
     else if is_spared_at now k r.stands then (r, k)
-    else spotted (spot_of s now k r.arena r.stands) (closed_row place s cmd reply k r r (option_map (share_of s now k r.arena) r.stands))
+    else respotted (spot_of s now k r.arena r.stands) (closed_row place s cmd reply k r r (option_map (share_of s now k r.arena) r.stands))
 
 -- such a row after a command of a seat
 abbrev pub seat_row : ℕ → State → Cmd → Reply → Bool → Shared → Row → Known → Row × Known

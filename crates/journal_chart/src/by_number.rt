@@ -11,14 +11,12 @@ ghost use Rattle.journal_chart.specs.Numbering.{AreNumbered};
 ghost use Rattle.journal_chart.specs.Resting.{AreLeft};
 ghost use Rattle.journal_chart.specs.Shares.{shared_at};
 ghost use Rattle.journal_chart.specs.Covering.{exactly};
-ghost use Rattle.journal_chart.specs.Spots.{no_spot, spares, spot_by};
+ghost use Rattle.journal_chart.specs.Spots.{no_spot, place_told, spot_told};
 ghost use Rattle.market_core.specs.Ahead.{asked_ahead};
-ghost use Rattle.journal_chart.specs.Steps.{closed_row, near_row, own_row, pairwise, retold, seat_row, spotted, subject};
+ghost use Rattle.journal_chart.specs.Steps.{closed_row, near_row, own_row, pairwise, respotted, retold, seat_row, spotted, subject};
 
-use crate::covered::exactly;
-use crate::nearby::{own_row, retold, seat_row};
+use crate::nearby::{own_row, portion_of_level, retold, seat_row, settle_share};
 use crate::numbering::place_of;
-use crate::passing::has_share;
 use crate::row::{Known, Row};
 use crate::shares::Shares;
 use crate::spot::Spot;
@@ -26,7 +24,7 @@ use market_core::Market;
 use market_types::{ArenaId, Cmd, Level, Reply};
 
 /// Takes the moment after an entry, which is about another arena, into the column of the last moment, of an arena of a level that is given this of
-/// what it asks for. A row whose column has what the arena is allotted, or all that it may be wherever it stands, is left as it is.
+/// what it asks for. A row whose column has what the arena is allotted is left as it is.
 // By what the level is given, so that the market need not reckon that anew for each arena that it is asked about.
 #[inline(never)]
 fn settle_given(
@@ -45,27 +43,12 @@ fn settle_given(
     requires small { asked ≤ 1024 * 65535 }
     requires given { level ≤ market.now.levels → given ≡ assigned market.now level }
     requires asked { level ≤ market.now.levels → asked ≡ demand market.now level }
-    ensures { (cmd : Cmd) (reply : Reply) → (row.new, known.new) ≡ (if spares known.old.spot drift known.old.covered known.old.request given asked then (row.old, known.old) else spotted (spot_by (exactly known.old.request given asked) (asked_ahead row.old.arena (at_level level market.now.arenas)) given asked drift) (closed_row place market.now cmd reply known.old row.old row.old (Some (unwrap_or (exactly known.old.request given asked) (allotment_of market.now row.old.arena))))) }
+    ensures { (cmd : Cmd) (reply : Reply) → (row.new, known.new) ≡ respotted (λ c. spot_told (place_told (exactly known.old.request given asked) (asked_ahead row.old.arena (at_level level market.now.arenas)) given asked) c known.old.request given asked drift) (closed_row place market.now cmd reply known.old row.old row.old (Some (unwrap_or (exactly known.old.request given asked) (allotment_of market.now row.old.arena)))) }
 {
-    // Here, and not in the walk over the rows, whose few words it would drive out of the registers.
-    if known
-        .spot
-        .spares(drift, known.covered, known.request, given, asked)
-    {
-        return;
-    }
-    let (share, spot) = match exactly(known.request, given, asked) {
-        Some(share) => (share, Spot::none()),
-        None => {
-            let portion = market.portion_at(row.arena(), level, given, asked);
-            let spot = Spot::of(portion.before, given, asked, drift);
-            (portion.workers, spot)
-        }
-    };
-    if !has_share(known, share) {
-        *known = row.tell(place, known, share);
-    }
-    known.spot = spot;
+    let request = known.request;
+    let (share, before) = portion_of_level(market, row.arena(), request, level, given, asked);
+    settle_share(row, known, place, share);
+    known.spot = Spot::told(before, known.covered, request, given, asked, drift);
 }
 
 /// Takes the moment after an entry into the column of the last moment, of the row of another arena than the one that the entry is about, and what is
@@ -96,9 +79,13 @@ fn level_row(
     if !row.is_at(level) {
         return;
     }
-    if !known.covered.covers_some(known.request, given, asked) {
-        settle_given(row, known, place, market, level, given, asked, drift);
+    if known.covered.covers_some(known.request, given, asked) {
+        return;
     }
+    if known.spot.holds(drift, given, asked) {
+        return;
+    }
+    settle_given(row, known, place, market, level, given, asked, drift);
 }
 
 /// Takes the moment after an entry that is about this arena into the column of its row, and what is then known of it, where some worker may be

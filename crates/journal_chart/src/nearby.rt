@@ -1,6 +1,6 @@
 //! The rows of a chart at a moment that goes into the column of the last, and at one that begins a column after another.
-ghost use Rattle.std.specs.Prelude.{◌≡◌, ℕ, ◌<◌, ◌≤◌, false, true, IfSome, Some, drop, if◌then◌else◌, length, map, option_map, unwrap_or};
-ghost use Rattle.market_types.specs.Allotment.{allotment_of, is_just};
+ghost use Rattle.std.specs.Prelude.{◌≡◌, ℕ, ◌*◌, ◌<◌, ◌≤◌, false, true, IfSome, Some, drop, if◌then◌else◌, length, map, option_map, unwrap_or};
+ghost use Rattle.market_types.specs.Allotment.{allotment_of, assigned, at_level, demand, is_just, limit_of};
 ghost use Rattle.market_types.specs.State.{State};
 ghost use Rattle.market_types.specs.declared.command.Cmd.{Cmd};
 ghost use Rattle.market_types.specs.declared.reply.Reply.{Reply};
@@ -9,8 +9,11 @@ ghost use Rattle.market_core.specs.Divided.{IsDivisionOf};
 ghost use Rattle.journal_chart.specs.Unkept.{AreUnkept};
 ghost use Rattle.journal_chart.specs.Numbering.{AreNumbered};
 ghost use Rattle.journal_chart.specs.Resting.{AreLeft};
+ghost use Rattle.market_core.specs.Ahead.{asked_ahead};
+ghost use Rattle.journal_chart.specs.Covering.{exactly};
 ghost use Rattle.journal_chart.specs.Shares.{shared_at, shared_of};
-ghost use Rattle.journal_chart.specs.Steps.{after_seat, closed_row, each_row, first_row, first_rows, is_spared, kept_levels, known_rows, near_row, needing_row, own_row, pairwise, requested, retold, seat_row, seat_rows, seated, settled_row, share_of, shared_after, spot_of, spotted, subject, taken_row};
+ghost use Rattle.journal_chart.specs.Spots.{place_told};
+ghost use Rattle.journal_chart.specs.Steps.{after_seat, closed_row, each_row, first_row, first_rows, is_spared, kept_levels, known_rows, near_row, needing_row, own_row, pairwise, place_of, requested, respotted, retold, seat_row, seat_rows, seated, settled_row, share_of, shared_after, spot_of, spotted, subject, taken_row};
 
 use crate::by_number::{own_row_numbered, rows_numbered, seat_row_numbered};
 use crate::covered::exactly;
@@ -137,8 +140,37 @@ fn settle(
     }
 }
 
-/// What the market tells of an arena of a level, of which this is known, where it is asked: what it is allotted, and where it stands, if that may be of
-/// use.
+/// What an arena of a level is allotted that asks for so many workers, where the level is given so many of what it asks for; and what is asked for
+/// before it, if the market has to be asked, and that may be of use: where the level asks for 64 times as many as it is given, and more.
+// In another level a few entries take an arena out of its reach, so that its spot would not be worth what it takes.
+#[inline(always)]
+pub(crate) fn portion_of_level(
+    market: &Market,
+    arena: ArenaId,
+    request: u32,
+    level: Level,
+    given: u64,
+    asked: u64,
+) -> (u32, Option<u32>)
+    requires some { 0 < limit_of market.now }
+    requires within { given ≤ asked }
+    requires small { asked ≤ 1024 * 65535 }
+    requires given { level ≤ market.now.levels → given ≡ assigned market.now level }
+    requires asked { level ≤ market.now.levels → asked ≡ demand market.now level }
+    ensures share { result.0 ≡ unwrap_or (exactly request given asked) (allotment_of market.now arena) }
+    ensures before { result.1 ≡ place_told (exactly request given asked) (asked_ahead arena (at_level level market.now.arenas)) given asked }
+{
+    if let Some(share) = exactly(request, given, asked) {
+        return (share, None);
+    }
+    if 64 * given <= asked {
+        let portion = market.portion_at(arena, level, given, asked);
+        return (portion.workers, Some(portion.before));
+    }
+    (market.allotment_at(arena, level, given, asked), None)
+}
+
+/// The same of an arena of a level, of which this is known.
 fn portion_of<const DIVIDED: bool>(
     market: &Market,
     division: &mut Option<Division>,
@@ -146,12 +178,12 @@ fn portion_of<const DIVIDED: bool>(
     known: &Known,
     arena: ArenaId,
     level: Level,
-) -> (u32, Spot)
+) -> (u32, Option<u32>)
     requires found { DIVIDED ≡ true → 0 < now.now.limit }
     requires shares { now.now ≡ shared_at market.now now.now.drift }
     requires divided { IfSome division.old (IsDivisionOf market.now) }
     ensures share { result.0 ≡ share_of market.now now.now known.now arena level }
-    ensures spot { result.1 ≡ spot_of market.now now.now known.now arena (Some level) }
+    ensures before { result.1 ≡ place_of market.now now.now known.now arena level }
     ensures divided { IfSome division.new (IsDivisionOf market.now) }
 {
     if !is_divided::<DIVIDED>(now, level) {
@@ -160,16 +192,26 @@ fn portion_of<const DIVIDED: bool>(
         } else {
             allotted(market, division, arena)
         };
-        return (share, Spot::none());
+        return (share, None);
     }
-    let (given, asked) = (now.given(level), now.asked(level));
-    match exactly(known.request, given, asked) {
-        Some(share) => (share, Spot::none()),
-        None => {
-            let portion = market.portion_at(arena, level, given, asked);
-            let spot = Spot::of(portion.before, given, asked, now.drift());
-            (portion.workers, spot)
-        }
+    portion_of_level(
+        market,
+        arena,
+        known.request,
+        level,
+        now.given(level),
+        now.asked(level),
+    )
+}
+
+/// Takes the moment into the column of the last moment, of an arena of which this is known, and that is allotted so many workers, and what is then known
+/// of it. A row whose column has that is left as it is.
+#[inline(always)]
+pub(crate) fn settle_share(row: &mut Row, known: &mut Known, place: usize, share: u32)
+    ensures { (s : State) (cmd : Cmd) (reply : Reply) → (row.new, known.new) ≡ closed_row place s cmd reply known.old row.old row.old (Some share) }
+{
+    if !has_share(known, share) {
+        *known = row.tell(place, known, share);
     }
 }
 
@@ -188,17 +230,23 @@ fn settle_other<const DIVIDED: bool>(
     requires found { DIVIDED ≡ true → 0 < now.now.limit }
     requires shares { now.now ≡ shared_at market.now now.now.drift }
     requires divided { IfSome division.old (IsDivisionOf market.now) }
-    ensures exact { (cmd : Cmd) (reply : Reply) → (row.new, known.new) ≡ (if is_spared now.now known.old level then (row.old, known.old) else spotted (spot_of market.now now.now known.old row.old.arena (Some level)) (closed_row place market.now cmd reply known.old row.old row.old (Some (share_of market.now now.now known.old row.old.arena level)))) }
+    ensures exact { (cmd : Cmd) (reply : Reply) → (row.new, known.new) ≡ (if is_spared now.now known.old level then (row.old, known.old) else respotted (spot_of market.now now.now known.old row.old.arena (Some level)) (closed_row place market.now cmd reply known.old row.old row.old (Some (share_of market.now now.now known.old row.old.arena level)))) }
     ensures divided { IfSome division.new (IsDivisionOf market.now) }
 {
     if is_spared::<DIVIDED>(now, known, level) {
         return;
     }
-    let (share, spot) = portion_of::<DIVIDED>(market, division, now, known, row.arena(), level);
-    if !has_share(known, share) {
-        *known = row.tell(place, known, share);
-    }
-    known.spot = spot;
+    let request = known.request;
+    let (share, before) = portion_of::<DIVIDED>(market, division, now, known, row.arena(), level);
+    settle_share(row, known, place, share);
+    known.spot = Spot::told(
+        before,
+        known.covered,
+        request,
+        now.given(level),
+        now.asked(level),
+        now.drift(),
+    );
 }
 
 /// The same of the arena that the entry is about, of which this was known before it: what it asks for and has is put into the column, where that

@@ -79,14 +79,8 @@ pub(crate) fn is_spared<const DIVIDED: bool>(now: &Shares, known: &Known, level:
     requires { DIVIDED ≡ true → 0 < now.now.limit }
     ensures { result ≡ is_spared now.now known.now level }
 {
-    is_divided::<DIVIDED>(now, level)
-        && known.spot.spares(
-            now.drift(),
-            known.covered,
-            known.request,
-            now.given(level),
-            now.asked(level),
-        )
+    let (given, asked) = (now.given(level), now.asked(level));
+    is_divided::<DIVIDED>(now, level) && (asked > 0 && known.spot.holds(now.drift(), given, asked))
 }
 
 /// An arena that stands at such a level, or at none, is allotted what it was.

@@ -1,5 +1,5 @@
 //! What the levels of a market are given of what they ask for.
-ghost use Rattle.std.specs.Prelude.{◌≡◌, ℕ, ◌+◌, ◌-◌, ◌*◌, ◌^◌, ◌≤◌, min, replicate, ◌==◌, ◌&&◌, ◌||◌, nat_lt, slice_index};
+ghost use Rattle.std.specs.Prelude.{◌≡◌, ℕ, ◌+◌, ◌-◌, ◌*◌, ◌^◌, ◌≤◌, min, true, ◌==◌, ◌&&◌, ◌||◌, nat_lt, slice_index};
 ghost use Rattle.market_types.specs.Step.{limits_of};
 ghost use Rattle.journal_chart.specs.Unkept.{AreUnkept};
 ghost use Rattle.journal_chart.specs.Shares.{apart, no_shares, shared_of};
@@ -93,21 +93,11 @@ fn apart(asked: &[u64; 8], other: &[u64; 8]) -> u64
     apart
 }
 
-/// How much all levels ask for together.
-// Apart, since few commands change the order of arenas.
+/// What a command adds to the drift that may change the order of arenas, where their levels asked for this.
+// Apart, since few commands do.
 #[cold]
 #[inline(never)]
-fn all_of(asked: &[u64; 8]) -> u64
-    requires asked { (place : ℕ) → slice_index asked.now place ≤ 1024 * 65535 }
-    ensures exact { result ≡ apart 8 (replicate 8 0) asked.now }
-    ensures few { result ≤ 8 * (1024 * 65535) }
-{
-    apart(&[0; 8], asked)
-}
-
-/// What a command adds to the drift that changes the order of arenas, where their levels asked for this.
-#[inline(always)]
-fn reordered(cmd: &Cmd, was: &[u64; 8]) -> u64
+fn turned(cmd: &Cmd, was: &[u64; 8]) -> u64
     requires was { (place : ℕ) → slice_index was.now place ≤ 1024 * 65535 }
     ensures exact { result ≡ reordered cmd.now was.now }
     ensures few { result ≤ 16 * (1024 * 65535) }
@@ -115,7 +105,21 @@ fn reordered(cmd: &Cmd, was: &[u64; 8]) -> u64
     if keeps_order(cmd) {
         return 0;
     }
-    2 * all_of(was)
+    2 * apart(&[0; 8], was)
+}
+
+/// The same of any command, where `both_divided` has told of some that they change no order.
+#[inline(always)]
+fn reordered(divided: bool, cmd: &Cmd, was: &[u64; 8]) -> u64
+    requires divided { divided ≡ true → keeps_order cmd.now ≡ true }
+    requires was { (place : ℕ) → slice_index was.now place ≤ 1024 * 65535 }
+    ensures exact { result ≡ reordered cmd.now was.now }
+    ensures few { result ≤ 16 * (1024 * 65535) }
+{
+    if divided {
+        return 0;
+    }
+    turned(cmd, was)
 }
 
 /// How far the levels have drifted, once what they ask for has moved by so much, and the order of arenas by this.
@@ -166,7 +170,7 @@ impl Shares {
         let mut kept = [true; 8];
         let (mut count, mut last) = (0, 0);
         let mut left = u64::from(limits.effective);
-        let reordered = reordered(cmd, &self.asked);
+        let reordered = reordered(divided, cmd, &self.asked);
         let drift = self.drift;
         let mut moved = 0;
         // No level above those of the market, whose number most often is small, takes any time.

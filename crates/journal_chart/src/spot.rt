@@ -6,29 +6,26 @@
 //! ```text
 //!   workers given    0          1          2          3          4
 //!   to those before  |----------|----------|----------|----------|---     asked for, by the level's arenas in order
-//!                                    ===== .. one of many arenas: no worker, whether it stands at the left end or at the right
-//!                                  least     most + request
+//!                                  <- === ->  one of many arenas: no worker, wherever it stands within its reach
 //! ```
 //!
-//! What is asked for before an arena changes by no more than what its level asks for does (`drift`), unless arenas change their order: so the market,
-//! which reckons the place anew, is asked again only once the arena may have come to a border. Of a thousand arenas that share a few workers most asks
-//! are spared so, and each takes as long as ten rows.
-ghost use Rattle.std.specs.Prelude.{◌≡◌, ◌*◌, ◌^◌, ◌<◌, ◌≤◌, None, true};
-ghost use Rattle.journal_chart.specs.Spots.{is_below, is_from, is_near, least_before, most_before, no_spot, spares, spot_by};
+//! What is asked for before an arena, and from it on, changes by no more than what its level asks for does, unless arenas change their order: so once the
+//! market has told its place, two sums tell whether it has gone out of its reach, of what the level asks for and of how far the levels have drifted. Of a
+//! thousand arenas that share a few workers the market is asked about one in three of those that may be allotted another number.
+ghost use Rattle.std.specs.Prelude.{◌≡◌, ℕ, ◌+◌, ◌*◌, ◌/◌, ◌^◌, ◌<◌, ◌≤◌};
+ghost use Rattle.journal_chart.specs.Spots.{holds, is_told, no_spot, reach_of, spot_by, spot_told, spot_within};
 
 use crate::covered::Covered;
 
-/// What is asked for before an arena, at a moment at which the market told it.
+/// How far an arena is from being allotted what its column lacks, at a moment at which the market told its place.
 #[derive(Clone, Copy)]
 pub(crate) struct Spot {
-    /// What the arenas before it at its level asked for together.
-    pub(crate) before: u32,
-    /// What all of its level asked for: 0 where no place is known.
+    /// What its level was given: the market has to be asked again where that changes.
+    pub(crate) given: u64,
+    /// What its level asked for: 0 where no place is known.
     pub(crate) asked: u32,
-    /// How many workers those before it were given, which is a guess of how many they are given now.
-    pub(crate) workers: u32,
-    /// How far the levels had drifted.
-    pub(crate) drift: u32,
+    /// How far the levels had drifted, and twice the arena's reach.
+    pub(crate) until: u32,
 }
 
 impl Spot {
@@ -37,145 +34,134 @@ impl Spot {
         ensures { result ≡ no_spot }
     {
         Spot {
-            before: 0,
+            given: 0,
             asked: 0,
-            workers: 0,
-            drift: 0,
+            until: 0,
         }
     }
 
-    /// The place of an arena before which so much is asked for, where its level is given so many of what it asks for, and the levels have drifted so
-    /// far.
+    /// The spot of an arena with such a reach.
     #[inline(always)]
-    pub(crate) fn of(before: u32, given: u64, asked: u64, drift: u32) -> Spot
-        requires any { 0 < asked }
+    fn within(reach: u64, given: u64, asked: u64, drift: u32) -> Spot
+        requires near { reach ≤ 1024 * 65535 }
         requires small { asked ≤ 1024 * 65535 }
-        requires within { given ≤ asked }
-        ensures { result ≡ spot_by None before given asked drift }
+        requires drift { drift < 2 ^ 30 }
+        ensures { result ≡ spot_within reach given asked drift }
     {
         Spot {
-            before,
+            given,
             asked: asked as u32,
-            workers: (u64::from(before) * given / asked) as u32,
-            drift,
+            until: (u64::from(drift) + 2 * reach) as u32,
         }
     }
 
-    /// The place is told, and the levels have drifted by less since than the place of one worker: else nothing can be told by it.
+    /// The spot of an arena of which this is covered, that asks for so many workers, before which so much is asked for, where its level is given so
+    /// many of what it asks for, and the levels have drifted so far.
     #[inline(always)]
-    fn is_near(self, drift: u32, given: u64, asked: u64) -> bool
-        requires some { given ≤ 1024 * 65535 }
-        ensures { result ≡ is_near self drift given asked }
-    {
-        let moved = u64::from(drift.saturating_sub(self.drift));
-        moved * given < asked && (self.asked > 0 && drift < u32::MAX)
-    }
-
-    /// What is asked for before the arena at least, once the levels have drifted so far, and its own asks for so many.
-    #[inline(always)]
-    fn least_before(self, drift: u32, asked: u64) -> u64
+    fn of(covered: Covered, request: u32, before: u32, given: u64, asked: u64, drift: u32) -> Spot
         requires small { asked ≤ 1024 * 65535 }
-        ensures exact { result ≡ least_before self drift asked }
-        ensures few { result < 2 ^ 33 }
+        requires within { given ≤ asked }
+        ensures { result ≡ spot_by covered request before given asked drift }
     {
-        let moved = u64::from(drift.saturating_sub(self.drift));
-        (2 * u64::from(self.before) + asked).saturating_sub(moved + u64::from(self.asked)) / 2
+        if given == 0 {
+            return Spot::none();
+        }
+        let workers = workers_before(before, given, asked);
+        if is_told(covered, request, before, given, asked, workers) && drift < 1 << 30 {
+            let reach = reach_of(covered, request, before, given, asked, workers);
+            return Spot::within(reach, given, asked, drift);
+        }
+        Spot::none()
     }
 
-    /// The same at most.
+    /// The same where its place may be of use.
     #[inline(always)]
-    fn most_before(self, drift: u32, asked: u64) -> u64
-        requires small { asked ≤ 1024 * 65535 }
-        ensures exact { result ≡ most_before self drift asked }
-        ensures few { result < 2 ^ 33 }
-    {
-        let moved = u64::from(drift.saturating_sub(self.drift));
-        (2 * u64::from(self.before) + moved + asked).saturating_sub(u64::from(self.asked)) / 2
-    }
-
-    /// All are covered that the arena may be allotted at any place at which it may stand, if it asks for so many workers, its level is given so many
-    /// of what it asks for, and the levels have drifted so far.
-    #[inline(always)]
-    pub(crate) fn spares(
-        self,
-        drift: u32,
+    pub(crate) fn told(
+        before: Option<u32>,
         covered: Covered,
         request: u32,
         given: u64,
         asked: u64,
-    ) -> bool
-        requires some { given ≤ 1024 * 65535 }
+        drift: u32,
+    ) -> Spot
         requires small { asked ≤ 1024 * 65535 }
-        ensures { result ≡ spares self drift covered request given asked }
+        requires within { given ≤ asked }
+        ensures { result ≡ spot_told before covered request given asked drift }
     {
-        if !self.is_near(drift, given, asked) {
-            return false;
+        match before {
+            Some(before) => Spot::of(covered, request, before, given, asked, drift),
+            None => Spot::none(),
         }
-        let least = self.least_before(drift, asked);
-        let most = self.most_before(drift, asked);
-        is_from(
-            covered.from,
-            request,
-            given,
-            asked,
-            least,
-            most,
-            self.workers,
-        ) && is_below(
-            covered.below,
-            request,
-            given,
-            asked,
-            least,
-            most,
-            self.workers,
-        )
+    }
+
+    /// What the arena is allotted is covered, if its level is given so many of what it asks for, and the levels have drifted so far.
+    #[inline(always)]
+    pub(crate) fn holds(self, drift: u32, given: u64, asked: u64) -> bool
+        requires small { asked ≤ 1024 * 65535 }
+        ensures { result ≡ holds self drift given asked }
+    {
+        let (so_far, until) = (u64::from(drift), u64::from(self.until));
+        let was = u64::from(self.asked);
+        self.given == given
+            && (drift < u32::MAX
+                && (so_far + asked <= until + was && so_far + was <= until + asked))
     }
 }
 
-/// An arena that asks for so many workers is allotted no fewer than `from`, if its level is given so many of what it asks for, and the arenas before it
-/// ask for `least` to `most` together.
+/// How many workers the arenas are given before which so much is asked for.
 #[inline(always)]
-fn is_from(
-    from: u32,
-    request: u32,
-    given: u64,
-    asked: u64,
-    least: u64,
-    most: u64,
-    workers: u32,
-) -> bool
-    requires some { given ≤ 1024 * 65535 }
+fn workers_before(before: u32, given: u64, asked: u64) -> u64
+    requires any { 0 < asked }
     requires small { asked ≤ 1024 * 65535 }
-    requires least { least < 2 ^ 33 }
-    requires most { most < 2 ^ 33 }
-    ensures { result ≡ is_from from request given asked least most workers }
+    requires within { given ≤ asked }
+    ensures exact { result ≡ before * given / asked }
+    ensures few { result < 2 ^ 32 }
 {
-    let (from, request, workers) = (u64::from(from), u64::from(request), u64::from(workers));
-    from * asked <= request * given
-        || ((workers + from) * asked <= (least + request) * given
-            && most * given < (workers + 1) * asked)
+    u64::from(before) * given / asked
 }
 
-/// The same, and fewer than `below`.
+/// What an arena is allotted is covered, if those before it are given so many workers; and its level is given as many as that takes.
 #[inline(always)]
-fn is_below(
-    below: u32,
+fn is_told(
+    covered: Covered,
     request: u32,
+    before: u32,
     given: u64,
     asked: u64,
-    least: u64,
-    most: u64,
-    workers: u32,
+    workers: u64,
 ) -> bool
-    requires some { given ≤ 1024 * 65535 }
     requires small { asked ≤ 1024 * 65535 }
-    requires least { least < 2 ^ 33 }
-    requires most { most < 2 ^ 33 }
-    ensures { result ≡ is_below below request given asked least most workers }
+    requires within { given ≤ asked }
+    requires workers { workers < 2 ^ 32 }
+    ensures { result ≡ is_told covered request before given asked workers }
 {
-    let (below, request, workers) = (u64::from(below), u64::from(request), u64::from(workers));
-    request * given + asked <= below * asked
-        || (workers * asked <= least * given
-            && (most + request) * given < (workers + below) * asked)
+    let end = (u64::from(before) + u64::from(request)) * given;
+    let last = workers + u64::from(covered.below);
+    last <= given && ((workers + u64::from(covered.from)) * asked <= end && end < last * asked)
+}
+
+/// By how much what is asked for before the arena, and from it on, may become another number, with what it is allotted covered all the same.
+#[inline(always)]
+fn reach_of(
+    covered: Covered,
+    request: u32,
+    before: u32,
+    given: u64,
+    asked: u64,
+    workers: u64,
+) -> u64
+    requires some { 0 < given }
+    requires small { asked ≤ 1024 * 65535 }
+    requires within { given ≤ asked }
+    requires workers { workers < 2 ^ 32 }
+    requires from { (workers + covered.from) * asked ≤ (before + request) * given }
+    requires below { (before + request) * given < (workers + covered.below) * asked }
+    ensures exact { result ≡ reach_of covered request before given asked workers }
+    ensures few { result ≤ 1024 * 65535 }
+{
+    let end = (u64::from(before) + u64::from(request)) * given;
+    let start = u64::from(before) * given % asked;
+    let over = end - (workers + u64::from(covered.from)) * asked;
+    let under = (workers + u64::from(covered.below)) * asked - 1 - end;
+    start.min(asked - 1 - start).min(over.min(under)) / given
 }

@@ -1,17 +1,17 @@
 use Rattle.std.specs.Prelude.{nat_le, nat_lt, slice_index, unwrap_or}
-use Rattle.std.proofs.Common.{◌≡◌, ℕ, ◌-◌, ◌<◌, Bool, List, Option, Some, true, false, cond, refl, sym, ap, ◌∙◌, arith, subst}
+use Rattle.std.proofs.Common.{◌≡◌, ℕ, ◌-◌, ◌<◌, Bool, List, Option, Some, true, false, refl, sym, ap, ◌∙◌, arith, subst}
 use Rattle.std.proofs.lemmas.Bool.{le-leb}
 use Rattle.std.proofs.lemmas.Bool.Decides.{nat_tests}
 use Rattle.market_core.specs.Ahead.{asked_ahead}
 use Rattle.market_types.specs.Allotment.{allotment_of, at_level}
 use Rattle.market_types.specs.State.{State}
 use Rattle.journal_chart.specs.declared.row.Known.{Known}
-use Rattle.journal_chart.specs.declared.spot.Spot.{Spot}
+use Rattle.journal_chart.specs.declared.covered.Covered.{Covered}
 use Rattle.journal_chart.specs.Covering.{covers, exactly}
 use Rattle.journal_chart.specs.Shares.{Shared}
-use Rattle.journal_chart.specs.Spots.{spares, spot_by}
+use Rattle.journal_chart.specs.Spots.{holds, place_told, spot_told}
 use Rattle.journal_chart.specs.Unkept.{IsAlone, IsAtLevel}
-use Rattle.journal_chart.specs.Steps.{closed_row, is_covered, is_spared, share_of, spot_of, spotted, stands_kept}
+use Rattle.journal_chart.specs.Steps.{closed_row, is_covered, is_spared, respotted, share_of, spot_of, stands_kept}
 use Rattle.journal_chart.proofs.Numbered.{covered-row, just-is, other-level, other-row}
 use Rattle.journal_chart.proofs.Sharing.{shared-asked, shared-given}
 use Rattle.journal_chart.proofs.by_number.level_row.Goals as goal
@@ -36,17 +36,20 @@ module _ (now : Shared) (known : Known) (level given asked drift : ℕ) (found :
   is-covered : (told : Bool) → covers known.covered known.request given asked ≡ told → is_covered now known level ≡ told
   is-covered told h = rw (any, low, high) ((λ i. covers known.covered known.request (sym given_is i) (sym asked_is i)) ∙ h)
 
-  is-spared : is_spared now known level ≡ spares known.spot drift known.covered known.request given asked
-  is-spared = rw (any, low, high) (λ i. spares known.spot (sym drift_is i) known.covered known.request (sym given_is i) (sym asked_is i))
+  is-spared : (told : Bool) → 0 < asked → holds known.spot drift given asked ≡ told → is_spared now known level ≡ told
+  is-spared told some h =
+      let asks : nat_lt 0 (slice_index now.asked (level - 1)) ≡ true = let e = asked_is in grind (arith, nat_tests, some) in
+      rw (any, low, high, asks) ((λ i. holds known.spot (sym drift_is i) (sym given_is i) (sym asked_is i)) ∙ h)
 
   -- so is what it is allotted, and where it stands
   share-is : (s : State) (arena : ℕ) → unwrap_or (exactly known.request given asked) (allotment_of s arena) ≡ share_of s now known arena level
   share-is s arena = (λ i. unwrap_or (exactly known.request (given_is i) (asked_is i)) (allotment_of s arena)) ∙ sym (rw (any, low, high) refl)
 
-  spot-is : (s : State) (arena : ℕ)
-      → spot_by (exactly known.request given asked) (asked_ahead arena (at_level level s.arenas)) given asked drift ≡ spot_of s now known arena (Some level)
-  spot-is s arena =
-      (λ i. spot_by (exactly known.request (given_is i) (asked_is i)) (asked_ahead arena (at_level level s.arenas)) (given_is i) (asked_is i) (drift_is i))
+  spot-is : (s : State) (arena : ℕ) (c : Covered)
+      → spot_told (place_told (exactly known.request given asked) (asked_ahead arena (at_level level s.arenas)) given asked) c known.request given asked drift
+      ≡ spot_of s now known arena (Some level) c
+  spot-is s arena c =
+      (λ i. spot_told (place_told (exactly known.request (given_is i) (asked_is i)) (asked_ahead arena (at_level level s.arenas)) (given_is i) (asked_is i)) c known.request (given_is i) (asked_is i) (drift_is i))
       ∙ sym (rw (any, low, high) refl)
 
 pub returns-then-not-is_at : goal.returns-then-not-is_at
@@ -54,8 +57,37 @@ returns-then-not-is_at c cmd reply kept alone other =
     sym (other-level c.args.place c.args.market.now cmd reply c.args.now.now kept c.args.row.now c.args.known.now c.args.level alone other c.is_at.ensures.somewhere
     (sym c.is_at.ensures.exact ∙ c.if-not-is_at.true))
 
-pub returns-then-not-covers_some : goal.returns-then-not-covers_some
-returns-then-not-covers_some c cmd reply kept alone other =
+pub returns-then-covers_some : goal.returns-then-covers_some
+returns-then-covers_some c cmd reply kept alone other =
+    let now = c.args.now.now in
+    let known = c.args.known.now in
+    let level = c.args.level in
+    let given = c.args.given in
+    let asked = c.args.asked in
+    let drift = c.args.drift in
+    let at = just-is c.args.row.now.stands level (sym c.is_at.ensures.exact ∙ c.if-not-is_at.false) in
+    let fits : IsAtLevel (Some level) = subst IsAtLevel at c.is_at.ensures.somewhere in
+    let held = moved now known level given asked drift c.requires.found fits c.requires.given c.requires.asked c.requires.drift kept alone c.args.row.now.stands at in
+    let covered = is-covered now known level given asked drift c.requires.found fits c.requires.given c.requires.asked c.requires.drift true (sym c.covers_some.ensures ∙ c.if-covers_some.true) in
+    sym (covered-row c.args.place c.args.market.now cmd reply now kept c.args.row.now known level other held at covered)
+
+pub returns-then-holds : goal.returns-then-holds
+returns-then-holds c cmd reply kept alone other =
+    let now = c.args.now.now in
+    let known = c.args.known.now in
+    let level = c.args.level in
+    let given = c.args.given in
+    let asked = c.args.asked in
+    let drift = c.args.drift in
+    let at = just-is c.args.row.now.stands level (sym c.is_at.ensures.exact ∙ c.if-not-is_at.false) in
+    let fits : IsAtLevel (Some level) = subst IsAtLevel at c.is_at.ensures.somewhere in
+    let held = moved now known level given asked drift c.requires.found fits c.requires.given c.requires.asked c.requires.drift kept alone c.args.row.now.stands at in
+    let uncovered = is-covered now known level given asked drift c.requires.found fits c.requires.given c.requires.asked c.requires.drift false (sym c.covers_some.ensures ∙ c.if-covers_some.false) in
+    let spared = is-spared now known level given asked drift c.requires.found fits c.requires.given c.requires.asked c.requires.drift true c.requires.some (sym c.holds.ensures ∙ c.if-holds.true) in
+    sym (other-row c.args.place c.args.market.now cmd reply now kept c.args.row.now known level other held at uncovered ∙ rw spared refl)
+
+pub returns : goal.returns
+returns c cmd reply kept alone other =
     let s = c.args.market.now in
     let now = c.args.now.now in
     let row = c.args.row.now in
@@ -67,27 +99,13 @@ returns-then-not-covers_some c cmd reply kept alone other =
     let at = just-is row.stands level (sym c.is_at.ensures.exact ∙ c.if-not-is_at.false) in
     let fits : IsAtLevel (Some level) = subst IsAtLevel at c.is_at.ensures.somewhere in
     let held = moved now known level given asked drift c.requires.found fits c.requires.given c.requires.asked c.requires.drift kept alone row.stands at in
-    let uncovered = is-covered now known level given asked drift c.requires.found fits c.requires.given c.requires.asked c.requires.drift false (sym c.covers_some.ensures ∙ c.if-not-covers_some.true) in
-    let spared = is-spared now known level given asked drift c.requires.found fits c.requires.given c.requires.asked c.requires.drift in
+    let uncovered = is-covered now known level given asked drift c.requires.found fits c.requires.given c.requires.asked c.requires.drift false (sym c.covers_some.ensures ∙ c.if-covers_some.false) in
+    let spared = is-spared now known level given asked drift c.requires.found fits c.requires.given c.requires.asked c.requires.drift false c.requires.some (sym c.holds.ensures ∙ c.if-holds.false) in
     let share = share-is now known level given asked drift c.requires.found fits c.requires.given c.requires.asked c.requires.drift s row.arena in
     let spot = spot-is now known level given asked drift c.requires.found fits c.requires.given c.requires.asked c.requires.drift s row.arena in
     c.settle_given.ensures cmd reply
-    ∙ (λ i. cond (sym spared i) (row, known) (spotted (spot i) (closed_row c.args.place s cmd reply known row row (Some (share i)))))
-    ∙ sym (other-row c.args.place s cmd reply now kept row known level other held at uncovered)
-
-pub returns-else-not-covers_some : goal.returns-else-not-covers_some
-returns-else-not-covers_some c cmd reply kept alone other =
-    let now = c.args.now.now in
-    let known = c.args.known.now in
-    let level = c.args.level in
-    let given = c.args.given in
-    let asked = c.args.asked in
-    let drift = c.args.drift in
-    let at = just-is c.args.row.now.stands level (sym c.is_at.ensures.exact ∙ c.if-not-is_at.false) in
-    let fits : IsAtLevel (Some level) = subst IsAtLevel at c.is_at.ensures.somewhere in
-    let held = moved now known level given asked drift c.requires.found fits c.requires.given c.requires.asked c.requires.drift kept alone c.args.row.now.stands at in
-    let covered = is-covered now known level given asked drift c.requires.found fits c.requires.given c.requires.asked c.requires.drift true (sym c.covers_some.ensures ∙ c.if-not-covers_some.false) in
-    sym (covered-row c.args.place c.args.market.now cmd reply now kept c.args.row.now known level other held at covered)
+    ∙ (λ i. respotted (λ k. spot k i) (closed_row c.args.place s cmd reply known row row (Some (share i))))
+    ∙ sym (other-row c.args.place s cmd reply now kept row known level other held at uncovered ∙ rw spared refl)
 
 -- what the level is given is what the market gives it
 pub settle_given-requires-clause-some : goal.settle_given-requires-clause-some

@@ -5,12 +5,12 @@ use Rattle.journal_chart.proofs.Sharing.{shared-asked, shared-given}
 use Rattle.journal_chart.proofs.nearby.portion_of.Goals as goal
 
 -- what the level is given, and what it asks for, is what the market gives it
-pub portion_at-portion-requires-clause-given : goal.portion_at-portion-requires-clause-given
-portion_at-portion-requires-clause-given g c = λ high.
-    c.given-given.ensures.exact ∙ ap (λ (n : Shared). slice_index n.given (c.args.level - 1)) c.requires.shares
+pub portion_of_level-requires-clause-given : goal.portion_of_level-requires-clause-given
+portion_of_level-requires-clause-given g c = λ high.
+    c.given.ensures.exact ∙ ap (λ (n : Shared). slice_index n.given (c.args.level - 1)) c.requires.shares
     ∙ shared-given c.args.market.now c.args.level (omega arith) (omega arith) high
 
-pub portion_at-portion-requires-clause-asked : goal.portion_at-portion-requires-clause-asked
-portion_at-portion-requires-clause-asked g c = λ high.
-    c.asked-asked.ensures.exact ∙ ap (λ (n : Shared). slice_index n.asked (c.args.level - 1)) c.requires.shares
+pub portion_of_level-requires-clause-asked : goal.portion_of_level-requires-clause-asked
+portion_of_level-requires-clause-asked g c = λ high.
+    c.asked.ensures.exact ∙ ap (λ (n : Shared). slice_index n.asked (c.args.level - 1)) c.requires.shares
     ∙ shared-asked c.args.market.now c.args.level (omega arith) (omega arith) high

@@ -11,6 +11,7 @@ use Rattle.market_types.specs.declared.reply.LimitView.{LimitView}
 use Rattle.journal_chart.specs.Unkept.{AreUnkept, unkept_of}
 use Rattle.journal_chart.specs.Shares.{Shared, all_asked, apart, shared_of}
 use Rattle.journal_chart.specs.Steps.{drifted, is_kept, is_same_part, keeps_order, kept_levels, reordered}
+use Rattle.journal_chart.proofs.Bounds.{both}
 use Rattle.journal_chart.proofs.Levels.{AreSoFar, kept-above, kept-at, so-far-all, so-far-kept, so-far-more}
 use Rattle.journal_chart.proofs.Sharing.{all-asked}
 use Rattle.journal_chart.proofs.Assigning.{Assigning, Cleared, Renewing, apart-more, apart-same, asked-all, assigning-all, cleared-none, given-all, renewing-more}
@@ -255,7 +256,12 @@ returns-clause-shares c =
     }
 
 pub reordered-reordered-requires : goal.reordered-reordered-requires
-reordered-reordered-requires c = record { was = λ j. c.self.invariant.0.small j }
+reordered-reordered-requires c =
+    record {
+      divided = λ h.
+          (both (keeps_order c.args.cmd.now) (nat_lt 0 c.self.inside.limit && nat_lt 0 c.args.limits.now.limit) (sym c.both_divided-divided.ensures ∙ h)).0;
+      was = λ j. c.self.invariant.0.small j;
+    }
 
 pub drifted-self-inside-requires-clause-moved : goal.drifted-self-inside-requires-clause-moved
 drifted-self-inside-requires-clause-moved c = omega (arith, c.loop-place.invariant.small, c.loop-place.auto.place-end, c.levels-levels.ensures.high)
