@@ -1,17 +1,20 @@
 -- Eight levels, and the boxes that none of them uses, after a change of one level.
 use Rattle.std.specs.Prelude.{All}
-use Rattle.std.proofs.Common.{◌≡◌, ℕ, ◌+◌, ◌-◌, ◌*◌, ◌/◌, ◌<◌, ◌≤◌, min, List, [], ◌∷◌, length, set, get_or, refl, sym, ap, ◌∙◌, subst, arith, Some, None}
+use Rattle.std.proofs.Common.{◌≡◌, ◌≢◌, ℕ, suc, ◌+◌, ◌-◌, ◌*◌, ◌/◌, ◌<◌, ◌≤◌, min, List, [], ◌∷◌, length, set, get_or, refl, sym, ap, ◌∙◌, subst, arith, Some, None, inl, inr}
 use Rattle.std.specs.List.{sum_by}
-use Rattle.std.proofs.lemmas.List.{length-set, map-set, get_or-map, get_or-set_same}
+use Rattle.std.proofs.lemmas.Bool.{cases_eq}
+use Rattle.std.proofs.lemmas.Grind.{get_or-set_at}
+use Rattle.std.proofs.lemmas.List.{length-set, map-set, get_or-map, get_or-set_same, get_or-set_other}
 use Rattle.std.proofs.lemmas.List.Sums.{sum_by-set, sum_by-cons}
 use Rattle.std.proofs.lemmas.List.Elements.{All-get_or, All-set, All-head, All-tail, All-nil, All-cons, All-weaker}
 use Rattle.market_types.specs.declared.row.Row.{Row}
 use Rattle.market_types.specs.Rows.{IsNewestFirst, row_at, without}
+use Rattle.market_types.proofs.RowOrder.{newest-nil}
 use Rattle.wide_rows.specs.Leveled.{Leveled, Boxes, IsLevel, AreLevels, leaves_for, shelves_for, rows_of_each, rows_at, total_rows, with_first, without_at}
 use Rattle.wide_rows.proofs.OneLevel.{without_length, without_missing}
 
 -- a level with no rows
-abbrev none : Leveled
+abbrev pub none : Leveled
 none = record { rows = []; leaves = 0; shelves = 0 }
 
 abbrev pub leaves_of : List Leveled → ℕ
@@ -190,3 +193,40 @@ pub missed : {levels : List Leveled} {s : Boxes} {n : ℕ} (i stamp : ℕ) (d y 
 missed {levels} {s} {n} i stamp d y t h within sound rows moved missing =
     let same = without_missing stamp (get_or levels i d).rows missing in
     changed i d y t n h within sound moved (omega (arith, ap length rows, ap length same)) h.few h.enough_leaves h.enough_shelves
+
+-- ---- the only row of a level goes to another that has none, with its leaf
+
+pub length-view : (levels : List Leveled) → length (rows_of_each levels) ≡ length levels
+length-view [] = refl
+length-view (level ∷ levels) = ap suc (length-view levels)
+
+-- the level that it comes to has no row then
+pub emptied : (view : List (List Row)) (from to : ℕ) → from < length view → (from ≢ to → rows_at to view ≡ []) → rows_at to (set view from []) ≡ []
+emptied view from to within other = elim (cases_eq from to) [
+  | inl e ↦ get_or-set_at view from to [] [] (sym e) within
+  | inr ne ↦ get_or-set_other view from to [] [] (λ e. ne (sym e)) ∙ other ne
+]
+
+sound-none : IsLevel none
+sound-none = record { newest_first = newest-nil; low = All-nil (λ (row : Row). row.request ≤ 65535); room = omega arith; boxes = record { leaves = omega arith; shelves = omega arith; shelved = omega arith } }
+
+pub carried : {levels : List Leveled} {s : Boxes} {n : ℕ} (from to : ℕ) (d e y : Leveled) → AreLevels levels s n → from < 8 → to < 8 → length (get_or levels from d).rows ≡ 1 → (get_or (set levels from none) to e).rows ≡ []
+    → IsLevel y → length y.rows ≡ 1 → y.leaves ≡ (get_or levels from d).leaves → y.shelves ≡ (get_or levels from d).shelves → AreLevels (set (set levels from none) to y) s n
+carried {levels} {s} {n} from to d e y h from-within to-within one free sound long leaves shelves =
+    let x = get_or levels from d in
+    let z = get_or (set levels from none) to e in
+    let p : IsPart x s n = part from d h from-within in
+    let t : Boxes = record s { leaves = s.leaves + x.leaves; shelves = s.shelves + x.shelves } in
+    let out : AreLevels (set levels from none) t (n - 1) =
+    changed from d none t (n - 1) h from-within sound-none (record { leaves = omega arith; shelves = omega arith; made_leaves = refl; made_shelves = refl })
+    (omega (arith, p.rows, one)) (omega (arith, h.few)) (omega (arith, h.enough_leaves)) (omega (arith, h.enough_shelves)) in
+    let q : IsPart z t (n - 1) = part to e out to-within in
+    let empty : length z.rows ≡ 0 = ap length free in
+    changed to e y s n out to-within sound
+    (record {
+      leaves = omega (arith, leaves, empty, q.sound.boxes.leaves);
+      shelves = omega (arith, shelves, empty, q.sound.boxes.shelves);
+      made_leaves = refl;
+      made_shelves = refl;
+    })
+    (omega (arith, p.rows, one, empty, long)) h.few h.enough_leaves h.enough_shelves

@@ -1,3 +1,4 @@
+pub mod Alone
 pub mod Bits
 pub mod Counted
 pub mod Crossing

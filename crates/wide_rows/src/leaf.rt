@@ -1,6 +1,7 @@
 //! The leaf, and its calls.
 ghost use Rattle.std.specs.Prelude.{◌≡◌, ◌≢◌, ℕ, ◌+◌, ◌-◌, ◌*◌, ◌<◌, ◌≤◌, [], ◌∷◌, ◌++◌, length, slice_get, is_some, All, IfNone, IfSome};
 ghost use Rattle.std.specs.Bool.{OnTrue};
+ghost use Rattle.market_types.specs.declared.row.Row.{Row};
 ghost use Rattle.market_types.specs.Rows.{IsNewestFirst, HasLowRequests, requests, requests_above, first_mandated, row_at, without, set_row};
 
 use crate::columns::Columns;
@@ -164,6 +165,15 @@ impl Leaf {
         if place < self.columns.count {
             self.columns.set(place, request, mandated);
         }
+    }
+
+    /// Its only row gets this stamp.
+    #[inline(always)]
+    pub(crate) fn restamp(&mut self, stamp: u32)
+        requires one { length self.old ≡ 1 }
+        ensures { (row : Row) → self.old ≡ row ∷ [] → self.new ≡ record row { stamp = stamp } ∷ [] }
+    {
+        self.columns.stamps[0] = stamp;
     }
 
     /// Adds a row that is newer than all others.

@@ -10,7 +10,8 @@
 //! A row that finds the one leaf full opens a second beside it, and both stand on a shelf. A row that goes from the last but one
 //! leaf gives the shelf up again, and the last row of a leaf its leaf. Boxes come from the spare ones and go back to them, so
 //! nothing here takes memory.
-ghost use Rattle.std.specs.Prelude.{◌≡◌, ◌≢◌, ℕ, ◌+◌, ◌*◌, ◌^◌, ◌<◌, ◌≤◌, [], ◌∷◌, length, slice_get, Some, All, IfNone, IfSome};
+ghost use Rattle.std.specs.Prelude.{◌≡◌, ◌≢◌, ℕ, ◌+◌, ◌*◌, ◌^◌, ◌<◌, ◌≤◌, ◌==◌, [], ◌∷◌, length, slice_get, Some, All, IfNone, IfSome};
+ghost use Rattle.market_types.specs.declared.row.Row.{Row};
 ghost use Rattle.market_types.specs.Rows.{requests, requests_above, first_mandated, row_at, without, set_row};
 ghost use Rattle.market_types.specs.Bits.{bits};
 ghost use Rattle.wide_rows.specs.Leveled.{IsLevel, HasFewBoxes};
@@ -140,6 +141,37 @@ impl Level {
         match &self.form {
             Form::Leaf(leaf) => leaf.only(),
             Form::Empty | Form::Shelf(_) => None,
+        }
+    }
+
+    /// Whether it has one row alone.
+    #[inline(always)]
+    pub(crate) fn has_one(&self) -> bool
+        ensures { result ≡ (length self.now.rows == 1) }
+    {
+        self.only().is_some()
+    }
+
+    /// Whether it has no rows.
+    #[inline(always)]
+    pub(crate) fn is_empty(&self) -> bool
+        ensures { result ≡ (length self.now.rows == 0) }
+    {
+        matches!(&self.form, Form::Empty)
+    }
+
+    /// Its only row gets this stamp, as if it were taken out and put in again.
+    #[inline(always)]
+    pub(crate) fn restamp(&mut self, stamp: u32, visits: &mut u32)
+        requires one { length self.old.rows ≡ 1 }
+        requires few { visits.old < 2 ^ 31 }
+        ensures rows { (row : Row) → self.old.rows ≡ row ∷ [] → self.new ≡ record self.old { rows = record row { stamp = stamp } ∷ [] } }
+        ensures visits { visits.new ≡ visits.old + 2 }
+    {
+        if let Form::Leaf(leaf) = &mut self.form {
+            enter(leaf.len(), visits);
+            leaf.restamp(stamp);
+            enter(leaf.len(), visits);
         }
     }
 

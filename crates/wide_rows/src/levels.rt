@@ -37,6 +37,7 @@ use crate::spare::Spare;
 use market_types::Row;
 use std::alloc::{AllocError, Global};
 use std::marker::Model;
+use std::mem;
 
 /// The rows of eight levels, at most 1,024 in all, each with a request of at most 65,535. Contracts see them as the list of each
 /// level's rows, newest first, level 1 at index 0.
@@ -248,6 +249,10 @@ impl Levels {
             → visits.new ≡ visits.old + bits (length (rows_at from self.old)) + bits (length (rows_at to (without_at from stamp self.old)) + 1) }
         ensures visits { visits.new ≤ visits.old + 2 * bits (length (rows_at from self.old)) + 2 * bits (length (rows_at to (without_at from stamp self.old))) + 1 }
     {
+        if self.levels[from].has_one() && (from == to || self.levels[to].is_empty()) {
+            self.carry_over(from, to, newest, visits);
+            return;
+        }
         let Some(row) = self.levels[from].take(stamp, &mut self.spare, visits) else {
             unreachable!()
         };
@@ -256,5 +261,24 @@ impl Levels {
             ..row
         };
         self.levels[to].push(&row, &mut self.spare, visits);
+    }
+
+    /// Moves the only row of a level to another that has none, or to the front of the same, under another stamp.
+    // With its leaf: the row stays in its lane, and no box is given back to be taken again.
+    #[inline(always)]
+    fn carry_over(&mut self, from: usize, to: usize, newest: u32, visits: &mut u32)
+        requires from { from < 8 }
+        requires to { to < 8 }
+        requires one { length (rows_at from self.old) ≡ 1 }
+        requires free { from ≢ to → rows_at to self.old ≡ [] }
+        requires few { visits.old < 2 ^ 30 }
+        ensures moved { (row : Row) → rows_at from self.old ≡ row ∷ [] → self.new ≡ with_first to (record row { stamp = newest }) (slice_set self.old from []) }
+        ensures newest_first_from { IsNewestFirst (rows_at from self.new) }
+        ensures newest_first_to { IsNewestFirst (rows_at to self.new) }
+        ensures visits { visits.new ≡ visits.old + 2 }
+    {
+        let mut level = mem::replace(&mut self.levels[from], Level::new());
+        level.restamp(newest, visits);
+        self.levels[to] = level;
     }
 }
