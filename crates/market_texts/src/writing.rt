@@ -213,7 +213,7 @@ fn push_view(out: &mut Vec<u8>, view: &ArenaView) -> Result<(), AllocError>
     push_part(out, " request ", view.request)?;
     push_part(out, " allot ", view.allot)?;
     push_text(out, " top ")?;
-    push_text(out, yes_no(view.top))?;
+    push_answer(out, view.top)?;
     push_seats(out, view)
 }
 
@@ -227,10 +227,18 @@ fn push_seats(out: &mut Vec<u8>, view: &ArenaView) -> Result<(), AllocError>
     push_part(out, " hire ", view.hire)
 }
 
-fn yes_no(answer: bool) -> &'static str
-    ensures { result.now ≡ yes_no answer }
+/// Yes or no.
+// By a few bytes: a text that is either of two is copied by a call.
+#[inline(always)]
+fn push_answer(out: &mut Vec<u8>, answer: bool) -> Result<(), AllocError>
+    ensures ok { OnOk result (out.new.items ≡ out.old.items ++ yes_no answer) }
+    ensures grows { Extends out.old.items out.new.items }
 {
-    if answer { "yes" } else { "no" }
+    if answer {
+        push_few(out, b"yes")
+    } else {
+        push_few(out, b"no")
+    }
 }
 
 fn push_limits(out: &mut Vec<u8>, view: &LimitView) -> Result<(), AllocError>
@@ -359,10 +367,10 @@ fn push_decimal(out: &mut Vec<u8>, number: u32) -> Result<(), AllocError>
     ensures grows { Extends out.old.items out.new.items }
 {
     if number < 10 {
-        return push_digits(out, &[digit(number)]);
+        return push_few(out, &[digit(number)]);
     }
     if number < 100 {
-        return push_digits(out, &[digit(number / 10), digit(number % 10)]);
+        return push_few(out, &[digit(number / 10), digit(number % 10)]);
     }
     push_long(out, number)
 }
@@ -377,7 +385,7 @@ fn push_long(out: &mut Vec<u8>, number: u32) -> Result<(), AllocError>
 {
     if number < 1000 {
         let tens = number / 10;
-        return push_digits(
+        return push_few(
             out,
             &[digit(tens / 10), digit(tens % 10), digit(number % 10)],
         );
@@ -404,15 +412,20 @@ fn digit(number: u32) -> u8
     b'0' + number as u8
 }
 
-/// Digits, as they stand.
+/// A few bytes, as they stand.
+// One by one into room for all: a call that copies so few takes 50 instructions, and most replies have one such number.
 #[inline(always)]
-fn push_digits(out: &mut Vec<u8>, digits: &[u8]) -> Result<(), AllocError>
-    requires { IsUtf8 digits.now }
-    ensures ok { OnOk result (out.new.items ≡ out.old.items ++ digits.now) }
+fn push_few(out: &mut Vec<u8>, bytes: &[u8]) -> Result<(), AllocError>
+    requires { IsUtf8 bytes.now }
+    ensures ok { OnOk result (out.new.items ≡ out.old.items ++ bytes.now) }
     ensures err { OnErr result (out.new.items ≡ out.old.items) }
     ensures grows { Extends out.old.items out.new.items }
 {
-    out.extend_from_slice(digits)
+    out.reserve(bytes.len())?;
+    for byte in bytes {
+        out.push_reserved(*byte);
+    }
+    Ok(())
 }
 
 /// A text, as it stands. Where it is inlined its length is known, and it is copied with no call.
