@@ -272,7 +272,7 @@ fn push_counts(
     let mut begun = false;
     for arena in arenas {
         if arena.correction == correction {
-            push_text(out, comma_if(begun))?;
+            push_comma(out, begun)?;
             push_count(out, *arena)?;
             begun = true;
         }
@@ -281,10 +281,13 @@ fn push_counts(
 }
 
 /// A comma where something stands before it.
-fn comma_if(begun: bool) -> &'static str
-    ensures { result.now ≡ comma_if begun }
+// By a text that is known, so that no call copies it.
+#[inline(always)]
+fn push_comma(out: &mut Vec<u8>, begun: bool) -> Result<(), AllocError>
+    ensures ok { OnOk result (out.new.items ≡ out.old.items ++ comma_if begun) }
+    ensures grows { Extends out.old.items out.new.items }
 {
-    if begun { "," } else { "" }
+    if begun { push_text(out, ",") } else { Ok(()) }
 }
 
 fn push_count(out: &mut Vec<u8>, arena: Imbalance) -> Result<(), AllocError>
@@ -413,7 +416,8 @@ fn digit(number: u32) -> u8
 }
 
 /// A few bytes, as they stand.
-// One by one into room for all: a call that copies so few takes 50 instructions, and most replies have one such number.
+// One by one into room for all: a call that copies so few takes 50 instructions, and most replies have one such number. Mostly there is room,
+// and the call that finds it is spared, too.
 #[inline(always)]
 fn push_few(out: &mut Vec<u8>, bytes: &[u8]) -> Result<(), AllocError>
     requires { IsUtf8 bytes.now }
@@ -421,7 +425,9 @@ fn push_few(out: &mut Vec<u8>, bytes: &[u8]) -> Result<(), AllocError>
     ensures err { OnErr result (out.new.items ≡ out.old.items) }
     ensures grows { Extends out.old.items out.new.items }
 {
-    out.reserve(bytes.len())?;
+    if out.capacity() - out.len() < bytes.len() {
+        out.reserve(bytes.len())?;
+    }
     for byte in bytes {
         out.push_reserved(*byte);
     }
