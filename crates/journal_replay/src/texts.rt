@@ -103,33 +103,24 @@ fn cut_escape(text: &[u8]) -> Option<(u8, &[u8])>
     Some(((high * 16 + low) as u8, rest))
 }
 
-/// Puts a text behind what the room holds. None of one that is not plain, and where the room gets no memory.
-fn push_plain(room: &mut Vec<u8>, text: &[u8]) -> Option<()>
-    ensures plain { IfSome result (λ _. are_plain text.now ≡ true) }
-    ensures pushed { IfSome result (λ _. room.new.items ≡ room.old.items ++ text.now) }
-{
-    if plain_front(text) < text.len() {
-        return None;
-    }
-    room.extend_from_slice(text).ok()
-}
-
 /// The text that stands inside of a string, its escapes undone in the room. None of one with other escapes than those of bytes of
 /// ASCII as `\u0020`, of one that is no text, and where the room gets no memory.
-// Apart, since nearly no text has an escape.
+// Apart, since nearly no text has an escape. Where an escape stands is found by the pass that finds what stands before it to be plain.
 #[inline(never)]
 fn undo<'a>(inside: &[u8], room: &'a mut Vec<u8>) -> Option<&'a [u8]>
     ensures { IfSome result (λ text. (tail : List ℕ) → IsInside (inside.now ++ tail) tail text.now) }
 {
     room.clear();
     let mut rest = inside;
-    while let Some(at) = memchr(b'\\', rest) {
-        push_plain(room, &rest[..at])?;
+    let mut at = plain_front(rest);
+    while at < rest.len() {
+        room.extend_from_slice(&rest[..at]).ok()?;
         let (byte, more) = cut_escape(&rest[at..])?;
         room.push(byte).ok()?;
         rest = more;
+        at = plain_front(rest);
     }
-    push_plain(room, rest)?;
+    room.extend_from_slice(rest).ok()?;
     Some(room.as_slice())
 }
 
