@@ -8,6 +8,8 @@ use plan_jobs::Done;
 use std::alloc::{AllocError, Global};
 
 /// Puts a text and a number behind what stands in `out`.
+// Always in its callers, where the text's length is known, so that no call copies it.
+#[inline(always)]
 fn push_part(out: &mut Vec<u8>, text: &[u8], number: u64) -> Result<(), AllocError>
     ensures { OnOk result (out.new.items ≡ out.old.items ++ (text.now ++ decimal number)) }
 {
@@ -46,7 +48,7 @@ fn numbered_line(alloc: Global, text: &[u8], number: u64) -> Result<Vec<u8>, All
     Ok(line)
 }
 
-/// The line of a fault. For want of memory it is empty.
+/// The line of a fault. Where memory ran out it is empty.
 pub(crate) fn fault_text(alloc: Global, fault: DriveFault) -> Result<Vec<u8>, AllocError>
     ensures { IfOk result (λ text. text.items ≡ fault_line fault) }
 {
