@@ -14,8 +14,8 @@
  *   4. Two threads that share a seat order their calls: the flag behind MARKET_SEAT_IN_USE finds an overlap, and orders nothing.
  *   5. malloc and free do what the C standard says, also when several threads call them.
  *
- * ANSWERS. Each call answers a code: 0 is done, a positive one is an answer of the market, a negative one a misuse, or want of
- * memory. What a call writes is written at MARKET_OK, and else only where it says so. Every code but MARKET_OK, MARKET_IDLE and
+ * ANSWERS. Each call answers a code: 0 is done, a positive one is an answer of the market, a negative one a misuse, or that
+ * memory ran out. What a call writes is written at MARKET_OK, and else only where it says so. Every code but MARKET_OK, MARKET_IDLE and
  * MARKET_RECALLED leaves all arenas and seats as they were. Refusals are calls too: they are entries of the history.
  */
 #ifndef MARKET_H

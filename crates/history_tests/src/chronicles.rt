@@ -7,7 +7,7 @@ use std::alloc::Global;
 use std::process::Abort;
 use std::rt::HostRuntime;
 
-/// What a caller is told for want of places.
+/// What a caller is told where places are lacking.
 const FULL: &str = "C2 history full";
 
 /// A chronicle with a base of 8, a hard limit of 64, four seats, three levels, and so many places.

@@ -20,7 +20,7 @@ fn standing(desk: &Desk) -> (u64, u32) {
     (chronicle.len(), chronicle.free())
 }
 
-/// The call is refused for want of places, and not recorded.
+/// The call is refused because places are lacking, and not recorded.
 fn lacks_places(rt: &impl Abort, desk: &mut Desk, alloc: Global, cmd: &Cmd) {
     let before = standing(desk);
     let refused = answer(desk, alloc, cmd);

@@ -203,12 +203,12 @@ pub not_torn : (b : Bool) → (b ≡ true → ⊥) → b ≡ false
 not_torn true h = absurd (h refl)
 not_torn false h = refl
 
--- one who ended for a fault of a call is none who ended for want of work
+-- one who ended for a fault of a call is none who ended because no work was left
 no_fault : (fault : CallFault) → end_fault (Call fault ∷ []) ≡ None → ⊥
 no_fault call.Memory e = none-some Memory (sym e)
 no_fault call.HistoryFull e = none-some Unfinished (sym e)
 
--- where all ended for want of work the market was opened
+-- where all ended because no work was left the market was opened
 pub idle_opened : (CanEnd : Ended → Type 0) (Turns : ℕ → List Entry → Type 0) (terms : Terms) (cmds : List Cmd) (history : List Entry) (workers : ℕ) (es : List Ended) → end_fault es ≡ None → AreEnds CanEnd Turns terms cmds history workers es → IsOpenedBy cmds history
 idle_opened CanEnd Turns terms cmds history workers es idle (inl h) = h.2
 idle_opened CanEnd Turns terms cmds history workers es idle (inr h) = absurd (no_fault h.0 (ap end_fault (sym h.1) ∙ idle))

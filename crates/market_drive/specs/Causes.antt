@@ -41,8 +41,8 @@ abbrev pub CanEndIn : Planned → (ℕ → ℕ → Type 0) → Ended → Type 0
 CanEndIn p refused ended =
     IfShut ended (λ job. HasRefused refused job.number 1000000) × IfNoStation ended (λ arena. (k : ℕ) → k < length p.arenas → arena ≢ k + 1)
 
--- these are the calls, from the first on, of a worker of the plan that ended for want of work: turns at the stations of the plan's arenas, in
--- which it gives back no request but what its arena was to ask for, and then a Join that placed it nowhere
+-- these are the calls, from the first on, of a worker of the plan that ended because no work was left: turns at the stations of the plan's
+-- arenas, in which it gives back no request but what its arena was to ask for, and then a Join that placed it nowhere
 abbrev pub AreTurnsIn : Planned → ℕ → List Entry → Type 0
 AreTurnsIn p seat calls = (ss : List Station) × AreNumbered ss × HaveRequestsOf p.arenas ss × AreTurnsOf ss seat calls
 
@@ -55,7 +55,7 @@ abbrev pub terms_of_plan : Planned → ℕ → Terms
 terms_of_plan p workers = record { opening = record { base = p.base; hard = p.hard; seats = 1 + workers; levels = p.levels; last = usual_last }; places = 1048576; keeping = Everything }
 
 -- the caller of this seat came with its new pass, and ended so; its calls are all that the office's history has of the seat, and `Turns` tells
--- of them where it ended for want of work
+-- of them where it ended because no work was left
 abbrev pub HasEndedAt : (ℕ → List Entry → Type 0) → Terms → List Entry → ℕ → Ended → Type 0
 HasEndedAt Turns terms history seat ended =
     (p : OfPass) × (q : OfPass) × IsUnused terms seat p × IsSamePass p q × Met history q × HasEndedSo p q ended × IfIdle ended (Turns seat (of_seat seat history))

@@ -49,7 +49,7 @@ IsDue text (Doubled number) = ⊥
 IsDue text (Missing number) = (p : Planned) × IsServable text p × (0 < number) × (number ≤ length p.jobs)
 IsDue text Memory = ⊤
 
--- a fault to which a drive of the plan comes once its office was opened, or want of memory: no answer is ever doubled
+-- a fault to which a drive of the plan comes once its office was opened, or `Memory`: no answer is ever doubled
 abbrev pub IsEnding : Planned → DriveFault → Type 0
 IsEnding p (BadPlan line) = ⊥
 IsEnding p (Unservable a) = ⊥
@@ -67,8 +67,8 @@ pub record HasEnded (refused : ℕ → ℕ → Type 0) (p : Planned) (workers : 
   pub ends : AreEnds (CanEndIn p refused) (AreTurnsIn p) (terms_of_plan p workers) (commands_of p) closed.chronicle.log workers ended
   pub due_is : end_fault ended ≡ due
 
--- what is told beside a fault: where it is unfinished, that a worker or the opening was broken off, and none for want of memory; where an
--- answer is missing, that all workers ended for want of work
+-- what is said beside a fault: where it is unfinished, that a worker or the opening was broken off, and that none ended because memory
+-- ran out; where an answer is missing, that all workers ended because no work was left
 abbrev pub HasCause : (ℕ → ℕ → Type 0) → Planned → ℕ → DriveFault → Type 0
 HasCause refused p workers Unfinished = HasEnded refused p workers (Some Unfinished)
 HasCause refused p workers (Missing number) = HasEnded refused p workers None
@@ -80,13 +80,13 @@ HasCauseIn refused text workers Unfinished = (p : Planned) × (plan_of text ≡ 
 HasCauseIn refused text workers (Missing number) = (p : Planned) × (plan_of text ≡ Ok p) × HasCause refused p workers (Missing number)
 HasCauseIn refused text workers fault = ⊤
 
--- a fault of a text, or want of memory
+-- a fault of a text, or `Memory`
 abbrev pub IsOfText : DriveFault → Type 0
 IsOfText (BadPlan line) = ⊤
 IsOfText Memory = ⊤
 IsOfText fault = ⊥
 
--- a fault that comes only after the office was opened, or want of memory
+-- a fault that comes only after the office was opened, or `Memory`
 abbrev pub IsLate : DriveFault → Type 0
 IsLate (BadPlan line) = ⊥
 IsLate (Unservable a) = ⊥

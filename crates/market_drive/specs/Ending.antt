@@ -10,18 +10,18 @@ use Rattle.worker_main.specs.declared.report.Ended.TheVariants as ended
 use Rattle.market_drive.specs.declared.fault.DriveFault.{DriveFault}
 use Rattle.market_drive.specs.declared.fault.DriveFault.TheVariants.{Unfinished, Doubled, Missing, Memory}
 
--- for want of memory: its own, or that of a call
+-- since memory ran out: for itself, or for a call
 abbrev pub is_for_memory : Ended → Bool
 is_for_memory ended.Memory = true
 is_for_memory (ended.Call fault.Memory) = true
 is_for_memory e = false
 
--- for another cause than want of work
+-- for another reason than that no work was left
 abbrev pub is_broken_off : Ended → Bool
 is_broken_off ended.Idle = false
 is_broken_off e = true
 
--- want of memory comes first, then any end but for want of work
+-- that memory ran out comes first, then any end while work was left
 abbrev pub end_fault : List Ended → Option DriveFault
 end_fault es =
     if list_any is_for_memory es then Some Memory

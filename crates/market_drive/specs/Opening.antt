@@ -26,7 +26,7 @@ HasGiven cmds p q =
     × (still (map (λ (e : Entry). e.call.cmd) added) ≡ still cmds)
     × (AreStill cmds → map (λ (e : Entry). e.call.cmd) added ≡ cmds)
 
--- where a worker ended for want of work, the calls that it made between the two are such turns
+-- where a worker ended because no work was left, the calls that it made between the two are such turns
 abbrev pub HasTakenTurns : (ℕ → List Entry → Type 0) → OfPass → OfPass → Ended → Type 0
 HasTakenTurns Turns p q ended = IfIdle ended ((added : List Entry) × (q.mine ≡ p.mine ++ added) × Turns p.seat added)
 

@@ -33,8 +33,8 @@ pub(crate) fn founding(alloc: Global, plan: &Plan) -> Result<Vec<Cmd>, AllocErro
 }
 
 /// The commands that make a plan's market, in order: its controls, its arenas, so that the first is arena 1 of a new market
-/// too, and what each arena asks for. It takes the memory of a command for each control, and of two for each arena; want of
-/// memory is the only `Err`.
+/// too, and what each arena asks for. It takes the memory of a command for each control, and of two for each arena; `Err` says
+/// that memory ran out.
 pub fn plan_commands(alloc: Global, plan: &Plan) -> Result<Vec<Cmd>, AllocError>
     ensures exact { IfOk result (λ commands. commands.items ≡ commands_of plan.now) }
 {

@@ -84,7 +84,7 @@ fn drive_plan_of<G: Gate + Sync, R: Threads + Wait + Sync>(
 /// The others come only after the office was opened, with all workers back and the office closed: `Memory`, `Unfinished`,
 /// `Missing`, in this order. `Memory` may come at any time, and `Doubled` never does. `Unfinished` comes where a worker ended at a
 /// gate that refused its job 1,000,000 times, at an arena without a station, or where the history was full, as it may be for who
-/// opens the market, too; `Missing` only where all workers ended for want of work.
+/// opens the market, too; `Missing` only where all workers ended because no work was left.
 pub fn drive_to_close<G: Gate + Sync, R: Threads + Wait + Sync>(
     rt: &R,
     alloc: Global,

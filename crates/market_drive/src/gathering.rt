@@ -11,14 +11,14 @@ use edit_history::CallFault;
 use plan_jobs::{Done, GatherFault};
 use worker_main::Ended;
 
-/// The worker ended for want of memory.
+/// The worker ended because memory ran out.
 fn is_for_memory(ended: &Ended) -> bool
     ensures { result ≡ is_for_memory ended.now }
 {
     matches!(ended, Ended::Memory | Ended::Call(CallFault::Memory))
 }
 
-/// The worker did not end for want of work.
+/// The worker ended for another reason than that no work was left.
 fn is_broken_off(ended: &Ended) -> bool
     ensures { result ≡ is_broken_off ended.now }
 {
@@ -37,8 +37,8 @@ fn has_broken_off(ended: &[Ended]) -> bool
     ended.iter().any(is_broken_off)
 }
 
-/// Why workers that ended so have not done all: `Memory` where one wanted memory, else `Unfinished` where one didn't end for
-/// want of work.
+/// Why workers that ended so have not done all: `Memory` where memory ran out for one, else `Unfinished` where one ended though work
+/// was left.
 fn end_fault(ended: &[Ended]) -> Option<DriveFault>
     ensures exact { result ≡ end_fault ended.now }
     ensures late { IfSome result IsLate }
@@ -54,7 +54,7 @@ fn end_fault(ended: &[Ended]) -> Option<DriveFault>
 
 /// The answers to a plan's jobs, in order of number, by workers that ended so. It takes no memory, and the time of sorting them.
 ///
-/// `Memory` comes first, where a worker ended for want of it; then `Unfinished`, where one ended on a gate, a missing station or
+/// `Memory` comes first, where it ran out for a worker; then `Unfinished`, where one ended on a gate, a missing station or
 /// a full history; then `Doubled` and `Missing`, as of `plan_jobs`.
 pub fn gather_done(plan: &Plan, done: Vec<Done>, ended: &[Ended]) -> Result<Vec<Done>, DriveFault>
     ensures outcome { IfOk result (λ gathered. IsOutcome plan.now.jobs gathered.items) }

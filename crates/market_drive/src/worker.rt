@@ -26,8 +26,8 @@ use worker_main::{Ended, Gate, Report, Station, work};
 /// How often a worker asks a gate at most, before it gives up.
 const TURNS: u64 = 1_000_000;
 
-/// Names the queues of one plan, how its workers can end, which calls they made where they ended for want of work, and what is so of
-/// each of their answers.
+/// Names the queues of one plan, how its workers can end, which calls they made where they ended because no work was left, and
+/// what is so of each of their answers.
 pub(crate) trait Yard {
     ghost use Rattle.std.specs.Prelude.{ℕ, List};
     ghost use Rattle.market_types.specs.declared.reply.Entry.{Entry};

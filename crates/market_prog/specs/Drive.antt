@@ -42,7 +42,7 @@ pub record StopsDriving (left left' taken taken' : Option (List ℕ)) (source_fa
   pub wrote : fault ≡ Write → WritesPart plan taken taken'
 
 -- the exit status of `market drive`: 0 where all jobs are done, 1 where the plan is refused, 2 where a market was not opened, 3
--- after any other fault and for want of memory
+-- after any other fault and where memory ran out
 abbrev pub drive_status : Result DriveEnd RunFault → ℕ
 drive_status (Ok Finished) = 0
 drive_status (Ok (Refused (drive.BadPlan line))) = 1

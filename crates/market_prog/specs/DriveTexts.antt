@@ -24,7 +24,7 @@ answer_lines (d ∷ ds) = job_line d.number d.value ++ answer_lines ds
 abbrev pub numbered_line : List ℕ → ℕ → List ℕ
 numbered_line text number = text ++ (decimal number ++ codes "\n")
 
--- the line of a fault; for want of memory there is none
+-- the line of a fault; where memory ran out there is none
 abbrev pub fault_line : DriveFault → List ℕ
 fault_line (BadPlan line) = numbered_line (codes "G01 bad plan line ") line
 fault_line (Unservable arena) = numbered_line (codes "G02 unservable arena ") arena

@@ -79,7 +79,7 @@ pub fn run_drive_through<G: Gate + Sync, T: Threads + Wait + Sync, R: Source, W:
 /// own, and writes a line for each of its jobs, in order of number; or where it has no outcome the line of its fault. All drives of
 /// a plan that are finished write the same, by any number of workers. Nothing is written before the plan was driven.
 ///
-/// A plan that is refused for want of memory, `Refused(Memory)`, leaves nothing written. Whichever other fault comes first stops
+/// A plan that is refused because memory ran out, `Refused(Memory)`, leaves nothing written. Whichever other fault comes first stops
 /// it: a read that fails is `Read`, a plan that is too long `TooLong`, running out of memory for the input or for the text
 /// `Memory`, a write that fails or takes none `Write`; it answers no other.
 pub fn run_drive<T: Threads + Wait + Sync, R: Source, W: Sink>(
@@ -108,7 +108,7 @@ pub fn run_drive<T: Threads + Wait + Sync, R: Source, W: Sink>(
     run_drive_through(rt, alloc, workers, &OpenGate, source, sink)
 }
 
-/// The exit status of `market drive`: 0 where all jobs are done, 1 where the plan is refused, and 3 for want of memory and after
+/// The exit status of `market drive`: 0 where all jobs are done, 1 where the plan is refused, and 3 where memory ran out and after
 /// any other fault. A market that is not opened would be 2, as in every engine; `run_drive` never answers so. It takes no memory.
 pub fn status_of_drive(driven: &Result<DriveEnd, RunFault>) -> u8
     ensures exact { result ≡ drive_status driven.now }
