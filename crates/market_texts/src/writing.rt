@@ -416,8 +416,7 @@ fn digit(number: u32) -> u8
 }
 
 /// A few bytes, as they stand.
-// One by one into room for all: a call that copies so few takes 50 instructions, and most replies have one such number. Mostly there is room,
-// and the call that finds it is spared, too.
+// One by one into room for all: a call that copies so few takes 50 instructions, and most replies have one such number.
 #[inline(always)]
 fn push_few(out: &mut Vec<u8>, bytes: &[u8]) -> Result<(), AllocError>
     requires { IsUtf8 bytes.now }
@@ -425,9 +424,7 @@ fn push_few(out: &mut Vec<u8>, bytes: &[u8]) -> Result<(), AllocError>
     ensures err { OnErr result (out.new.items ≡ out.old.items) }
     ensures grows { Extends out.old.items out.new.items }
 {
-    if out.capacity() - out.len() < bytes.len() {
-        out.reserve(bytes.len())?;
-    }
+    out.reserve(bytes.len())?;
     for byte in bytes {
         out.push_reserved(*byte);
     }
