@@ -48,7 +48,7 @@ impl ControlSet {
     /// Makes a control of this value, 1 to 65,536, and gives its number: from 1 to the last, never used before.
     ///
     /// Refuses by F09 another value, by F10 where 256 controls live, by F04 where the last number has been given, and
-    /// then may want memory. It is as before wherever no control is made.
+    /// then may need memory. It is as before wherever no control is made.
     pub fn make(
         &mut self,
         value: u32,

@@ -8,8 +8,8 @@ use Rattle.edit_history.specs.declared.fault.CallFault.TheVariants.{HistoryFull}
 use Rattle.edit_history.specs.Chronicled.{Chronicled, entry, market_of}
 use Rattle.edit_history.specs.Places.{takes, LacksPlaces}
 
--- the reply is the market's, and is recorded with its call behind the history that was; a call that is refused for want of places, and for no other reason told so, or for
--- want of memory changes nothing; a Leave by a placed seat is never refused. Own.
+-- the reply is the market's, and is recorded with its call behind the history that was; a call that is refused since places are lacking, and for no other reason by
+-- that refusal, or since memory ran out changes nothing; a Leave by a placed seat is never refused. Own.
 pub record IsAnswered (old : Chronicled) (seat : ℕ) (cmd : Cmd) (result : Result Reply CallFault) (new : Chronicled) : Type 0 where
   pub reply : IfOk result (λ reply. reply ≡ (step (market_of old) seat cmd).0)
   pub held : IfOk result (λ reply. new.market ≡ (step old.market seat cmd).1)

@@ -14,7 +14,7 @@ use Rattle.explainer.specs.Columns.{market_line, level_line, arena_line}
 abbrev pub left_after : State → ℕ → ℕ
 left_after s level = bound_of s - sum_by (level_allotment s) (range_with_len 1 level)
 
--- what is told of a level
+-- what an explanation says of a level
 abbrev pub level_view : State → ℕ → LevelView
 level_view s level =
     record { level = level; demand = demand s level; assigned = level_allotment s level; left = left_after s level }

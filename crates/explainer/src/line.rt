@@ -8,7 +8,7 @@ use market_texts::{level_text, push_reply};
 use market_types::{ArenaView, Level, LimitView, Reply};
 use std::alloc::AllocError;
 
-/// What is told of a level.
+/// What an explanation says of a level.
 #[derive(Clone, Copy)]
 pub(crate) struct LevelView {
     pub(crate) level: Level,

@@ -49,14 +49,14 @@ figure_of (Some level) (Some request) (Some allot) (Some active) (Some recall) (
 abbrev pub figure_at : Row → ℕ → Option Figure
 figure_at r place = figure_of (at r.level place) (at r.request place) (at r.allot place) (at r.active place) (at r.recall place) (at r.hire place)
 
--- what a pointer over columns is told, between what begins and what ends that
+-- what a pointer over columns shows, between what begins and what ends that
 abbrev pub title_text : Entries → ℕ → Figure → List ℕ
 title_text e arena f =
     (entries_text e ++ (codes ": arena " ++ (decimal arena ++ (codes ", level " ++ range_text f.level))))
     ++ (codes ", request " ++ (range_text f.request ++ (codes ", allotment " ++ (range_text f.allot
     ++ (codes ", active " ++ range_text f.active)))))
 
--- the end of what a pointer is told, and the ground of columns, which is another where the arena moved between levels
+-- the end of what a pointer shows, and the ground of columns, which is another where the arena moved between levels
 abbrev pub ground_text : Span → List ℕ
 ground_text level =
     if level.least == level.most then codes "</title><path class=\"h\" d=\"M4 0v36" else codes "</title><path class=\"v\" d=\"M4 0v36"
@@ -221,7 +221,7 @@ levels_text sheet rows (suc n) = levels_text sheet rows n ++ rows_text sheet (n 
 
 -- ---- the limits, above the rows
 
--- what a pointer over a column of the limits is told, and the ground
+-- what a pointer over a column of the limits shows, and the ground
 abbrev pub limits_title : Entries → Span → Span → List ℕ
 limits_title e limit effective =
     (entries_text e ++ (codes ": limit " ++ range_text limit)) ++ (codes ", effective limit " ++ (range_text effective ++ codes "</title><path class=\"h\" d=\"M4 0v36"))

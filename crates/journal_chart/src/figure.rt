@@ -235,7 +235,7 @@ fn write_span(page: &mut Page, head: &str, scale: u64, span: Span)
     write_bar(page, head, bar_of(scale, span));
 }
 
-/// Writes what a pointer over columns is told, between what begins and what ends that.
+/// Writes what a pointer over columns shows, between what begins and what ends that.
 fn write_title(page: &mut Page, entries: Entries, arena: u32, figure: Figure)
     requires room { 295 ≤ page.old.room }
     ensures text { page.new.text ≡ page.old.text ++ title_text entries arena figure }
@@ -251,7 +251,7 @@ fn write_title(page: &mut Page, entries: Entries, arena: u32, figure: Figure)
     write_range(page, ", active ", figure.active);
 }
 
-/// Writes the end of what a pointer is told, and the ground.
+/// Writes the end of what a pointer shows, and the ground.
 fn write_ground(page: &mut Page, level: Span)
     requires room { 34 ≤ page.old.room }
     ensures text { page.new.text ≡ page.old.text ++ ground_text level }
@@ -430,7 +430,7 @@ pub(crate) fn write_limits_cell(
     write_placed_limits(page, scale, entries, run, limit, effective);
 }
 
-/// Writes what a pointer over columns of the limits is told, and the ground.
+/// Writes what a pointer over columns of the limits shows, and the ground.
 fn write_limits_title(page: &mut Page, entries: Entries, limit: Span, effective: Span)
     requires room { 201 ≤ page.old.room }
     ensures text { page.new.text ≡ page.old.text ++ limits_title entries limit effective }

@@ -93,7 +93,7 @@ abbrev pub longest_journal : Extent → ℕ
 longest_journal Limited = longest_input
 longest_journal Endless = 9223372036854775808
 
--- the same by what its lines so far told; without a header it is limited
+-- the same by what its lines so far said; without a header it is limited
 abbrev pub most_bytes : Progress → ℕ
 most_bytes Unopened = longest_input
 most_bytes (Replaying market entries extent) = longest_journal extent

@@ -143,7 +143,7 @@ module _ {S : Type 0} (rule : LineRule S) (longest : ℕ) where
                 (λ f h. stops-end rule longest stops s now taken b r.input u f r.takes h) limit fault r.input false sink_failed (why limit r.input short);
           }
 
-      -- want of memory before anything was read
+      -- memory ran out before anything was read
       pub stopped-before : (s : S) (left taken : Option (List ℕ)) (source_failed sink_failed : Bool) → source_failed ≡ false → sink_failed ≡ false
           → Stops rule longest most_bytes stops s left left taken taken source_failed sink_failed Memory
       stopped-before s left taken source_failed sink_failed e f = record {

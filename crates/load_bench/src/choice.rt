@@ -4,7 +4,7 @@ use anyhow::Result;
 use std::env;
 use std::rt::Env;
 
-/// What a bad command line is told.
+/// What a bad command line is answered.
 pub const USAGE: &str = "\
 Usage: load_bench LOAD SEED COUNT ROUNDS
 

@@ -115,7 +115,7 @@ fn chart(rt: &HostRuntime, options: &ChartOptions) -> u8
     }
 }
 
-/// Whether the progress of a drive is told: where standard error is a terminal, and where it is asked for.
+/// Whether the progress of a drive is reported: where standard error is a terminal, and where it is asked for.
 fn tells_progress(rt: &HostRuntime, options: DriveOptions) -> bool {
     options.progress || rt.stderr().is_terminal()
 }
@@ -132,7 +132,7 @@ fn drive_plan<T: Threads + Wait + Sync>(
     let mut input = ReadSource::new(rt.stdin());
     let mut output = WriteSink::new(rt.stdout());
     if tells_progress(rt, options) {
-        // Without a clock nothing is told.
+        // Without a clock nothing is reported.
         if let Ok(gate) = ProgressGate::new(rt) {
             return run_drive_through(threads, rt.alloc(), workers, &gate, &mut input, &mut output);
         }

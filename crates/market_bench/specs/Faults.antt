@@ -16,7 +16,7 @@ abbrev pub told_as : TurnFault → BenchFault
 told_as turn.Memory = bench.Memory
 told_as turn.Refused = bench.Refused
 
--- a command can stop a turn so: one that takes memory by the want of it, and one whose reply is a refusal by that
+-- a command can stop a turn so: one that takes memory since that ran out, and one whose reply is a refusal by that
 abbrev pub Stops : TurnFault → Cmd → Reply → Type 0
 Stops turn.Memory cmd reply = takes_memory cmd ≡ true
 Stops turn.Refused cmd reply = number_in reply ≡ None

@@ -19,7 +19,7 @@ use market_lock::Closed;
 use market_seat::Unclosed;
 use std::alloc::Global;
 
-/// What is told of a market that has ended.
+/// What is reported of a market that has ended.
 #[derive(Drop)]
 struct Ended {
     calls: u64,

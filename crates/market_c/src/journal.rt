@@ -18,7 +18,7 @@ use market_seat::{Cutting, Seat};
 use std::alloc::{AllocError, Global};
 use std_alloc::room::Vacant;
 
-/// What C is told of a part of a history.
+/// What is reported to C of a part of a history.
 #[repr(C)]
 #[derive(Drop)]
 pub struct MarketPart {
@@ -29,7 +29,7 @@ pub struct MarketPart {
 }
 
 impl MarketPart {
-    /// What is told of this part.
+    /// What is reported of this part.
     pub(crate) fn of(part: &Part) -> MarketPart
         ensures from { result.from ≡ part.now.from }
         ensures calls { result.calls ≡ length part.now.entries.items }

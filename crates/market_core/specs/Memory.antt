@@ -1,4 +1,4 @@
--- When a command may want memory.
+-- When a command may need memory.
 use Rattle.std.specs.Prelude.{Bool, true, false}
 use Rattle.market_types.specs.declared.command.Cmd.{Cmd}
 use Rattle.market_types.specs.declared.command.Cmd.TheVariants.{Open, Control, Lists}

@@ -1,4 +1,4 @@
--- What the workers of a plan have told. No clause of a public call has these words (own).
+-- What the workers of a plan have reported. No clause of a public call has these words (own).
 use Rattle.std.specs.Prelude.{Bool, false, List, [], ◌∷◌, ◌++◌, Option, Some, None}
 use Rattle.std.specs.List.{flat_map}
 use Rattle.std.specs.Option.{option_to_list}
@@ -16,7 +16,7 @@ pub record OfReports : Type 0 where
   pub ended : List Ended
   pub torn : Bool
 
--- nothing was told yet
+-- nothing was reported yet
 abbrev pub untold : OfReports
 untold = record { done = []; ended = []; torn = false }
 
@@ -28,7 +28,7 @@ told r ds ended = record { done = r.done ++ ds; ended = r.ended ++ ended ∷ [];
 abbrev pub shown : OfReports → List Job
 shown r = results r.done ++ all_kept_back r.ended
 
--- the ends that are told, of these who may have ended
+-- the ends that are reported, of these who may have ended
 abbrev pub ends_of : List (Option Ended) → List Ended
 ends_of es = flat_map option_to_list es
 

@@ -21,7 +21,7 @@ use worker_main::Ended;
 pub(crate) struct Reports {
     done: Vec<Done>,
     ended: Vec<Ended>,
-    /// There was no memory for what was told.
+    /// There was no memory for what was reported.
     is_torn: bool,
 }
 

@@ -168,7 +168,7 @@ fn work_together<Y: Yard + Send + Sync, G: Gate + Sync, R: Threads + Wait + Sync
 pub(crate) struct Shifts {
     /// The racks of all workers.
     pub(crate) racks: Racks,
-    /// What they and the opener told.
+    /// What they and the opener reported.
     pub(crate) reports: Reports,
     /// The office. `None` where there was no memory to open it.
     pub(crate) closed: Option<Closed>,

@@ -22,7 +22,7 @@ pub record Tells (left left' taken taken' : Option (List ℕ)) (found : Verdict)
   pub is : found ≡ verdict journal
   pub wrote : Appends taken taken' (verdict_line found)
 
--- why a verdict was not told, by the bytes that were read, and by whether the devices failed
+-- why no verdict was given, by the bytes that were read, and by whether the devices failed
 abbrev pub TellingCauseOf : RunFault → List ℕ → Bool → Bool → Type 0
 TellingCauseOf Read journal source_failed sink_failed = (length journal ≤ limit_of journal) × (source_failed ≡ true) × (sink_failed ≡ false)
 TellingCauseOf Write journal source_failed sink_failed = (length journal ≤ limit_of journal) × (source_failed ≡ false) × (sink_failed ≡ true)

@@ -1,4 +1,4 @@
-//! How far the work is, told on standard error while it goes on.
+//! How far the work is, reported on standard error while it goes on.
 ghost use Rattle.std.specs.Prelude.{◌≡◌, ◌+◌, ◌-◌, ◌^◌, min, length};
 ghost use Rattle.memchr.specs.Find.{is_byte, places};
 
@@ -13,15 +13,15 @@ use worker_main::Gate;
 /// How long a span is, in milliseconds.
 const SPAN: u128 = 250;
 
-/// The last span in which nothing is told: none is told of within a second.
+/// The last span in which nothing is reported: none is within a second.
 const QUIET: u64 = 3;
 
-/// When something is told: from a second after the start on, once a span at most.
+/// When something is reported: from a second after the start on, once a span at most.
 #[derive(Drop)]
 struct Pace<'a, R> {
     rt: &'a R,
     start: Instant,
-    /// The last span that was told of, or had nothing to tell.
+    /// The last span that was reported, or had nothing to report.
     told: AtomicU64,
 }
 
@@ -34,7 +34,7 @@ impl<'a, R: Clock> Pace<'a, R> {
         })
     }
 
-    /// How many milliseconds have gone by, where this span is the caller's to tell of, and is told of now.
+    /// How many milliseconds have gone by, where this span is the caller's to report, and is reported now.
     fn turn(&self) -> Option<u128> {
         let gone = self.start.elapsed(self.rt).ok()?.as_millis();
         let span = u64::try_from(gone / SPAN).ok()?;

@@ -53,7 +53,7 @@ abbrev pub is_unfit_to_cut : Cutting → Bool
 is_unfit_to_cut (cutting.Unfit back) = true
 is_unfit_to_cut _ = false
 
--- what an attempt has told
+-- what an attempt came to
 abbrev pub answer_to : {T B : Type 0} → Attempt (Result T CallFault) B → Answer T
 answer_to (attempt.Made (Ok reply)) = Made reply
 answer_to (attempt.Made (Err fault)) = Failed fault

@@ -27,7 +27,7 @@ pub enum Hand {
     Working(Placed),
 }
 
-/// What an attempt at a call has told.
+/// What an attempt at a call came to.
 #[inline(always)]
 fn told(attempt: Attempt<Result<Reply, CallFault>, ()>) -> Answer<Reply>
     ensures { result ≡ answer_to attempt }

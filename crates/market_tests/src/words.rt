@@ -35,7 +35,7 @@ fn options_are_read_or_default(rt: HostRuntime) {
     choose(&rt, rt.alloc(), &["market", "replay"], due);
 }
 
-/// That task, of a script that speaks to the usual market and of which progress is told.
+/// That task, of a script that speaks to the usual market and of which progress is reported.
 fn told(task: ScriptTask) -> Choice {
     let market = USUAL_MARKET;
     let progress = true;

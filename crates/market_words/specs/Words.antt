@@ -39,7 +39,7 @@ script_app name = with_rule (with_rule (with_rule (with_rule (with_rule (new_app
 abbrev pub flag_rule : Text → Rule
 flag_rule name = record (new_rule name) { long = Some name; action = Some SetTrue }
 
--- the option that asks for progress to be told
+-- the option that asks for progress to be reported
 abbrev pub progress_rule : Rule
 progress_rule = flag_rule (codes "progress")
 

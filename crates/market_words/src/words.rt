@@ -45,14 +45,14 @@ pub enum ScriptTask {
 pub struct ScriptOptions {
     /// The market that it speaks to.
     pub market: Opening,
-    /// `--progress`: how much is read is told meanwhile, also where standard error is no terminal.
+    /// `--progress`: how much is read is reported meanwhile, also where standard error is no terminal.
     pub progress: bool,
 }
 
 /// How a journal is replayed.
 #[derive(Clone, Copy, Debug, PartialEq, Eq)]
 pub struct ReplayOptions {
-    /// `--progress`: how much is read is told meanwhile, also where standard error is no terminal.
+    /// `--progress`: how much is read is reported meanwhile, also where standard error is no terminal.
     pub progress: bool,
 }
 
@@ -61,7 +61,7 @@ pub struct ReplayOptions {
 pub struct DriveOptions {
     /// How many workers run its jobs, 1 to 16.
     pub workers: u32,
-    /// `--progress`: how many jobs are done is told while they run, also where standard error is no terminal.
+    /// `--progress`: how many jobs are done is reported while they run, also where standard error is no terminal.
     pub progress: bool,
 }
 
@@ -76,7 +76,7 @@ pub struct ChartOptions {
     pub to: u32,
     /// The arenas that are drawn, at most 16.
     pub arenas: Vec<ArenaId>,
-    /// `--progress`: how much is read is told meanwhile, also where standard error is no terminal.
+    /// `--progress`: how much is read is reported meanwhile, also where standard error is no terminal.
     pub progress: bool,
 }
 

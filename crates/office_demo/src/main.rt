@@ -71,7 +71,7 @@ fn tell_usage(rt: &HostRuntime, status: u8) -> Result<u8, DemoFault> {
     Ok(status)
 }
 
-/// The status, where a fault ends the program told first.
+/// The status, where a fault ends the program reported first.
 fn end(rt: &HostRuntime, status: Result<u8, DemoFault>) -> ExitCode {
     let status = match status {
         Ok(status) => status,

@@ -33,7 +33,7 @@ fn tell_usage(rt: &HostRuntime, status: u8) -> Result<u8, BenchFault> {
     Ok(status)
 }
 
-/// The status, where a fault ends the program told first.
+/// The status, where a fault ends the program reported first.
 fn end(rt: &HostRuntime, status: Result<u8, BenchFault>) -> ExitCode {
     let status = match status {
         Ok(status) => status,

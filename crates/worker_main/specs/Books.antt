@@ -31,7 +31,7 @@ abbrev pub kept_back : Ended → List Job
 kept_back (GateShut job) = job ∷ []
 kept_back ended = []
 
--- what is told where it ended for want of work, and where it was placed at an arena without a station
+-- what holds where it ended since no work was left, and where it was placed at an arena without a station
 abbrev pub IfIdle : Ended → Type 0 → Type 0
 IfIdle Idle P = P
 IfIdle ended P = ⊤
@@ -40,7 +40,7 @@ abbrev pub IfNoStation : Ended → (ℕ → Type 0) → Type 0
 IfNoStation (NoStation arena) P = P arena
 IfNoStation ended P = ⊤
 
--- what is told where the gate stayed shut, and where the history was full
+-- what holds where the gate stayed shut, and where the history was full
 abbrev pub IfShut : Ended → (Job → Type 0) → Type 0
 IfShut (GateShut job) P = P job
 IfShut ended P = ⊤

@@ -34,7 +34,7 @@ HasLooked p ran Empty q after = (q ≡ missed_one p) × (after ≡ ran)
 HasLooked p ran (Shut job) q after = HasTaken p job q × (after ≡ ran)
 HasLooked p ran NoRoom q after = (q ≡ p) × (after ≡ ran)
 
--- what is told where the job was not let through
+-- what holds where the job was not let through
 abbrev pub IfShutOut : Looked → (Job → Type 0) → Type 0
 IfShutOut (Shut job) P = P job
 IfShutOut looked P = ⊤

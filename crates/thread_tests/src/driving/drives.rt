@@ -188,7 +188,7 @@ fn meet<R: Threads + Wait + Sync + Abort>(rt: &R, alloc: Global, text: &[u8]) {
     drop(done);
 }
 
-/// This refuses a worker that holds the lock through its job, one thread that runs all jobs, and an end that is always told as want of
+/// This refuses a worker that holds the lock through its job, one thread that runs all jobs, and an end that is always reported as out of
 /// memory or as unfinished.
 #[test]
 fn two_jobs_meet(rt: HostRuntime) {
