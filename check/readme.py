@@ -4,7 +4,7 @@
     check/readme.py crates/market/out/market
 
 A sample is a line of four spaces and `$ `, with what follows it up to a `<<'EOT'` block's end, and then the lines that the
-command prints. `./market` in it is the program given. A command that runs `rt`, or builds with the library for C, is passed over. The first difference ends it."""
+command prints. `./market` in it is the program given. A command that builds, by `./run`, `rt` or with the library for C, is passed over. The first difference ends it."""
 import difflib
 import os
 import subprocess
@@ -80,7 +80,7 @@ def main():
     for page in PAGES:
         for first, block in blocks_of(page):
             for command, due in samples_of(block):
-                if any(word in command for word in ("rt run", "rt ci", "./market-lib", "$(pkg-config")):
+                if any(word in command for word in ("./run ", "rt ci", "./market-lib", "$(pkg-config")):
                     passed_over += 1
                     continue
                 told = told_by(command, program)
